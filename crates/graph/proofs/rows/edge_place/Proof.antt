@@ -1,0 +1,54 @@
+use borrow.Author.Needs.{needs}
+use native.Mathlib.Omega.{arith}
+use Rattle.graph.specs.Form.{Laid}
+use Rattle.graph.specs.RowLaws.{edge-found}
+use Rattle.graph.proofs.rows.edge_place.Statement.{statement}
+use Rattle.graph.proofs.rows.edge_place.Tie as tie
+use Rattle.graph.proofs.rows.edge_place.Reads as reads
+use Rattle.graph.proofs.rows.edge_place.Lts as lts
+use Rattle.graph.proofs.words.word.Reads as word-reads
+
+word-requires : tie.Need-word-requires
+unfolding Laid
+word-requires c κs = search needs
+
+word-requires-2 : tie.Need-word-requires-2
+unfolding Laid
+word-requires-2 c κs = search needs
+
+mul-result : tie.Need-mul-result
+unfolding Laid
+mul-result c = search needs
+
+add-result : tie.Need-add-result
+unfolding Laid
+add-result c = search needs
+
+mul-result-2 : tie.Need-mul-result-2
+unfolding Laid
+mul-result-2 c = search needs
+
+add-result-2 : tie.Need-add-result-2
+unfolding Laid
+add-result-2 c = search needs
+
+add-result-3 : tie.Need-add-result-3
+unfolding Laid
+add-result-3 c = search needs
+
+returns : tie.Need-returns
+unfolding Laid
+returns c = let s = c .before .before in rw (c .before .word .ensures .0, c .word2 .ensures .0) (edge-found (s .args .b .now) (s .pre .0 .sized) (s .args .i) (omega arith))
+
+pub edge-place-spec : {M : Type 1} → statement M
+edge-place-spec =
+    tie.close
+    (tie.spec
+    word-requires
+    word-requires-2
+    mul-result
+    add-result
+    mul-result-2
+    add-result-2
+    add-result-3
+    returns)

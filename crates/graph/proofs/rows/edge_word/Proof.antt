@@ -1,0 +1,21 @@
+use mathlib.Core.Path.{_∙_}
+use Rattle.graph.specs.RowLaws.{rows-get}
+use borrow.Author.Needs.{needs}
+use Rattle.graph.proofs.rows.edge_word.Statement.{statement}
+use Rattle.graph.proofs.rows.edge_word.Tie as tie
+use Rattle.graph.proofs.rows.edge_word.Reads as reads
+use Rattle.graph.proofs.rows.edge_word.Lts as lts
+use Rattle.graph.proofs.rows.edge_place.Reads as edge-place-reads
+use Rattle.graph.proofs.words.word.Reads as word-reads
+
+edge-place-requires : tie.Need-edge-place-requires
+edge-place-requires c κs = search needs
+
+word-requires : tie.Need-word-requires
+word-requires c κs = search needs
+
+returns : tie.Need-returns
+returns c = let s = c .before .before in (c .word .ensures .0 ∙ rows-get (s .args .b .now) 10 (s .args .i) (c .before .edge-place .result) (c .before .edge-place .ensures .stands), search needs)
+
+pub edge-word-spec : {M : Type 1} → statement M
+edge-word-spec = tie.close (tie.spec edge-place-requires word-requires returns)

@@ -1,0 +1,19 @@
+use borrow.Author.Needs.{needs}
+use native.Mathlib.Omega.{arith}
+use Rattle.graph.specs.Form.{Laid}
+use Rattle.graph.proofs.rows.store_limit.Statement.{statement}
+use Rattle.graph.proofs.rows.store_limit.Tie as tie
+use Rattle.graph.proofs.rows.store_limit.Reads as reads
+use Rattle.graph.proofs.rows.store_limit.Lts as lts
+use Rattle.graph.proofs.words.word.Reads as word-reads
+
+word-requires : tie.Need-word-requires
+unfolding Laid
+word-requires c κs = search needs
+
+returns : tie.Need-returns
+unfolding Laid
+returns c = (omega arith, omega arith)
+
+pub store-limit-spec : {M : Type 1} → statement M
+store-limit-spec = tie.close (tie.spec word-requires returns)

@@ -1,0 +1,120 @@
+-- What the functions over a block ask of it and promise of it. Who reads and writes through this crate sees the counts of the state;
+-- what they rest on in the words is shut behind `Laid`, `Listed` and `Wired`.
+use Prim.Native.Nat.{ℕ, zero, suc, _+_, _*_, _≤_}
+use mathlib.Core.Path.{_≡_}
+use mathlib.Core.Bool.{Bool, true}
+use mathlib.Core.List.{List, [], _∷_, map}
+use lib.IntN.{ℤ}
+use lib.Dec.{ltb, leb}
+use lib.ListN.{length, set, getD, take}
+use Rattle.graph.specs.Basic.{all, below}
+use Rattle.graph.specs.State.{State, Overgrown, vertexCount, edgeCount, sideCount, nodeCount, boundaryOf}
+use Rattle.graph.specs.Open.{weightLimit, sidesOf}
+use Rattle.graph.specs.Layout.{vOf, eOf, nOf, lOf, countOf, blockLength, rowsOf, row, stretches, risingTo, stateOf}
+
+-- ---- what the words have
+
+-- the sizes are within their limits and the block has their length
+pub record Sized (b : List ℤ) : Type 0 where
+  pub v-min : 1 ≤ vOf b
+  pub v-max : vOf b ≤ 1024
+  pub e-min : 1 ≤ eOf b
+  pub e-max : eOf b ≤ 4096
+  pub n-min : 1 ≤ nOf b
+  pub n-max : nOf b ≤ 1024
+  pub l-max : lOf b ≤ 65536
+  pub len : length b ≡ blockLength (vOf b) (eOf b) (nOf b) (lOf b)
+
+-- the counts of the state, by the sizes
+pub record Counted (b : List ℤ) : Type 0 where
+  pub vertices : vertexCount (stateOf b) ≡ vOf b
+  pub edges : edgeCount (stateOf b) ≡ eOf b
+  pub sides : sideCount (stateOf b) ≡ 2 * eOf b
+  pub nodes : nodeCount (stateOf b) ≡ countOf b
+  pub node-limit : stateOf b .nodeLimit ≡ nOf b
+  pub store-limit : stateOf b .storeLimit ≡ lOf b
+  pub count-max : countOf b ≤ nOf b
+
+-- sizes and counts
+pub record LaidOut (b : List ℤ) : Type 0 where
+  pub sized : Sized b
+  pub counted : Counted b
+
+-- the same, shut: what every read of a word asks
+unfoldable pub Laid : List ℤ → Type 0
+Laid b = LaidOut b
+
+-- where the lists of each node begin, and how long all of them are
+unfoldable pub startsFrom : ℕ → List ℕ → List ℕ → List ℕ
+startsFrom a [] os = []
+startsFrom a (b ∷ bs) [] = []
+startsFrom a (b ∷ bs) (o ∷ os) = a ∷ startsFrom (a + b + o) bs os
+
+unfoldable pub totalFrom : ℕ → List ℕ → List ℕ → ℕ
+totalFrom a [] os = a
+totalFrom a (b ∷ bs) [] = a
+totalFrom a (b ∷ bs) (o ∷ os) = totalFrom (a + b + o) bs os
+
+-- no more than N nodes; their lists stand in the store one after another
+pub record Packed (header start blen olen : List ℕ) : Type 0 where
+  pub count-max : getD header 4 0 ≤ getD header 2 0
+  pub starts : take (getD header 4 0) start ≡ startsFrom 0 (take (getD header 4 0) blen) (take (getD header 4 0) olen)
+  pub total : totalFrom 0 (take (getD header 4 0) blen) (take (getD header 4 0) olen) ≤ getD header 3 0
+
+abbrev pub PackedRows : List (List ℕ) → Type 0
+PackedRows r = Packed (row r 0) (row r 15) (row r 16) (row r 17)
+
+-- the graph, which no call but open changes: its numbers are in range, and the sides at each vertex are those whose end it is
+pub record GraphOk (header first end at weight : List ℕ) : Type 0 where
+  pub ends : all (λ x. ltb x (getD header 0 0)) end ≡ true
+  pub sides : stretches first at ≡ map (sidesOf end) (below (getD header 0 0))
+  pub firsts : risingTo first (2 * getD header 1 0) ≡ true
+  pub weights : all (λ x. leb x weightLimit) weight ≡ true
+
+abbrev pub GraphRows : List (List ℕ) → Type 0
+GraphRows r = GraphOk (row r 0) (row r 4) (row r 5) (row r 9) (row r 10)
+
+-- the same of a block, shut: what every read of a node's lists asks, and every read of the sides at a vertex
+unfoldable pub Listed : List ℤ → Type 0
+Listed b = PackedRows (rowsOf b)
+
+unfoldable pub Wired : List ℤ → Type 0
+Wired b = GraphRows (rowsOf b)
+
+-- ---- what contracts say
+
+-- a block in form, which no core call breaks: what every reader and writer of the state asks
+pub record Formed (b : List ℤ) : Type 0 where
+  pub vertices-max : vertexCount (stateOf b) ≤ 1024
+  pub sides-max : sideCount (stateOf b) ≤ 8192
+  pub pairs : sideCount (stateOf b) ≡ 2 * edgeCount (stateOf b)
+  pub nodes-max : nodeCount (stateOf b) ≤ 1024
+  pub laid : Laid b
+  pub listed : Listed b
+  pub wired : Wired b
+
+-- after b₀, the block b is in form, of the same counts, and holds the state c
+pub record Becomes (b₀ b : List ℤ) (c : State) : Type 0 where
+  pub formed : Formed b
+  pub state : stateOf b ≡ c
+  pub vertices : vertexCount (stateOf b) ≡ vertexCount (stateOf b₀)
+  pub edges : edgeCount (stateOf b) ≡ edgeCount (stateOf b₀)
+  pub sides : sideCount (stateOf b) ≡ sideCount (stateOf b₀)
+  pub nodes : nodeCount (stateOf b) ≡ nodeCount (stateOf b₀)
+  pub len : length b ≡ length b₀
+
+-- after b₀, the block b has the list w as row k, and all else as it was
+pub record Rowed (k : ℕ) (b₀ b : List ℤ) (w : List ℕ) : Type 0 where
+  pub laid : Laid b
+  pub rows : rowsOf b ≡ set (rowsOf b₀) k w
+  pub vertices : vertexCount (stateOf b) ≡ vertexCount (stateOf b₀)
+  pub edges : edgeCount (stateOf b) ≡ edgeCount (stateOf b₀)
+  pub sides : sideCount (stateOf b) ≡ sideCount (stateOf b₀)
+  pub nodes : nodeCount (stateOf b) ≡ nodeCount (stateOf b₀)
+  pub node-limit : stateOf b .nodeLimit ≡ stateOf b₀ .nodeLimit
+  pub store-limit : stateOf b .storeLimit ≡ stateOf b₀ .storeLimit
+  pub len : length b ≡ length b₀
+
+-- the sides in the boundary of node n are sides
+unfoldable pub sidesOk : State → ℕ → Bool
+sidesOk c n = all (λ s. ltb s (sideCount c)) (boundaryOf c n)

@@ -1,0 +1,138 @@
+-- Where the parts of a block stand, and the state that a block holds.
+-- A block is a row of arrays (docs/LAYOUT.md): the header of 16 words (V, E, N, L, the number of nodes, the rest free); over vertices
+-- flags, holder, grandson and first; over sides end, growth, holder, grandson and at; over edges weight; over nodes class, grow state,
+-- parent, dual variable, start, boundary length and overgrown length; and the list store.
+use Prim.Native.Nat.{ℕ, zero, suc, _+_, _-_, _*_, _/_, _%_}
+use mathlib.Core.Bool.{Bool, true, false, _&&_}
+use mathlib.Core.List.{List, [], _∷_, map, reverse}
+use lib.IntN.{ℤ}
+use lib.Dec.{ltb, leb, eqb}
+use lib.ListN.{length, getD, take, drop}
+use Rattle.graph.specs.Basic.{if_then_else_, allBelow}
+use Rattle.graph.specs.State.{State, Overgrown, NodeClass, defectVertex, blossom}
+use Rattle.graph.specs.Open.{sizesOk}
+use Rattle.graph.specs.Sound.{sound}
+use Rattle.graph.specs.Word.{toNat, wordAt}
+use Rattle.graph.specs.Rows.{rows}
+
+-- ---- sizes, as the header has them
+
+abbrev pub vOf : List ℤ → ℕ
+vOf b = wordAt b 0
+
+abbrev pub eOf : List ℤ → ℕ
+eOf b = wordAt b 1
+
+abbrev pub nOf : List ℤ → ℕ
+nOf b = wordAt b 2
+
+abbrev pub lOf : List ℤ → ℕ
+lOf b = wordAt b 3
+
+abbrev pub countOf : List ℤ → ℕ
+countOf b = wordAt b 4
+
+-- the words of each array
+abbrev pub sizes : ℕ → ℕ → ℕ → ℕ → List ℕ
+sizes v e n l = 16 ∷ v ∷ v ∷ v ∷ v ∷ 2 * e ∷ 2 * e ∷ 2 * e ∷ 2 * e ∷ 2 * e ∷ e ∷ n ∷ n ∷ n ∷ n ∷ n ∷ n ∷ n ∷ l ∷ []
+
+-- the words of a block, and of a scratch: 2 E boundary entries, 2 E noted entries, 2 E marks
+abbrev pub blockLength : ℕ → ℕ → ℕ → ℕ → ℕ
+blockLength v e n l = 16 + 4 * v + 11 * e + 7 * n + l
+
+abbrev pub scratchLength : ℕ → ℕ
+scratchLength e = 6 * e
+
+abbrev pub sizesOf : List ℤ → List ℕ
+sizesOf b = sizes (vOf b) (eOf b) (nOf b) (lOf b)
+
+-- the arrays of a block, as numbers
+unfoldable pub rowsOf : List ℤ → List (List ℕ)
+rowsOf b = rows (sizesOf b) (map toNat b)
+
+abbrev pub row : List (List ℕ) → ℕ → List ℕ
+row r k = getD r k []
+
+-- ---- the state
+
+-- a class word: a defect's vertex, or V + the first member of a blossom
+unfoldable pub classFrom : ℕ → ℕ → NodeClass
+classFrom v x = if ltb x v then defectVertex x else blossom (x - v)
+
+-- the stretches of a list that begin at the given places, each up to the next: the sides at vertex v stand from first(v) to first(v + 1)
+unfoldable pub stretches : List ℕ → List ℕ → List (List ℕ)
+stretches [] l = []
+stretches (f ∷ fs) l = take (getD fs 0 (length l) - f) (drop f l) ∷ stretches fs l
+
+-- an overgrown entry is one word, amount * 1024 + vertex
+unfoldable pub overgrownFrom : ℕ → Overgrown
+overgrownFrom x = record { vertex = x % 1024; amount = x / 1024 }
+
+-- the stack that stands in a list, its top last there
+unfoldable pub stackFrom : List ℕ → List Overgrown
+stackFrom l = map overgrownFrom (reverse l)
+
+-- the lists of the nodes stand in the store without gaps, of each node the boundary and then the stack: from their lengths and the store
+unfoldable pub boundaries : List ℕ → List ℕ → List ℕ → List (List ℕ)
+boundaries [] os l = []
+boundaries (b ∷ bs) [] l = []
+boundaries (b ∷ bs) (o ∷ os) l = take b l ∷ boundaries bs os (drop (b + o) l)
+
+unfoldable pub stacks : List ℕ → List ℕ → List ℕ → List (List Overgrown)
+stacks [] os l = []
+stacks (b ∷ bs) [] l = []
+stacks (b ∷ bs) (o ∷ os) l = stackFrom (take o (drop b l)) ∷ stacks bs os (drop (b + o) l)
+
+-- the state of the arrays; flags are virtual + 2 * defect; of the arrays over nodes only the first `count` words count
+unfoldable pub stateFrom : List (List ℕ) → State
+stateFrom r =
+    let count = getD (row r 0) 4 0 in
+    record {
+      graph = record { end = row r 5; weight = row r 10; at = stretches (row r 4) (row r 9); virtual = map (λ x. x % 2) (row r 1) };
+      vertices = record { defect = map (λ x. x / 2) (row r 1); vertexHolder = row r 2; vertexGrandson = row r 3 };
+      sides = record { growth = row r 6; holder = row r 7; grandson = row r 8 };
+      nodes = record {
+        class = map (classFrom (getD (row r 0) 0 0)) (take count (row r 11));
+        growState = take count (row r 12);
+        parent = take count (row r 13);
+        dual = take count (row r 14);
+        boundary = boundaries (take count (row r 16)) (take count (row r 17)) (row r 18);
+        overgrown = stacks (take count (row r 16)) (take count (row r 17)) (row r 18);
+      };
+      nodeLimit = getD (row r 0) 2 0;
+      storeLimit = getD (row r 0) 3 0;
+    }
+
+unfoldable pub stateOf : List ℤ → State
+stateOf b = stateFrom (rowsOf b)
+
+-- ---- refusals 1 and 2 of a block
+
+-- 1 unless: the sizes are in range and the block has their length
+unfoldable pub sized : List ℤ → Bool
+sized b = leb 16 (length b) && sizesOk (vOf b) (eOf b) (nOf b) (lOf b) && eqb (length b) (blockLength (vOf b) (eOf b) (nOf b) (lOf b))
+
+-- from place to place no fall, and none above m
+unfoldable pub risingTo : List ℕ → ℕ → Bool
+risingTo [] m = true
+risingTo (f ∷ fs) m = leb f (getD fs 0 m) && risingTo fs m
+
+-- lists that start at s and have k and o entries: they start at a and end within l
+unfoldable pub fitsAt : ℕ → ℕ → ℕ → ℕ → ℕ → Bool
+fitsAt a l s k o = eqb s a && leb k l && leb o l && leb (a + k + o) l
+
+-- every node's lists start where those before it end, and end within l
+unfoldable pub packedFrom : ℕ → ℕ → List ℕ → List ℕ → List ℕ → Bool
+packedFrom l a [] bs os = true
+packedFrom l a (s ∷ ss) [] os = true
+packedFrom l a (s ∷ ss) (b ∷ bs) [] = true
+packedFrom l a (s ∷ ss) (b ∷ bs) (o ∷ os) = fitsAt a l s b o && packedFrom l (a + b + o) ss bs os
+
+-- the starts and lengths of the nodes' lists fit the store
+unfoldable pub packed : List ℤ → Bool
+packed b =
+    packedFrom (lOf b) 0 (take (countOf b) (row (rowsOf b) 15)) (take (countOf b) (row (rowsOf b) 16)) (take (countOf b) (row (rowsOf b) 17))
+
+-- 2 unless: no more nodes than N, the stretches of the lists in order, and the state that they give sound
+unfoldable pub blockSound : List ℤ → Bool
+blockSound b = leb (countOf b) (nOf b) && packed b && risingTo (row (rowsOf b) 4) (2 * eOf b) && sound (stateOf b)

@@ -1,0 +1,19 @@
+-- What the contracts of `graph` cite: definitions first, laws about them behind.
+pub mod Basic
+pub mod State
+pub mod Open
+pub mod Sound
+pub mod Word
+pub mod Rows
+pub mod Layout
+pub mod Form
+pub mod Opens
+pub mod Laws
+pub mod Members
+pub mod Shape
+pub mod Opened
+pub mod Sounds
+pub mod RowLaws
+pub mod NumberLaws
+pub mod ListLaws
+pub mod SideLaws

@@ -1,0 +1,4 @@
+// The graph and everything that is stored of it in a block of words: reading, writing, the soundness test, opening.
+
+pub mod words; // the only place that sees a signed number
+pub mod rows; // the arrays of a block

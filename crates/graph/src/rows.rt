@@ -1,0 +1,184 @@
+// The arrays of a block: place i of row k. Only this file knows where a row begins (docs/LAYOUT.md numbers the rows).
+
+ghost use mathlib.Core.Path.{_≡_};
+ghost use Prim.Native.Nat.{_+_, _<_, _≤_};
+ghost use lib.ListN.{length, getD, set};
+ghost use Rattle.graph.specs.State.{vertexCount, edgeCount, sideCount, nodeCount};
+ghost use Rattle.graph.specs.Layout.{rowsOf, row, stateOf};
+ghost use Rattle.graph.specs.Form.{Laid, Rowed};
+ghost use Rattle.graph.specs.RowLaws.{Found};
+use crate::words;
+
+// ---- counts
+
+pub fn vertex_count(b: &[i64]) -> usize
+    requires { ⌜ Laid (now b) ⌝ }
+    ensures { λ r. ⌜ (r ≡ vertexCount (stateOf (now (b .entry)))) × (1 ≤ r) × (r ≤ 1024) ⌝ }
+{
+    words::word(b, 0)
+}
+
+pub fn edge_count(b: &[i64]) -> usize
+    requires { ⌜ Laid (now b) ⌝ }
+    ensures { λ r. ⌜ (r ≡ edgeCount (stateOf (now (b .entry)))) × (1 ≤ r) × (r ≤ 4096) ⌝ }
+{
+    words::word(b, 1)
+}
+
+pub fn side_count(b: &[i64]) -> usize
+    requires { ⌜ Laid (now b) ⌝ }
+    ensures { λ r. ⌜ (r ≡ sideCount (stateOf (now (b .entry)))) × (2 ≤ r) × (r ≤ 8192) ⌝ }
+{
+    2 * words::word(b, 1)
+}
+
+pub fn node_count(b: &[i64]) -> usize
+    requires { ⌜ Laid (now b) ⌝ }
+    ensures { λ r. ⌜ (r ≡ nodeCount (stateOf (now (b .entry)))) × (r ≤ stateOf (now (b .entry)) .nodeLimit) × (r ≤ 1024) ⌝ }
+{
+    words::word(b, 4)
+}
+
+pub fn node_limit(b: &[i64]) -> usize
+    requires { ⌜ Laid (now b) ⌝ }
+    ensures { λ r. ⌜ (r ≡ stateOf (now (b .entry)) .nodeLimit) × (r ≤ 1024) ⌝ }
+{
+    words::word(b, 2)
+}
+
+pub fn store_limit(b: &[i64]) -> usize
+    requires { ⌜ Laid (now b) ⌝ }
+    ensures { λ r. ⌜ (r ≡ stateOf (now (b .entry)) .storeLimit) × (r ≤ 65536) ⌝ }
+{
+    words::word(b, 3)
+}
+
+// ---- where a place stands
+
+// Over vertices: flags, holder, grandson, first.
+fn vertex_place(b: &[i64], k: usize, v: usize) -> usize
+    requires { ⌜ Laid (now b) × (k < 4) × (v < vertexCount (stateOf (now b))) ⌝ }
+    ensures { λ r. ⌜ Found (now (b .entry)) (1 + k) v r ⌝ }
+{
+    let m = words::word(b, 0);
+    16 + k * m + v
+}
+
+// Over sides: end, growth, holder, grandson, at.
+fn side_place(b: &[i64], k: usize, s: usize) -> usize
+    requires { ⌜ Laid (now b) × (k < 5) × (s < sideCount (stateOf (now b))) ⌝ }
+    ensures { λ r. ⌜ Found (now (b .entry)) (5 + k) s r ⌝ }
+{
+    let m = words::word(b, 0);
+    let e = words::word(b, 1);
+    16 + 4 * m + k * (2 * e) + s
+}
+
+// Over edges: weight.
+fn edge_place(b: &[i64], i: usize) -> usize
+    requires { ⌜ Laid (now b) × (i < edgeCount (stateOf (now b))) ⌝ }
+    ensures { λ r. ⌜ Found (now (b .entry)) 10 i r ⌝ }
+{
+    let m = words::word(b, 0);
+    let e = words::word(b, 1);
+    16 + 4 * m + 10 * e + i
+}
+
+// Over nodes: class, grow state, parent, dual variable, start, boundary length, overgrown length.
+fn node_place(b: &[i64], k: usize, n: usize) -> usize
+    requires { ⌜ Laid (now b) × (k < 7) × (n < stateOf (now b) .nodeLimit) ⌝ }
+    ensures { λ r. ⌜ Found (now (b .entry)) (11 + k) n r ⌝ }
+{
+    let m = words::word(b, 0);
+    let e = words::word(b, 1);
+    let l = words::word(b, 2);
+    16 + 4 * m + 11 * e + k * l + n
+}
+
+// The list store.
+fn store_place(b: &[i64], i: usize) -> usize
+    requires { ⌜ Laid (now b) × (i < stateOf (now b) .storeLimit) ⌝ }
+    ensures { λ r. ⌜ Found (now (b .entry)) 18 i r ⌝ }
+{
+    let m = words::word(b, 0);
+    let e = words::word(b, 1);
+    let n = words::word(b, 2);
+    16 + 4 * m + 11 * e + 7 * n + i
+}
+
+// ---- reading and writing a place
+
+pub fn vertex_word(b: &[i64], k: usize, v: usize) -> usize
+    requires { ⌜ Laid (now b) × (k < 4) × (v < vertexCount (stateOf (now b))) ⌝ }
+    ensures { λ r. ⌜ (r ≡ getD (row (rowsOf (now (b .entry))) (1 + k)) v 0) × (r < 9223372036854775808) ⌝ }
+{
+    words::word(b, vertex_place(b, k, v))
+}
+
+pub fn put_vertex(b: &mut [i64], k: usize, v: usize, x: usize)
+    requires { ⌜ Laid (now b) × (k < 4) × (v < vertexCount (stateOf (now b))) × (x < 9223372036854775808) ⌝ }
+    ensures { λ r. ⌜ Rowed (1 + k) (now (b .entry)) (now (b .exit)) (set (row (rowsOf (now (b .entry))) (1 + k)) v x) ⌝ }
+{
+    let p = vertex_place(b, k, v);
+    words::put(b, p, x);
+}
+
+pub fn side_word(b: &[i64], k: usize, s: usize) -> usize
+    requires { ⌜ Laid (now b) × (k < 5) × (s < sideCount (stateOf (now b))) ⌝ }
+    ensures { λ r. ⌜ (r ≡ getD (row (rowsOf (now (b .entry))) (5 + k)) s 0) × (r < 9223372036854775808) ⌝ }
+{
+    words::word(b, side_place(b, k, s))
+}
+
+pub fn put_side(b: &mut [i64], k: usize, s: usize, x: usize)
+    requires { ⌜ Laid (now b) × (k < 5) × (s < sideCount (stateOf (now b))) × (x < 9223372036854775808) ⌝ }
+    ensures { λ r. ⌜ Rowed (5 + k) (now (b .entry)) (now (b .exit)) (set (row (rowsOf (now (b .entry))) (5 + k)) s x) ⌝ }
+{
+    let p = side_place(b, k, s);
+    words::put(b, p, x);
+}
+
+pub fn edge_word(b: &[i64], i: usize) -> usize
+    requires { ⌜ Laid (now b) × (i < edgeCount (stateOf (now b))) ⌝ }
+    ensures { λ r. ⌜ (r ≡ getD (row (rowsOf (now (b .entry))) 10) i 0) × (r < 9223372036854775808) ⌝ }
+{
+    words::word(b, edge_place(b, i))
+}
+
+pub fn put_edge(b: &mut [i64], i: usize, x: usize)
+    requires { ⌜ Laid (now b) × (i < edgeCount (stateOf (now b))) × (x < 9223372036854775808) ⌝ }
+    ensures { λ r. ⌜ Rowed 10 (now (b .entry)) (now (b .exit)) (set (row (rowsOf (now (b .entry))) 10) i x) ⌝ }
+{
+    let p = edge_place(b, i);
+    words::put(b, p, x);
+}
+
+pub fn node_word(b: &[i64], k: usize, n: usize) -> usize
+    requires { ⌜ Laid (now b) × (k < 7) × (n < stateOf (now b) .nodeLimit) ⌝ }
+    ensures { λ r. ⌜ (r ≡ getD (row (rowsOf (now (b .entry))) (11 + k)) n 0) × (r < 9223372036854775808) ⌝ }
+{
+    words::word(b, node_place(b, k, n))
+}
+
+pub fn put_node(b: &mut [i64], k: usize, n: usize, x: usize)
+    requires { ⌜ Laid (now b) × (k < 7) × (n < stateOf (now b) .nodeLimit) × (x < 9223372036854775808) ⌝ }
+    ensures { λ r. ⌜ Rowed (11 + k) (now (b .entry)) (now (b .exit)) (set (row (rowsOf (now (b .entry))) (11 + k)) n x) ⌝ }
+{
+    let p = node_place(b, k, n);
+    words::put(b, p, x);
+}
+
+pub fn store_word(b: &[i64], i: usize) -> usize
+    requires { ⌜ Laid (now b) × (i < stateOf (now b) .storeLimit) ⌝ }
+    ensures { λ r. ⌜ (r ≡ getD (row (rowsOf (now (b .entry))) 18) i 0) × (r < 9223372036854775808) ⌝ }
+{
+    words::word(b, store_place(b, i))
+}
+
+pub fn put_store(b: &mut [i64], i: usize, x: usize)
+    requires { ⌜ Laid (now b) × (i < stateOf (now b) .storeLimit) × (x < 9223372036854775808) ⌝ }
+    ensures { λ r. ⌜ Rowed 18 (now (b .entry)) (now (b .exit)) (set (row (rowsOf (now (b .entry))) 18) i x) ⌝ }
+{
+    let p = store_place(b, i);
+    words::put(b, p, x);
+}

@@ -1,0 +1,42 @@
+// Words as numbers.
+
+ghost use mathlib.Core.Path.{_≡_};
+ghost use Prim.Native.Nat.{_<_};
+ghost use lib.ListN.{length, set};
+ghost use lib.IntN.{pos};
+ghost use Rattle.graph.specs.Word.{toNat, wordAt};
+
+// The number that a word stands for; the greatest word for a negative one.
+pub fn to_nat(x: i64) -> usize
+    ensures { λ r. ⌜ (r ≡ toNat x) × (r < 9223372036854775808) ⌝ }
+{
+    if x < 0 {
+        9223372036854775807
+    } else {
+        x as usize
+    }
+}
+
+// A number as a word.
+pub fn to_word(x: usize) -> i64
+    requires { ⌜ x < 9223372036854775808 ⌝ }
+    ensures { λ r. ⌜ r ≡ pos x ⌝ }
+{
+    x as i64
+}
+
+// The number at place i.
+pub fn word(b: &[i64], i: usize) -> usize
+    requires { ⌜ i < length (now b) ⌝ }
+    ensures { λ r. ⌜ (r ≡ wordAt (now (b .entry)) i) × (r < 9223372036854775808) ⌝ }
+{
+    to_nat(b[i])
+}
+
+// The number x is put at place i.
+pub fn put(b: &mut [i64], i: usize, x: usize)
+    requires { ⌜ (i < length (now b)) × (x < 9223372036854775808) ⌝ }
+    ensures { λ r. ⌜ now (b .exit) ≡ set (now (b .entry)) i (pos x) ⌝ }
+{
+    b[i] = to_word(x);
+}

@@ -1,0 +1,10 @@
+-- A name that opens all definitions of this crate and of those below: under `unfolding everything` a closed term computes.
+use Prim.Native.Nat.{ℕ}
+use Rattle.graph.specs.Opens as Below
+use Rattle.pass.specs.Work
+use Rattle.pass.specs.Grow
+use Rattle.pass.specs.Shrink
+
+unfoldable pub everything : ℕ
+unfolding Below.everything Work.onState Work.keep Work.keepOnce Work.note Work.push Work.call Work.start Work.finish Grow.reaches Grow.growStep Grow.takeSide Grow.takeVertex Grow.takeStep Grow.growScanned Grow.growPass Shrink.emptyTops Shrink.belowTops Shrink.dropSide Shrink.dropStep Shrink.shrinkStep Shrink.closed Shrink.releaseSide Shrink.releaseStep Shrink.dropped Shrink.shrinkScanned Shrink.shrinkPass
+everything = 0

@@ -1,0 +1,58 @@
+-- The lines of an outcome, as bytes. Each has the record's number in front and a line feed behind.
+use Prim.Native.Nat.{ℕ, zero, suc, _+_, _-_}
+use mathlib.Core.Bool.{Bool, true, false}
+use mathlib.Core.List.{List, [], _∷_, _++_, map}
+use lib.IntN.{ℤ}
+use lib.Dec.{leb}
+use lib.ListN.{length, drop}
+use Rattle.graph.specs.Basic.{if_then_else_}
+use Rattle.calls.specs.Answer.{Answer, NonZeroGrow, Unlimited, Conflicting, TouchingVirtual, BlossomNeedExpand, VertexShrinkStop, VertexShrinkStopPeer, Done, Node, Prepared, Refused, Vertex}
+use Rattle.calls.specs.Calls.{Outcome, answered, growths, touching}
+use Rattle.records.specs.Text.{ascii, decimal, signedText, spaced, flag}
+
+-- the words of an answer
+unfoldable pub wordsOf : Answer → List ℕ
+wordsOf (NonZeroGrow l e) = ascii "NonZeroGrow " ++ signedText l ++ spaced (flag e ∷ [])
+wordsOf (Unlimited e) = ascii "NonZeroGrow -1" ++ spaced (flag e ∷ [])
+wordsOf (Conflicting p g n h) = ascii "Conflicting" ++ spaced (p ∷ g ∷ n ∷ h ∷ [])
+wordsOf (TouchingVirtual n g v) = ascii "TouchingVirtual" ++ spaced (n ∷ g ∷ v ∷ 0 ∷ [])
+wordsOf (BlossomNeedExpand n) = ascii "BlossomNeedExpand" ++ spaced (n ∷ [])
+wordsOf (VertexShrinkStop n) = ascii "VertexShrinkStop" ++ spaced (n ∷ [])
+wordsOf (VertexShrinkStopPeer n p g) = ascii "VertexShrinkStop" ++ spaced (n ∷ p ∷ g ∷ [])
+wordsOf done = ascii "Done"
+wordsOf (Node n) = ascii "Node" ++ spaced (n ∷ [])
+wordsOf (Prepared k) = ascii "Prepared" ++ spaced (k ∷ [])
+wordsOf (Refused k) = ascii "Refused" ++ spaced (k ∷ [])
+wordsOf (Vertex v) = ascii "Vertex" ++ spaced (v ∷ [])
+
+-- the line of record k with these words
+unfoldable pub line : ℕ → List ℕ → List ℕ
+line k words = decimal k ++ (32 ∷ words) ++ (10 ∷ [])
+
+-- a line for each edge from edge e on, of the growths of its two sides
+unfoldable pub edgeLines : ℕ → ℕ → List ℕ → List (List ℕ)
+edgeLines k e [] = []
+edgeLines k e (l ∷ []) = []
+edgeLines k e (l ∷ r ∷ gs) = line k (ascii "edge" ++ spaced (e ∷ l ∷ r ∷ [])) ∷ edgeLines k (e + 1) gs
+
+unfoldable pub contactLine : ℕ → ℕ → List ℕ
+contactLine k e = line k (ascii "contact" ++ spaced (e ∷ []))
+
+unfoldable pub linesFor : ℕ → Outcome → List (List ℕ)
+linesFor k (answered a) = line k (wordsOf a) ∷ []
+linesFor k (growths gs) = edgeLines k 0 gs
+linesFor k (touching es) = map (contactLine k) es
+
+-- all lines, one behind the other
+unfoldable pub joined : List (List ℕ) → List ℕ
+joined [] = []
+joined (l ∷ ls) = l ++ joined ls
+
+-- the lines up to the first that does not fit into `space` bytes
+unfoldable pub fitting : ℕ → List (List ℕ) → List ℕ
+fitting space [] = []
+fitting space (l ∷ ls) = if leb (length l) space then l ++ fitting (space - length l) ls else []
+
+-- bytes written over the front of a list of bytes
+unfoldable pub over : List ℕ → List ℕ → List ℕ
+over front out = front ++ drop (length front) out
