@@ -10,12 +10,13 @@ use lib.Dec.{eqb, leb, ltb}
 use lib.ListN.{length}
 use borrow.Author.Tests.{eqb-true, eqb-false, eq-eqb, ne-eqb, ltb-true, ltb-false, leb-true, leb-false, not-true, not-false}
 use Rattle.graph.specs.Basic.{if_then_else_, any, member, distinct, sumBelow}
-use Rattle.graph.specs.State.{State, Overgrown, opposite, vertexCount, sideCount, nodeCount, growthAt, holderAt, sidesAt, virtualAt, defectAt, vertexHolderAt, parentOf, dualOf, boundaryOf, overgrownOf, grownOver, weightOver}
+use Rattle.graph.specs.State.{State, Overgrown, opposite, vertexCount, sideCount, nodeCount, growthAt, holderAt, sidesAt, virtualAt, defectAt, vertexHolderAt, parentOf, dualOf, boundaryOf, overgrownOf, grownOver, weightOver, up, shrinking}
 use Rattle.graph.specs.Open.{dualLimit, growthLimit}
 use Rattle.graph.specs.Sound.{entriesOf, entries}
 use Rattle.graph.specs.Members.{by-test, clash, or-cases, or-left, or-right, or-neither-left, or-neither-right, member-head, member-tail, member-cons, member-nil, distinct-head, distinct-tail}
 use Rattle.pass.specs.Laws.{Passed}
-use Rattle.calls.specs.Answer.{up, shrinking, Reply, Refused, says}
+use Rattle.calls.specs.declared.Answer.the-variants.{Refused}
+use Rattle.calls.specs.Answer.{Reply, says}
 use Rattle.calls.specs.Refuse.{badNode, inBlossom, entriesUnless, entriesBut, storeShort, nodeRefusal, unless}
 use Rattle.calls.specs.Growth.{topIs, passesWeight, passesLimit, fallsShort, growCheck}
 use Rattle.calls.specs.Insert.{occupied, defectRefusal, noCircle, blossomRefusal}
@@ -143,7 +144,7 @@ pub record DefectAccepted (c : State) (v x : ℕ) : Type 0 where
   pub growState : x ≤ 2
   pub real : virtualAt c v ≡ 0
   pub new : defectAt c v ≡ 0
-  pub NonZeroGrow : vertexHolderAt c v ≡ 0
+  pub free : vertexHolderAt c v ≡ 0
   pub sides : (t : ℕ) → member t (sidesAt c v) ≡ true → holderAt c t ≡ 0
   pub count : nodeCount c < c .nodeLimit
   pub room : storeShort c [] 1 ≡ false

@@ -5,11 +5,13 @@ use mathlib.Core.List.{List, [], _∷_, _++_}
 use lib.IntN.{ℤ, pos, negsuc, negℤ}
 use lib.Dec.{leb, ltb, eqb}
 use Rattle.graph.specs.Basic.{if_then_else_, only, below}
-use Rattle.graph.specs.State.{State, NodeClass, defectVertex, blossom, edgeCount, growthAt, weightAt, classOf, growStateOf, withGrowState}
+use Rattle.graph.specs.State.{State, NodeClass, defectVertex, blossom, edgeCount, growthAt, weightAt, classOf, growStateOf, withGrowState, stay, growing, shrinking, down, up}
 use Rattle.graph.specs.Open.{cleared}
-use Rattle.calls.specs.Answer.{Answer, NonZeroGrow, Unlimited, Conflicting, TouchingVirtual, BlossomNeedExpand, VertexShrinkStop, VertexShrinkStopPeer, Done, Node, Prepared, Refused, Vertex, Reply, says, stay, growing, shrinking, down, up}
+use Rattle.calls.specs.declared.Answer.{Answer}
+use Rattle.calls.specs.declared.Answer.the-variants.{NonZeroGrow, Unlimited, Conflicting, TouchingVirtual, BlossomNeedExpand, VertexShrinkStop, VertexShrinkStopPeer, Done, Node, Prepared, Refused, Vertex}
+use Rattle.calls.specs.Answer.{Reply, says}
 use Rattle.calls.specs.Refuse.{badNode, nodeRefusal, storeShort, unless}
-use Rattle.calls.specs.Prepare.{prepareNode}
+use Rattle.pass.specs.Prepare.{prepareNode}
 use Rattle.calls.specs.Scan.{scan}
 use Rattle.calls.specs.Growth.{growCheck, growApply}
 use Rattle.calls.specs.Insert.{insertDefect, insertBlossom}
@@ -21,8 +23,8 @@ setGrowState c n x = unless (nodeRefusal c n (ltb shrinking x) false) c (record 
 
 -- ---- prepare
 
-unfoldable pub prepare : State → ℕ → ℕ → Reply
-prepare c n d = unless (nodeRefusal c n (ltb up d) (storeShort c (n ∷ []) 1)) c (record { answer = Prepared (prepareNode c n d .passes); state = prepareNode c n d .state })
+unfoldable pub prepareDualNodeGrowth : State → ℕ → ℕ → Reply
+prepareDualNodeGrowth c n d = unless (nodeRefusal c n (ltb up d) (storeShort c (n ∷ []) 1)) c (record { answer = Prepared (prepareNode c n d .passes); state = prepareNode c n d .state })
 
 -- ---- length
 
@@ -30,8 +32,8 @@ prepare c n d = unless (nodeRefusal c n (ltb up d) (storeShort c (n ∷ []) 1)) 
 unfoldable pub readied : State → ℕ → ℕ → Bool → State
 readied c n d first = if first then prepareNode c n d .state else c
 
-unfoldable pub length : State → ℕ → ℕ → Bool → Reply
-length c n d first =
+unfoldable pub maxUpdateLength : State → ℕ → ℕ → Bool → Reply
+maxUpdateLength c n d first =
     unless (nodeRefusal c n (ltb up d) (first && storeShort c (n ∷ []) 1)) c (record { answer = scan (readied c n d first) n d; state = readied c n d first })
 
 -- ---- growth
@@ -44,27 +46,27 @@ growPrepared c n d l = unless (growCheck c n d l) c (record { answer = Done; sta
 unfoldable pub growToward : State → ℕ → ℕ → ℕ → Reply
 growToward c n d l = unless (nodeRefusal c n false (storeShort c (n ∷ []) 1)) c (growPrepared (prepareNode c n d .state) n d l)
 
-unfoldable pub grow : State → ℕ → ℤ → Reply
-grow c n (pos zero) = unless (nodeRefusal c n false false) c (says Done c)
-grow c n (pos (suc l)) = growToward c n up (suc l)
-grow c n (negsuc l) = growToward c n down (suc l)
+unfoldable pub growDualNode : State → ℕ → ℤ → Reply
+growDualNode c n (pos zero) = unless (nodeRefusal c n false false) c (says Done c)
+growDualNode c n (pos (suc l)) = growToward c n up (suc l)
+growDualNode c n (negsuc l) = growToward c n down (suc l)
 
 -- ---- advance
 
 -- the length that a node of state x grows by on a free answer
-unfoldable pub signed : ℕ → ℤ → ℤ
-signed x l = if eqb x growing then l else negℤ l
+unfoldable pub signedFor : ℕ → ℤ → ℤ
+signedFor x l = if eqb x growing then l else negℤ l
 
 -- growth by a free answer's limit; any other answer is handed back
 unfoldable pub follow : State → ℕ → ℕ → Answer → Reply
-follow c n x (NonZeroGrow l e) = grow c n (signed x l)
+follow c n x (NonZeroGrow l e) = growDualNode c n (signedFor x l)
 follow c n x (Unlimited e) = says (Unlimited e) c
 follow c n x (Conflicting p g m h) = says (Conflicting p g m h) c
 follow c n x (TouchingVirtual m g v) = says (TouchingVirtual m g v) c
 follow c n x (BlossomNeedExpand m) = says (BlossomNeedExpand m) c
 follow c n x (VertexShrinkStop m) = says (VertexShrinkStop m) c
 follow c n x (VertexShrinkStopPeer m p g) = says (VertexShrinkStopPeer m p g) c
-follow c n x done = says Done c
+follow c n x Done = says Done c
 follow c n x (Node m) = says (Node m) c
 follow c n x (Prepared k) = says (Prepared k) c
 follow c n x (Refused k) = says (Refused k) c
@@ -80,13 +82,13 @@ toward x = if eqb x growing then up else down
 unfoldable pub advance : State → ℕ → Reply
 advance c n =
     unless (nodeRefusal c n false false) c
-    (if eqb (growStateOf c n) stay then says Done c else advanceBy n (growStateOf c n) (length c n (toward (growStateOf c n)) true))
+    (if eqb (growStateOf c n) stay then says Done c else advanceBy n (growStateOf c n) (maxUpdateLength c n (toward (growStateOf c n)) true))
 
 -- ---- reading
 
 -- the growth of every side
-unfoldable pub table : State → List ℕ
-table c = c .sides .growth
+unfoldable pub growthTable : State → List ℕ
+growthTable c = c .sides .growth
 
 -- each edge whose two growths sum to its weight, by rising number
 unfoldable pub contacts : State → List ℕ
@@ -130,22 +132,22 @@ pub data Outcome : Type 0 where
   growths : List ℕ → Outcome
   touching : List ℕ → Outcome
 
-pub record Given : Type 0 where
+pub record Response : Type 0 where
   pub outcome : Outcome
   pub state : State
 
-unfoldable pub given : Reply → Given
-given r = record { outcome = answered (r .answer); state = r .state }
+unfoldable pub response : Reply → Response
+response r = record { outcome = answered (r .answer); state = r .state }
 
-unfoldable pub calling : State → Call → Given
-calling c (InsertDefect v x) = given (insertDefect c v x)
-calling c (InsertBlossom x circle) = given (insertBlossom c x circle)
-calling c (SetGrowState n x) = given (setGrowState c n x)
-calling c (Prepare n d) = given (prepare c n d)
-calling c (MaxUpdateLength n d first) = given (length c n d first)
-calling c (Grow n l) = given (grow c n l)
-calling c ReadTable = record { outcome = growths (table c); state = c }
-calling c (Advance n) = given (advance c n)
-calling c Contacts = record { outcome = touching (contacts c); state = c }
-calling c (RepresentativeVertex n) = given (representativeVertex c n)
-calling c Clear = given (clear c)
+unfoldable pub respond : State → Call → Response
+respond c (InsertDefect v x) = response (insertDefect c v x)
+respond c (InsertBlossom x circle) = response (insertBlossom c x circle)
+respond c (SetGrowState n x) = response (setGrowState c n x)
+respond c (Prepare n d) = response (prepareDualNodeGrowth c n d)
+respond c (MaxUpdateLength n d first) = response (maxUpdateLength c n d first)
+respond c (Grow n l) = response (growDualNode c n l)
+respond c ReadTable = record { outcome = growths (growthTable c); state = c }
+respond c (Advance n) = response (advance c n)
+respond c Contacts = record { outcome = touching (contacts c); state = c }
+respond c (RepresentativeVertex n) = response (representativeVertex c n)
+respond c Clear = response (clear c)

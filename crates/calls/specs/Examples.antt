@@ -8,8 +8,9 @@ use lib.Dec.{eqb}
 use Rattle.graph.specs.Basic.{fold, all, same}
 use Rattle.graph.specs.State.{State}
 use Rattle.graph.specs.Open.{Edge, opened}
-use Rattle.calls.specs.Answer.{Answer, NonZeroGrow, Unlimited, Conflicting, TouchingVirtual, BlossomNeedExpand, VertexShrinkStop, VertexShrinkStopPeer, Done, Node, Prepared, Refused, Vertex}
-use Rattle.calls.specs.Calls.{Call, InsertDefect, InsertBlossom, SetGrowState, Prepare, MaxUpdateLength, Grow, ReadTable, Advance, Contacts, RepresentativeVertex, Clear, Outcome, answered, growths, touching, Given, calling}
+use Rattle.calls.specs.declared.Answer.{Answer}
+use Rattle.calls.specs.declared.Answer.the-variants.{NonZeroGrow, Unlimited, Conflicting, TouchingVirtual, BlossomNeedExpand, VertexShrinkStop, VertexShrinkStopPeer, Done, Node, Prepared, Refused, Vertex}
+use Rattle.calls.specs.Calls.{Call, InsertDefect, InsertBlossom, SetGrowState, Prepare, MaxUpdateLength, Grow, ReadTable, Advance, Contacts, RepresentativeVertex, Clear, Outcome, answered, growths, touching, Response, respond}
 use Rattle.calls.specs.Opens.{everything}
 
 -- the number and the values of an answer
@@ -25,7 +26,7 @@ valuesOf (TouchingVirtual n g v) = 3 ∷ n ∷ g ∷ v ∷ []
 valuesOf (BlossomNeedExpand n) = 4 ∷ n ∷ []
 valuesOf (VertexShrinkStop n) = 5 ∷ n ∷ []
 valuesOf (VertexShrinkStopPeer n p g) = 6 ∷ n ∷ p ∷ g ∷ []
-valuesOf done = 7 ∷ []
+valuesOf Done = 7 ∷ []
 valuesOf (Node n) = 8 ∷ n ∷ []
 valuesOf (Prepared k) = 9 ∷ k ∷ []
 valuesOf (Refused k) = 10 ∷ k ∷ []
@@ -55,7 +56,7 @@ pub record Example : Type 0 where
 -- from state c each call gives what it must
 unfoldable pub follows : State → List Line → Bool
 follows c [] = true
-follows c ((k gives o) ∷ ls) = let g : Given = calling c k in sameOutcome (g .outcome) o && follows (g .state) ls
+follows c ((k gives o) ∷ ls) = let g : Response = respond c k in sameOutcome (g .outcome) o && follows (g .state) ls
 
 unfoldable pub holds : Example → Bool
 holds x = follows (x .start) (x .lines)

@@ -15,7 +15,7 @@ use Rattle.graph.specs.Basic.{if_then_else_, fold, any, all, member, distinct}
 use Rattle.graph.specs.State.{State, Overgrown, growthAt, dualOf, boundaryOf, overgrownOf, weightOver, grownOver, withSides, withNodes, withGrowth, withDual, withOvergrown}
 use Rattle.graph.specs.Laws.{fold-keeps, growth-same, growth-other}
 use Rattle.graph.specs.Members.{by-test, clash, member-head, member-tail, member-cons, member-nil, distinct-head, distinct-tail}
-use Rattle.calls.specs.Answer.{Answer}
+use Rattle.calls.specs.declared.Answer.{Answer}
 use Rattle.calls.specs.Growth.{moved, movedTop, moveSide, growApply}
 use Rattle.calls.specs.Scan.{Look, Scan, over, joined, look, scanStep, gapOf}
 

@@ -4,9 +4,8 @@ use mathlib.Core.Bool.{Bool, true, false, _&&_, _||_, not}
 use mathlib.Core.List.{List, [], _∷_}
 use lib.Dec.{leb, ltb, eqb}
 use Rattle.graph.specs.Basic.{if_then_else_, fold, any}
-use Rattle.graph.specs.State.{State, Overgrown, opposite, growthAt, holderAt, dualOf, boundaryOf, overgrownOf, grownOver, weightOver, withGrowth, withDual, withOvergrown}
+use Rattle.graph.specs.State.{State, Overgrown, opposite, growthAt, holderAt, dualOf, boundaryOf, overgrownOf, grownOver, weightOver, withGrowth, withDual, withOvergrown, up}
 use Rattle.graph.specs.Open.{dualLimit, growthLimit}
-use Rattle.calls.specs.Answer.{up}
 
 -- the top amount of a stack, or none: the test holds of it
 unfoldable pub topIs : (ℕ → Bool) → List Overgrown → Bool

@@ -1,14 +1,12 @@
 -- What the contracts of `calls` cite.
 pub mod Answer
 pub mod Refuse
-pub mod Prepare
 pub mod Scan
 pub mod Growth
 pub mod Insert
 pub mod Calls
 pub mod Opens
 pub mod Examples
-pub mod Laws
 pub mod Shapes
 pub mod GrowLaws
 pub mod Accepted

@@ -5,8 +5,9 @@ use mathlib.Core.List.{List, [], _∷_}
 use lib.IntN.{ℤ, pos, negsuc, negℤ, subℕ}
 use lib.Dec.{leb, ltb, eqb}
 use Rattle.graph.specs.Basic.{if_then_else_, fold}
-use Rattle.graph.specs.State.{State, Overgrown, NodeClass, defectVertex, blossom, opposite, endAt, growthAt, holderAt, grandsonAt, sidesAt, virtualAt, classOf, growStateOf, dualOf, boundaryOf, overgrownOf, grownOver, weightOver}
-use Rattle.calls.specs.Answer.{Answer, NonZeroGrow, Unlimited, Conflicting, TouchingVirtual, BlossomNeedExpand, VertexShrinkStop, VertexShrinkStopPeer, Refused, growing, shrinking, up}
+use Rattle.graph.specs.State.{State, Overgrown, NodeClass, defectVertex, blossom, opposite, endAt, growthAt, holderAt, grandsonAt, sidesAt, virtualAt, classOf, growStateOf, dualOf, boundaryOf, overgrownOf, grownOver, weightOver, growing, shrinking, up}
+use Rattle.calls.specs.declared.Answer.{Answer}
+use Rattle.calls.specs.declared.Answer.the-variants.{NonZeroGrow, Unlimited, Conflicting, TouchingVirtual, BlossomNeedExpand, VertexShrinkStop, VertexShrinkStopPeer, Refused}
 
 -- ---- lengths: signed, because on a state that no call list reaches an edge may have grown past its weight
 

@@ -7,19 +7,21 @@ use lib.IntN.{ℤ, pos, negsuc}
 use lib.Dec.{eqb, leb, ltb}
 use lib.ListN.{length, getD}
 use Rattle.graph.specs.Basic.{if_then_else_, fold}
-use Rattle.graph.specs.State.{State, Graph, Nodes, Overgrown, NodeClass, blossom, defectVertex, vertexCount, edgeCount, sideCount, nodeCount, sidesAt, holderAt, growthAt, dualOf, growStateOf, boundaryOf, overgrownOf, withGrowth, withHolder, withDefect, withGrowState, withParent, withDual, withOvergrown, withNode, heldSide, heldVertex}
+use Rattle.graph.specs.State.{State, Graph, Nodes, Overgrown, NodeClass, blossom, defectVertex, vertexCount, edgeCount, sideCount, nodeCount, sidesAt, holderAt, growthAt, dualOf, growStateOf, boundaryOf, overgrownOf, withGrowth, withHolder, withDefect, withGrowState, withParent, withDual, withOvergrown, withNode, heldSide, heldVertex, stay, growing, down, up}
 use Rattle.graph.specs.Open.{cleared}
 use Rattle.graph.specs.Laws.{if-both, fold-keeps}
 use Rattle.graph.specs.Shape.{Shape, emptied-shape, shape-growth, shape-holder, shape-defect, shape-state, shape-parent, shape-dual, shape-overgrown, shape-node, shape-held-side, shape-held-vertex}
 use Rattle.pass.specs.Laws.{Passed}
-use Rattle.calls.specs.Answer.{Answer, NonZeroGrow, Unlimited, Conflicting, TouchingVirtual, BlossomNeedExpand, VertexShrinkStop, VertexShrinkStopPeer, Done, Node, Prepared, Refused, Vertex, Reply, says, stay, growing, down, up}
+use Rattle.calls.specs.declared.Answer.{Answer}
+use Rattle.calls.specs.declared.Answer.the-variants.{NonZeroGrow, Unlimited, Conflicting, TouchingVirtual, BlossomNeedExpand, VertexShrinkStop, VertexShrinkStopPeer, Done, Node, Prepared, Refused, Vertex}
+use Rattle.calls.specs.Answer.{Reply, says}
 use Rattle.calls.specs.Refuse.{unless, nodeRefusal, storeShort}
-use Rattle.calls.specs.Prepare.{prepareNode}
+use Rattle.pass.specs.Prepare.{prepareNode}
 use Rattle.calls.specs.Scan.{scan}
 use Rattle.calls.specs.Growth.{growCheck, growApply, moveSide, moved, movedTop}
 use Rattle.calls.specs.Insert.{insertDefect, defectPut, defectRefusal, holdStep, insertBlossom, blossomPut, blossomRefusal, joinCircle, joinStep, joinSide, seated, Joining, prepareStep}
-use Rattle.calls.specs.Calls.{setGrowState, prepare, length as lengthCall, readied, growPrepared, growToward, grow, signed, follow, advanceBy, toward, advance, representativeVertex, clear, Call, InsertDefect, InsertBlossom, SetGrowState, Prepare, MaxUpdateLength, Grow, ReadTable, Advance, Contacts, RepresentativeVertex, Clear, Given, given, calling}
-use Rattle.calls.specs.Laws.{prepare-passed}
+use Rattle.calls.specs.Calls.{setGrowState, prepareDualNodeGrowth, maxUpdateLength, readied, growPrepared, growToward, growDualNode, signedFor, follow, advanceBy, toward, advance, representativeVertex, clear, Call, InsertDefect, InsertBlossom, SetGrowState, Prepare, MaxUpdateLength, Grow, ReadTable, Advance, Contacts, RepresentativeVertex, Clear, Response, response, respond}
+use Rattle.pass.specs.PrepareLaws.{prepare-passed}
 
 -- ---- preparation
 
@@ -112,15 +114,15 @@ shape-toward c n d l z =
     shape-unless (nodeRefusal c n false (storeShort c (n ∷ []) 1)) c _ z
     (shape-unless (growCheck (prepareNode c n d .state) n d l) (prepareNode c n d .state) _ p (shape-apply (prepareNode c n d .state) n d l p))
 
-pub shape-grow : (c : State) (n : ℕ) (l : ℤ) → Shape c → Shape (grow c n l .state)
-unfolding grow says
+pub shape-grow : (c : State) (n : ℕ) (l : ℤ) → Shape c → Shape (growDualNode c n l .state)
+unfolding growDualNode says
 shape-grow c n (pos zero) z = shape-unless (nodeRefusal c n false false) c _ z z
 shape-grow c n (pos (suc l)) z = shape-toward c n up (suc l) z
 shape-grow c n (negsuc l) z = shape-toward c n down (suc l) z
 
 shape-follow : (c : State) (n x : ℕ) (a : Answer) → Shape c → Shape (follow c n x a .state)
 unfolding follow says
-shape-follow c n x (NonZeroGrow l e) z = shape-grow c n (signed x l) z
+shape-follow c n x (NonZeroGrow l e) z = shape-grow c n (signedFor x l) z
 shape-follow c n x (Unlimited e) z = z
 shape-follow c n x (Conflicting p g m h) z = z
 shape-follow c n x (TouchingVirtual m g v) z = z
@@ -137,8 +139,8 @@ shape-readied : (c : State) (n d : ℕ) (first : Bool) → Shape c → Shape (re
 unfolding readied
 shape-readied c n d first z = if-both Shape first (shape-prepared c n d z) z
 
-pub shape-length : (c : State) (n d : ℕ) (first : Bool) → Shape c → Shape (lengthCall c n d first .state)
-unfolding lengthCall
+pub shape-length : (c : State) (n d : ℕ) (first : Bool) → Shape c → Shape (maxUpdateLength c n d first .state)
+unfolding maxUpdateLength
 shape-length c n d first z = shape-unless (nodeRefusal c n (ltb up d) (first && storeShort c (n ∷ []) 1)) c _ z (shape-readied c n d first z)
 
 pub shape-advance : (c : State) (n : ℕ) → Shape c → Shape (advance c n .state)
@@ -146,10 +148,10 @@ unfolding advance advanceBy says
 shape-advance c n z =
     shape-unless (nodeRefusal c n false false) c _ z
     (if-both (λ (x : Reply). Shape (x .state)) (eqb (growStateOf c n) stay) z
-    (shape-follow (lengthCall c n (toward (growStateOf c n)) true .state) n (growStateOf c n) (lengthCall c n (toward (growStateOf c n)) true .answer) (shape-length c n (toward (growStateOf c n)) true z)))
+    (shape-follow (maxUpdateLength c n (toward (growStateOf c n)) true .state) n (growStateOf c n) (maxUpdateLength c n (toward (growStateOf c n)) true .answer) (shape-length c n (toward (growStateOf c n)) true z)))
 
-pub shape-call : (c : State) (k : Call) → Shape c → Shape (calling c k .state)
-unfolding calling given insertDefect insertBlossom setGrowState prepare representativeVertex says clear
+pub shape-call : (c : State) (k : Call) → Shape c → Shape (respond c k .state)
+unfolding respond response insertDefect insertBlossom setGrowState prepareDualNodeGrowth representativeVertex says clear
 shape-call c (InsertDefect v x) z = shape-unless (defectRefusal c v x) c _ z (shape-defect-put c v x z)
 shape-call c (InsertBlossom x circle) z = shape-unless (blossomRefusal c x circle) c _ z (shape-blossom-put c x circle z)
 shape-call c (SetGrowState n x) z = shape-unless _ c _ z (shape-state c n x z)

@@ -12,7 +12,7 @@ use lib.ListN.{length, getD, set, length-set}
 use lib.Seq.{getD-set-same, getD-set-other, set-getD, set-out}
 use borrow.Author.Tests.{eqb-true, eqb-false, eq-eqb, ltb-false, ltb-true, le-leb, leb-true}
 use Rattle.graph.specs.Basic.{if_then_else_, fold, all, member, distinct, sumBelow}
-use Rattle.graph.specs.State.{State, Graph, Vertices, Nodes, Overgrown, NodeClass, defectVertex, blossom, vertexCount, edgeCount, sideCount, nodeCount, endAt, growthAt, holderAt, grandsonAt, vertexHolderAt, classOf, growStateOf, parentOf, dualOf, boundaryOf, overgrownOf, withNodes, withGrowState, withDual, withOvergrown}
+use Rattle.graph.specs.State.{State, Graph, Vertices, Nodes, Overgrown, NodeClass, defectVertex, blossom, vertexCount, edgeCount, sideCount, nodeCount, endAt, growthAt, holderAt, grandsonAt, vertexHolderAt, classOf, growStateOf, parentOf, dualOf, boundaryOf, overgrownOf, withNodes, withGrowState, withDual, withOvergrown, up, shrinking}
 use Rattle.graph.specs.Open.{dualLimit, growthLimit, cleared}
 use Rattle.graph.specs.Sound.{nodeOrNone, storedDefect, classSound, parentSound, overSound, ownLists, entriesOf, entries, sound}
 use Rattle.graph.specs.Members.{by-test, all-weaker, all-first, all-others, all-map, all-unmap, both}
@@ -20,18 +20,20 @@ use Rattle.graph.specs.Laws.{and-left, and-right}
 use Rattle.graph.specs.Shape.{Shape, SoundEdge, SoundVertex, SoundSide, SoundNode, OwnLists, own-facts}
 use Rattle.graph.specs.Sounds.{Sound, sound-facts, sound-test, own-test}
 use Rattle.graph.specs.Opened.{emptied-sound}
-use Rattle.pass.specs.Work.{Work, finish}
+use Rattle.pass.specs.Work.{Work, finishPass}
 use Rattle.pass.specs.Grow.{growPass}
 use Rattle.pass.specs.Laws.{Passed, passed-refl, passed-trans}
 use Rattle.pass.specs.Count.{EndsIn}
 use Rattle.pass.specs.Fits.{Sized, sound-sized}
 use Rattle.pass.specs.GrowSound.{grow-pass-sound, grow-pass-entries}
-use Rattle.calls.specs.Answer.{Answer, Done, up, shrinking, Reply, says}
+use Rattle.calls.specs.declared.Answer.{Answer}
+use Rattle.calls.specs.declared.Answer.the-variants.{Done}
+use Rattle.calls.specs.Answer.{Reply, says}
 use Rattle.calls.specs.Refuse.{storeShort, nodeRefusal, unless}
-use Rattle.calls.specs.Prepare.{onePass, prepareNode}
+use Rattle.pass.specs.Prepare.{onePass, prepareNode}
 use Rattle.calls.specs.Growth.{moved, movedTop, moveSide, growCheck, growApply, topIs}
 use Rattle.calls.specs.Calls.{growPrepared, growToward}
-use Rattle.calls.specs.Laws.{passCard, one-passed, one-up, prepare-leaves}
+use Rattle.pass.specs.PrepareLaws.{passState, one-passed, one-up, prepare-leaves}
 use Rattle.calls.specs.Shapes.{shape-passed, shape-apply}
 use Rattle.calls.specs.GrowLaws.{Moved, sides-moved, apply-in, apply-out}
 use Rattle.calls.specs.Accepted.{store-kept, sum-same, unless-cases, NodeAccepted, node-accepted, GrowAccepted, grow-accepted, ShrinkAccepted, shrink-accepted}
@@ -46,11 +48,11 @@ pub record Ready (n : ℕ) (c e : State) : Type 0 where
 
 module _ (c : State) (z : Shape c) (h : sound c ≡ true) (v1 : 1 ≤ vertexCount c) (n : ℕ) (b : n < nodeCount c) (outer : parentOf c n ≡ 0) (room : storeShort c (n ∷ []) 1 ≡ false) where
   -- one growing pass
-  ready-finish : (e : State) → Ready n c e → Ready n c (finish (growPass e n) n)
+  ready-finish : (e : State) → Ready n c e → Ready n c (finishPass (growPass e n) n)
   ready-finish e r =
       let p : Passed n c e = r .passed in
-      let d : State = finish (growPass e n) n in
-      let q : Passed n e d = subst (λ w. Passed n e (finish w n)) (one-up e n up refl) (one-passed e n up) in
+      let d : State = finishPass (growPass e n) n in
+      let q : Passed n e d = subst (λ w. Passed n e (finishPass w n)) (one-up e n up refl) (one-passed e n up) in
       let v : vertexCount e ≡ vertexCount c = ap (λ (g : Graph). length (g .virtual)) (p .graph) in
       let s : sideCount e ≡ sideCount c = ap (λ (g : Graph). length (g .end)) (p .graph) in
       let m : nodeCount e ≡ nodeCount c = ap (λ (l : List ℕ). length l) (p .growState) in
@@ -64,8 +66,8 @@ module _ (c : State) (z : Shape c) (h : sound c ≡ true) (v1 : 1 ≤ vertexCoun
       let limit : d .storeLimit ≡ e .storeLimit = q .storeLimit in
       record { shape = shape-passed n e d q (r .shape); sounds = grow-pass-sound e (r .shape) (r .sounds) v′ n b′ o′ (omega arith); passed = t }
 
-  ready-step : (e : State) → Ready n c e → Ready n c (passCard e n up)
-  ready-step e r = subst (λ w. Ready n c (finish w n)) (sym (one-up e n up refl)) (ready-finish e r)
+  ready-step : (e : State) → Ready n c e → Ready n c (passState e n up)
+  ready-step e r = subst (λ w. Ready n c (finishPass w n)) (sym (one-up e n up refl)) (ready-finish e r)
 
   pub prepare-up-ready : Ready n c (prepareNode c n up .state)
   prepare-up-ready =

@@ -1,1 +1,17 @@
-// The definitions are in specs/.
+// The calls of the dual module, with their refusals. What each answers is defined in specs/.
+
+// What a call answers: the Rust's MaxUpdateLength first, then what the other calls say. Nodes and vertices are plain numbers.
+pub enum Answer {
+    NonZeroGrow(i64, bool), // the node may grow so far; whether its boundary is empty
+    Unlimited(bool), // NonZeroGrow of Weight::MAX: no limit; whether the boundary is empty
+    Conflicting(usize, usize, usize, usize), // peer, its grandson, node, grandson
+    TouchingVirtual(usize, usize, usize), // node, grandson, the virtual vertex met
+    BlossomNeedExpand(usize), // a blossom of dual variable 0
+    VertexShrinkStop(usize), // a defect of dual variable 0
+    VertexShrinkStopPeer(usize, usize, usize), // the same, with a Grow peer and its grandson
+    Done,
+    Node(usize), // the number of the new node
+    Prepared(usize), // how many passes
+    Vertex(usize), // the representative vertex
+    Refused(usize), // the number of the refusal
+}

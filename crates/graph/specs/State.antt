@@ -56,6 +56,23 @@ pub record State : Type 0 where
   pub nodeLimit : ℕ  -- N
   pub storeLimit : ℕ  -- L
 
+-- ---- grow states and directions
+
+abbrev pub stay : ℕ
+stay = 0
+
+abbrev pub growing : ℕ
+growing = 1
+
+abbrev pub shrinking : ℕ
+shrinking = 2
+
+abbrev pub down : ℕ
+down = 0
+
+abbrev pub up : ℕ
+up = 1
+
 -- ---- sides and edges
 
 -- the edge of a side

@@ -13,7 +13,7 @@ use Rattle.graph.specs.Basic.{if_then_else_, fold, member}
 use Rattle.graph.specs.State.{State, Vertices, Overgrown, opposite, endAt, growthAt, holderAt, grandsonAt, sidesAt, vertexHolderAt, defectAt, boundaryOf, overgrownOf, weightOver, withVertices, withSides, withNodes, withHolder, withGrandson, withVertexHolder, withVertexGrandson, withBoundary, withOvergrown, heldSide, freeSide, heldVertex, freeVertex}
 use Rattle.graph.specs.Laws.{if-both, if-cases, fold-keeps, Kept}
 use Rattle.graph.specs.Members.{by-test}
-use Rattle.pass.specs.Work.{Work, onState, keep, keepOnce, note, push, call, start, finish}
+use Rattle.pass.specs.Work.{Work, onState, keep, keepOnce, note, push, callAnother, startPass, finishPass}
 use Rattle.pass.specs.Grow.{reaches, growStep, takeSide, takeVertex, takeStep, growScanned, growPass}
 use Rattle.pass.specs.Shrink.{emptyTops, belowTops, dropSide, dropStep, shrinkStep, closed, releaseSide, releaseStep, dropped, shrinkScanned, shrinkPass}
 use Rattle.pass.specs.Laws.{Keeps, keeps-take-step, grow-scanned-keeps, grow-pass-keeps}
@@ -72,7 +72,7 @@ module _ (x : Vertices) where
   same-keep-once w s p = if-both (Same x) (member s (w .kept)) p p
 
   same-take-side : (n g : ℕ) (w : Work) (t : ℕ) → Same x w → Same x (takeSide n g w t)
-  unfolding takeSide call keep onState heldSide withGrandson withHolder withSides
+  unfolding takeSide callAnother keep onState heldSide withGrandson withHolder withSides
   same-take-side n g w t p = if-both (Same x) (eqb (holderAt (w .state) t) 0) p p
 
   same-free-side : (w : Work) (t : ℕ) → Same x w → Same x (onState w (freeSide (w .state) t))
@@ -80,11 +80,11 @@ module _ (x : Vertices) where
   same-free-side w t p = p
 
   same-drop-side : (w : Work) (t : ℕ) → Same x w → Same x (dropSide w t)
-  unfolding dropSide call
+  unfolding dropSide callAnother
   same-drop-side w t p = same-keep-once _ (opposite t) (same-free-side w t p)
 
   same-release-side : (n : ℕ) (w : Work) (t : ℕ) → Same x w → Same x (releaseSide n w t)
-  unfolding releaseSide call
+  unfolding releaseSide callAnother
   same-release-side n w t p = if-both (Same x) (closed n (w .state) t) (same-keep-once _ (opposite t) (same-free-side w t p)) (same-free-side w t p)
 
 -- ---- growing
@@ -130,7 +130,7 @@ taking-step : (c : State) (n : ℕ) → EndsIn c → (w : Work) (s : ℕ) → Ta
 taking-step c n ends w s p = record { keeps = keeps-take-step c n w s (p .keeps); fewer = fewer-take-step c n ends w s p }
 
 pub grow-pass-fewer : (c : State) (n : ℕ) → EndsIn c → freeCount (growPass c n .state) + one (growPass c n .another) ≤ freeCount c
-unfolding growPass growScanned start one
+unfolding growPass growScanned startPass one
 grow-pass-fewer c n ends =
     let scanned : Fewer (freeCount c) (growScanned c n) = fold-keeps (growStep n) (Fewer (freeCount c)) (fewer-grow-step (freeCount c) n) _ (boundaryOf c n) (omega arith) in
     let t : Taking c (growPass c n) = fold-keeps (takeStep n) (Taking c) (taking-step c n ends) (growScanned c n) (growScanned c n .noted) (record { keeps = grow-scanned-keeps c n; fewer = scanned }) in
@@ -173,7 +173,7 @@ more-release-step z n w v p =
     (fold-keeps (releaseSide n) (Same (first .state .vertices)) (same-release-side (first .state .vertices) n) first (sidesAt (w .state) v) refl) p)
 
 pub shrink-pass-more : (c : State) (n : ℕ) → freeCount c + one (shrinkPass c n .another) ≤ freeCount (shrinkPass c n .state)
-unfolding shrinkPass shrinkScanned dropped start one
+unfolding shrinkPass shrinkScanned dropped startPass one
 shrink-pass-more c n =
     let d : More (freeCount c) (dropped c n) = fold-keeps (dropStep n) (More (freeCount c)) (more-drop-step (freeCount c) n) _ (emptyTops (overgrownOf c n)) (omega arith) in
     let s : More (freeCount c) (shrinkScanned c n) = fold-keeps shrinkStep (More (freeCount c)) (more-shrink-step (freeCount c)) (dropped c n) (boundaryOf c n) d in

@@ -19,7 +19,7 @@ use Rattle.graph.specs.Members.{by-test, clash, all-middle, all-snoc, all-weake
 use Rattle.graph.specs.Open.{dualLimit}
 use Rattle.graph.specs.Sound.{overSound, sound}
 use Rattle.graph.specs.Shape.{Shape, SoundNode, node-facts, sound-node, OwnLists, own-facts, sound-end, sound-sides}
-use Rattle.pass.specs.Work.{Work, onState, keep, keepOnce, note, push, call, start, finish}
+use Rattle.pass.specs.Work.{Work, onState, keep, keepOnce, note, push, callAnother, startPass, finishPass}
 use Rattle.pass.specs.Grow.{reaches, growStep, takeSide, takeVertex, takeStep, growScanned, growPass}
 use Rattle.pass.specs.Shrink.{emptyTops, belowTops, dropSide, dropStep, shrinkStep, closed, releaseSide, releaseStep, dropped, shrinkScanned, shrinkPass}
 use Rattle.pass.specs.Laws.{Keeps, keeps-take-side, keeps-take-step, keeps-on, grow-scanned-keeps}
@@ -98,10 +98,10 @@ own-grow-step n m w s r o =
     (rw append-assoc o)
 
 pub grow-scanned-own : (c : State) (n m : ℕ) → OwnSides n m c (boundaryOf c n) → OwnSides n m (growScanned c n .state) (growScanned c n .kept)
-unfolding growScanned start
+unfolding growScanned startPass
 grow-scanned-own c n m o =
     subst (OwnSides n m (growScanned c n .state)) (append-nil (growScanned c n .kept))
-    (fold-keeps-rest (growStep n) (λ (w : Work) (r : List ℕ). OwnSides n m (w .state) (w .kept ++ r)) (own-grow-step n m) (start c (overgrownOf c n)) (boundaryOf c n) o)
+    (fold-keeps-rest (growStep n) (λ (w : Work) (r : List ℕ). OwnSides n m (w .state) (w .kept ++ r)) (own-grow-step n m) (startPass c (overgrownOf c n)) (boundaryOf c n) o)
 
 -- every side at a vertex is one of the m sides, of which each has a holder; every end is one of the k vertices
 pub record Sized (m k : ℕ) (c : State) : Type 0 where
@@ -130,7 +130,7 @@ pub record Taken (n m k : ℕ) (c : State) (w : Work) : Type 0 where
   pub over : OwnOver n k (w .state) (w .over)
 
 own-take-side : (n m g : ℕ) (w : Work) (t : ℕ) → length (w .state .sides .holder) ≡ m → ltb t m ≡ true → OwnSides n m (w .state) (w .kept) → OwnSides n m (takeSide n g w t .state) (takeSide n g w t .kept)
-unfolding takeSide call keep onState
+unfolding takeSide callAnother keep onState
 own-take-side n m g w t len b o =
     let lt : t < m = ltb-true t m b in
     if-cases (λ (x : Work). OwnSides n m (x .state) (x .kept)) (eqb (holderAt (w .state) t) 0)
@@ -142,7 +142,7 @@ abbrev Still : Vertices → List Overgrown → Work → Type 0
 Still x o w = (w .state .vertices ≡ x) × (w .over ≡ o)
 
 still-take-side : (x : Vertices) (o : List Overgrown) (n g : ℕ) (w : Work) (t : ℕ) → Still x o w → Still x o (takeSide n g w t)
-unfolding takeSide call keep onState heldSide withGrandson withHolder withSides
+unfolding takeSide callAnother keep onState heldSide withGrandson withHolder withSides
 still-take-side x o n g w t p = if-both (Still x o) (eqb (holderAt (w .state) t) 0) p p
 
 -- the loop over the sides of a taken vertex
@@ -195,7 +195,7 @@ unfolding growStep note keep onState heldSide withGrandson withHolder withSides
 still-grow-step x o n w s p = if-both (Still x o) (reaches (w .state) s) p p
 
 pub grow-pass-taken : (c : State) (n m k : ℕ) → Sized m k c → OwnSides n m c (boundaryOf c n) → OwnOver n k c (overgrownOf c n) → Taken n m k c (growPass c n)
-unfolding growPass growScanned start
+unfolding growPass growScanned startPass
 grow-pass-taken c n m k z o q =
     let still : Still (c .vertices) (overgrownOf c n) (growScanned c n) = fold-keeps (growStep n) (Still (c .vertices) (overgrownOf c n)) (still-grow-step (c .vertices) (overgrownOf c n) n) _ (boundaryOf c n) (refl, refl) in
     let over : OwnOver n k (growScanned c n .state) (growScanned c n .over) = subst₂ (λ (x : Vertices) (l : List Overgrown). OwnStack n k x (stacked l)) (sym (still .0)) (sym (still .1)) q in
@@ -220,10 +220,10 @@ count-grow-step n k w s r e =
     (omega (arith, length-append (w .kept) (s ∷ [])))
 
 pub grow-scanned-count : (c : State) (n : ℕ) → length (growScanned c n .kept) + length (growScanned c n .noted) ≡ length (boundaryOf c n)
-unfolding growScanned start
+unfolding growScanned startPass
 grow-scanned-count c n =
     let k : ℕ = length (boundaryOf c n) in
-    let e : length (growScanned c n .kept) + length (growScanned c n .noted) + 0 ≡ k = fold-keeps-rest (growStep n) (λ (w : Work) (r : List ℕ). length (w .kept) + length (w .noted) + length r ≡ k) (count-grow-step n k) (start c (overgrownOf c n)) (boundaryOf c n) (omega arith) in
+    let e : length (growScanned c n .kept) + length (growScanned c n .noted) + 0 ≡ k = fold-keeps-rest (growStep n) (λ (w : Work) (r : List ℕ). length (w .kept) + length (w .noted) + length r ≡ k) (count-grow-step n k) (startPass c (overgrownOf c n)) (boundaryOf c n) (omega arith) in
     omega arith
 
 -- ---- a shrinking pass: nothing is kept twice
@@ -242,8 +242,8 @@ listed-keep-once e c w s b p =
     (λ h. p)
     (λ h. record { keeps = p .keeps; inside = all-snoc (λ t. ltb t (2 * e)) (w .kept) s (p .inside) (lt-ltb s (2 * e) b); once = distinct-snoc (w .kept) s (p .once) h })
 
-listed-call : (e : ℕ) (c : State) (w : Work) (t : Bool) → Listed e c w → Listed e c (call w t)
-unfolding call
+listed-call : (e : ℕ) (c : State) (w : Work) (t : Bool) → Listed e c w → Listed e c (callAnother w t)
+unfolding callAnother
 listed-call e c w t p = record { keeps = p .keeps; inside = p .inside; once = p .once }
 
 listed-on : (e : ℕ) (c : State) (w : Work) (d : State) → Kept (w .state) d → Listed e c w → Listed e c (onState w d)
@@ -288,8 +288,8 @@ module _ (e n : ℕ) (c : State) (sides : (v : ℕ) → all (λ t. ltb t (2 * e)
       (fold-keeps-on (releaseSide n) (λ t. ltb t (2 * e)) (Listed e c) listed-release-side (onState w (freeVertex (w .state) v)) (sidesAt (w .state) v) (sides-kept (2 * e) c (w .state) (p .keeps) sides v) (listed-on e c w _ (kept-free-vertex (w .state) v) p))
 
   pub dropped-listed : Listed e c (dropped c n)
-  unfolding dropped start all distinct
-  dropped-listed = fold-keeps (dropStep n) (Listed e c) listed-drop-step (start c (belowTops (overgrownOf c n))) (emptyTops (overgrownOf c n)) (record { keeps = kept-refl c; inside = refl; once = refl })
+  unfolding dropped startPass all distinct
+  dropped-listed = fold-keeps (dropStep n) (Listed e c) listed-drop-step (startPass c (belowTops (overgrownOf c n))) (emptyTops (overgrownOf c n)) (record { keeps = kept-refl c; inside = refl; once = refl })
 
   module _ (boundary : all (λ s. ltb s (2 * e)) (boundaryOf c n) ≡ true) where
     pub shrink-scanned-listed : Listed e c (shrinkScanned c n)
@@ -313,7 +313,7 @@ unfolding keepOnce keep
 noted-keep-once l w s p = if-both (Noted l) (member s (w .kept)) p p
 
 noted-drop-side : (l : List ℕ) (w : Work) (t : ℕ) → Noted l w → Noted l (dropSide w t)
-unfolding dropSide call
+unfolding dropSide callAnother
 noted-drop-side l w t p = noted-keep-once l (onState w (freeSide (w .state) t)) (opposite t) (unfold onState in p)
 
 noted-drop-step : (n : ℕ) (l : List ℕ) (w : Work) (v : ℕ) → Noted l w → Noted l (dropStep n w v)
@@ -331,7 +331,7 @@ pub shrink-noted-le : (c : State) (n : ℕ) → length (shrinkScanned c n .noted
 unfolding shrinkScanned
 shrink-noted-le c n =
     let k : ℕ = length (boundaryOf c n) in
-    let none : dropped c n .noted ≡ [] = unfold dropped start in (fold-keeps (dropStep n) (Noted []) (noted-drop-step n []) (start c (belowTops (overgrownOf c n))) (emptyTops (overgrownOf c n)) refl) in
+    let none : dropped c n .noted ≡ [] = unfold dropped startPass in (fold-keeps (dropStep n) (Noted []) (noted-drop-step n []) (startPass c (belowTops (overgrownOf c n))) (emptyTops (overgrownOf c n)) refl) in
     let h : length (shrinkScanned c n .noted) + 0 ≤ k = fold-keeps-rest shrinkStep (λ (w : Work) (r : List ℕ). length (w .noted) + length r ≤ k) (count-shrink-step k) (dropped c n) (boundaryOf c n) (rw none (omega arith)) in
     omega arith
 
@@ -349,7 +349,7 @@ unfolding keepOnce keep
 stack-keep-once o w s p = if-both (Stack o) (member s (w .kept)) p p
 
 stack-drop-side : (o : List Overgrown) (w : Work) (t : ℕ) → Stack o w → Stack o (dropSide w t)
-unfolding dropSide call
+unfolding dropSide callAnother
 stack-drop-side o w t p = stack-keep-once o (onState w (freeSide (w .state) t)) (opposite t) (unfold onState in p)
 
 stack-drop-step : (n : ℕ) (o : List Overgrown) (w : Work) (v : ℕ) → Stack o w → Stack o (dropStep n w v)
@@ -361,7 +361,7 @@ unfolding shrinkStep note
 stack-shrink-step o w s p = if-both (Stack o) (eqb (growthAt (w .state) s) 0 && eqb (defectAt (w .state) (endAt (w .state) s)) 0) p (stack-keep-once o w s p)
 
 stack-release-side : (n : ℕ) (o : List Overgrown) (w : Work) (t : ℕ) → Stack o w → Stack o (releaseSide n w t)
-unfolding releaseSide call onState
+unfolding releaseSide callAnother onState
 stack-release-side n o w t p = if-both (Stack o) (closed n (w .state) t) (stack-keep-once o (onState w (freeSide (w .state) t)) (opposite t) p) p
 
 stack-release-step : (n : ℕ) (o : List Overgrown) (w : Work) (v : ℕ) → Stack o w → Stack o (releaseStep n w v)
@@ -369,10 +369,10 @@ unfolding releaseStep
 stack-release-step n o w v p = if-both (Stack o) (eqb (vertexHolderAt (w .state) v) 0) p (fold-keeps (releaseSide n) (Stack o) (stack-release-side n o) (onState w (freeVertex (w .state) v)) (sidesAt (w .state) v) (unfold onState in p))
 
 pub shrink-over : (c : State) (n : ℕ) → shrinkPass c n .over ≡ belowTops (overgrownOf c n)
-unfolding shrinkPass shrinkScanned dropped start
+unfolding shrinkPass shrinkScanned dropped startPass
 shrink-over c n =
     let o : List Overgrown = belowTops (overgrownOf c n) in
-    let d : Stack o (dropped c n) = fold-keeps (dropStep n) (Stack o) (stack-drop-step n o) (start c o) (emptyTops (overgrownOf c n)) refl in
+    let d : Stack o (dropped c n) = fold-keeps (dropStep n) (Stack o) (stack-drop-step n o) (startPass c o) (emptyTops (overgrownOf c n)) refl in
     let s : Stack o (shrinkScanned c n) = fold-keeps shrinkStep (Stack o) (stack-shrink-step o) (dropped c n) (boundaryOf c n) d in
     fold-keeps (releaseStep n) (Stack o) (stack-release-step n o) (shrinkScanned c n) (shrinkScanned c n .noted) s
 

@@ -6,7 +6,7 @@ use lib.Dec.{eqb}
 use lib.ListN.{length}
 use Rattle.graph.specs.Basic.{if_then_else_, fold}
 use Rattle.graph.specs.State.{State, opposite, endAt, holderAt, grandsonAt, sidesAt, virtualAt, vertexHolderAt, boundaryOf, overgrownOf, grownOver, weightOver, heldSide, heldVertex}
-use Rattle.pass.specs.Work.{Work, onState, keep, note, push, call, start, finish}
+use Rattle.pass.specs.Work.{Work, onState, keep, note, push, callAnother, startPass, finishPass}
 
 -- the edge of side s is full, its far side is free, and the far vertex is not virtual
 unfoldable pub reaches : State → ℕ → Bool
@@ -18,7 +18,7 @@ growStep n w s = if reaches (w .state) s then note (onState w (heldSide (w .stat
 
 -- a side t at a vertex that is being taken: if free, it is held and kept, and calls for another pass where its edge has weight 0
 unfoldable pub takeSide : ℕ → ℕ → Work → ℕ → Work
-takeSide n g w t = if eqb (holderAt (w .state) t) 0 then call (keep (onState w (heldSide (w .state) t n g)) t) (eqb (weightOver (w .state) t) 0) else w
+takeSide n g w t = if eqb (holderAt (w .state) t) 0 then callAnother (keep (onState w (heldSide (w .state) t n g)) t) (eqb (weightOver (w .state) t) 0) else w
 
 -- a vertex v is taken, with its free sides; without any it is overgrown
 unfoldable pub takeVertex : ℕ → ℕ → Work → ℕ → Work
@@ -35,7 +35,7 @@ takeStep n w s =
 
 -- the pass: over the boundary, then over what was noted
 unfoldable pub growScanned : State → ℕ → Work
-growScanned c n = fold (growStep n) (start c (overgrownOf c n)) (boundaryOf c n)
+growScanned c n = fold (growStep n) (startPass c (overgrownOf c n)) (boundaryOf c n)
 
 unfoldable pub growPass : State → ℕ → Work
 growPass c n = let w : Work = growScanned c n in fold (takeStep n) w (w .noted)

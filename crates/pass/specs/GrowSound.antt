@@ -18,7 +18,7 @@ use Rattle.graph.specs.Laws.{if-both, if-cases, and-left, and-right, fold-keeps
 use Rattle.graph.specs.Members.{by-test, clash, both, all-weaker, all-map, all-unmap, all-both, all-snoc, all-first, all-others, all-right, all-member}
 use Rattle.graph.specs.Shape.{Shape, SoundEdge, SoundVertex, SoundSide, SoundNode, OwnLists, own-facts}
 use Rattle.graph.specs.Sounds.{Sound, sound-facts, sound-test, own-test}
-use Rattle.pass.specs.Work.{Work, onState, keep, note, push, call, start, finish}
+use Rattle.pass.specs.Work.{Work, onState, keep, note, push, callAnother, startPass, finishPass}
 use Rattle.pass.specs.Grow.{reaches, growStep, takeSide, takeVertex, takeStep, growScanned, growPass}
 use Rattle.pass.specs.Laws.{Keeps, keeps-grow-step, keeps-take-side, keeps-take-step, grow-scanned-keeps, grow-pass-keeps, Passed, finish-passed}
 use Rattle.pass.specs.Fits.{Own, OwnSides, OwnOver, Holds, Taken, Sized, side-holds, own-grow-step, grow-pass-taken, sound-sized, sound-own-sides, sound-own-over, sound-grow-taken, sound-grow-fits}
@@ -107,7 +107,7 @@ module _ (c : State) (p : Paired c) (n : ℕ) (b : n < nodeCount c) (g : ℕ) (o
 
   -- the sides at a taken vertex
   grown-take-side : (w : Work) (t : ℕ) → Grown c (w .state) → Grown c (takeSide n g w t .state)
-  unfolding takeSide call keep onState
+  unfolding takeSide callAnother keep onState
   grown-take-side w t q = if-cases (λ (x : Work). Grown c (x .state)) (eqb (holderAt (w .state) t) 0) (λ e. grown-side (w .state) t (eqb-true _ _ e) q) (λ e. q)
 
   pub grown-take-vertex : (w : Work) (v : ℕ) → vertexHolderAt (w .state) v ≡ 0 → Grown c (w .state) → Grown c (takeVertex n g w v .state)
@@ -157,8 +157,8 @@ module _ (c : State) (p : Paired c) (n m : ℕ) (b : n < nodeCount c) where
   scanning-step w s r q = record { grown = scanning-grown w s r q; own = own-grow-step n m w s r (q .own); noted = scanning-noted w s r q }
 
   pub grow-scanned-grown : Grown c c → OwnSides n m c (boundaryOf c n) → Scanning n m c (growScanned c n) []
-  unfolding growScanned start all
-  grow-scanned-grown g o = fold-keeps-rest (growStep n) (Scanning n m c) scanning-step (start c (overgrownOf c n)) (boundaryOf c n) (record { grown = g; own = o; noted = refl })
+  unfolding growScanned startPass all
+  grow-scanned-grown g o = fold-keeps-rest (growStep n) (Scanning n m c) scanning-step (startPass c (overgrownOf c n)) (boundaryOf c n) (record { grown = g; own = o; noted = refl })
 
 -- over what was noted, with what is still to come
 pub record Takings (c : State) (n : ℕ) (w : Work) (r : List ℕ) : Type 0 where
@@ -167,7 +167,7 @@ pub record Takings (c : State) (n : ℕ) (w : Work) (r : List ℕ) : Type 0 wher
   pub amounts : all (λ (o : Overgrown). leb (o .amount) dualLimit) (w .over) ≡ true
 
 holds-take-side : (n g : ℕ) (c : State) (w : Work) (t : ℕ) → Holds n (holderAt c) (holderAt (w .state)) → Holds n (holderAt c) (holderAt (takeSide n g w t .state))
-unfolding takeSide call keep onState
+unfolding takeSide callAnother keep onState
 holds-take-side n g c w t h = if-both (λ (x : Work). Holds n (holderAt c) (holderAt (x .state))) (eqb (holderAt (w .state) t) 0) (λ s e. side-holds (w .state) t n g s (h s e)) h
 
 holds-take-vertex : (n g : ℕ) (w : Work) (v : ℕ) → Holds n (holderAt (w .state)) (holderAt (takeVertex n g w v .state))
@@ -182,7 +182,7 @@ abbrev Amounts : Work → Type 0
 Amounts w = all (λ (o : Overgrown). leb (o .amount) dualLimit) (w .over) ≡ true
 
 amounts-take-side : (n g : ℕ) (w : Work) (t : ℕ) → Amounts w → Amounts (takeSide n g w t)
-unfolding takeSide call keep onState
+unfolding takeSide callAnother keep onState
 amounts-take-side n g w t h = if-both Amounts (eqb (holderAt (w .state) t) 0) h h
 
 amounts-take-vertex : (n g : ℕ) (w : Work) (v : ℕ) → Amounts w → Amounts (takeVertex n g w v)
@@ -217,7 +217,7 @@ module _ (c : State) (p : Paired c) (n m : ℕ) (b : n < nodeCount c) where
   unfolding growPass
   grow-pass-grown g o a =
       let s : Scanning n m c (growScanned c n) [] = grow-scanned-grown c p n m b g o in
-      let h : Amounts (growScanned c n) = unfold growScanned start in (fold-keeps (growStep n) Amounts (amounts-grow-step n) (start c (overgrownOf c n)) (boundaryOf c n) a) in
+      let h : Amounts (growScanned c n) = unfold growScanned startPass in (fold-keeps (growStep n) Amounts (amounts-grow-step n) (startPass c (overgrownOf c n)) (boundaryOf c n) a) in
       fold-keeps-rest (takeStep n) (Takings c n) takings-step (growScanned c n) (growScanned c n .noted) (record { grown = s .grown; rest = s .noted; amounts = h })
 
 -- ---- a sound state
@@ -247,55 +247,55 @@ sound-grown c z f = record {
     out : (t : ℕ) → (t < sideCount c → ⊥) → length (c .sides .holder) ≤ t
     out t b = omega (arith, z .holder)
 
-finish-boundary : (w : Work) (n : ℕ) → n < length (w .state .nodes .boundary) → boundaryOf (finish w n) n ≡ w .kept
-unfolding finish withOvergrown withBoundary withNodes
+finish-boundary : (w : Work) (n : ℕ) → n < length (w .state .nodes .boundary) → boundaryOf (finishPass w n) n ≡ w .kept
+unfolding finishPass withOvergrown withBoundary withNodes
 finish-boundary w n b = getD-set-same (w .state .nodes .boundary) n (w .kept) [] b
 
-finish-overgrown : (w : Work) (n : ℕ) → n < length (w .state .nodes .overgrown) → overgrownOf (finish w n) n ≡ w .over
-unfolding finish withOvergrown withBoundary withNodes
+finish-overgrown : (w : Work) (n : ℕ) → n < length (w .state .nodes .overgrown) → overgrownOf (finishPass w n) n ≡ w .over
+unfolding finishPass withOvergrown withBoundary withNodes
 finish-overgrown w n b = getD-set-same (w .state .nodes .overgrown) n (w .over) [] b
 
 -- the finished state is sound, if the pass took only what was free and its lists are the node's own
 module _ (c : State) (z : Shape c) (f : Sound c) (n : ℕ) (b : n < nodeCount c) (w : Work) (grown : Grown c (w .state)) (own : OwnSides n (sideCount c) (w .state) (w .kept)) (over : OwnOver n (vertexCount c) (w .state) (w .over)) (amounts : all (λ (o : Overgrown). leb (o .amount) dualLimit) (w .over) ≡ true) where
-  left-alone : Passed n c (finish w n)
+  left-alone : Passed n c (finishPass w n)
   left-alone = finish-passed n c w (grown .keeps)
 
-  boundary-now : boundaryOf (finish w n) n ≡ w .kept
+  boundary-now : boundaryOf (finishPass w n) n ≡ w .kept
   boundary-now = finish-boundary w n (rw (grown .keeps .nodes, z .boundary) b)
 
-  overgrown-now : overgrownOf (finish w n) n ≡ w .over
+  overgrown-now : overgrownOf (finishPass w n) n ≡ w .over
   overgrown-now = finish-overgrown w n (rw (grown .keeps .nodes, z .overgrown) b)
 
-  sides-count : sideCount (finish w n) ≡ sideCount c
+  sides-count : sideCount (finishPass w n) ≡ sideCount c
   sides-count = ap (λ (g : Graph). length (g .end)) (left-alone .graph)
 
-  vertices-count : vertexCount (finish w n) ≡ vertexCount c
+  vertices-count : vertexCount (finishPass w n) ≡ vertexCount c
   vertices-count = ap (λ (g : Graph). length (g .virtual)) (left-alone .graph)
 
-  stored-same : (g : ℕ) → storedDefect (finish w n) g ≡ storedDefect c g
+  stored-same : (g : ℕ) → storedDefect (finishPass w n) g ≡ storedDefect c g
   unfolding storedDefect
   stored-same g = rw (left-alone .growState, left-alone .class)
 
-  place-same : (m : ℕ) (x : NodeClass) → classSound (finish w n) m x ≡ classSound c m x
+  place-same : (m : ℕ) (x : NodeClass) → classSound (finishPass w n) m x ≡ classSound c m x
   unfolding classSound
   place-same m (defectVertex v) = rw vertices-count
   place-same m (blossom k) = refl
 
-  parent-same : (m : ℕ) → parentSound (finish w n) m ≡ parentSound c m
+  parent-same : (m : ℕ) → parentSound (finishPass w n) m ≡ parentSound c m
   unfolding parentSound nodeOrNone
   parent-same m = rw (left-alone .parent, left-alone .growState)
 
-  over-same : (o : Overgrown) → overSound c o ≡ true → overSound (finish w n) o ≡ true
+  over-same : (o : Overgrown) → overSound c o ≡ true → overSound (finishPass w n) o ≡ true
   unfolding overSound
   over-same o h = rw vertices-count h
 
-  passed-edge : (e : ℕ) → e < edgeCount (finish w n) → SoundEdge (finish w n) e
+  passed-edge : (e : ℕ) → e < edgeCount (finishPass w n) → SoundEdge (finishPass w n) e
   passed-edge e h =
       let q : SoundEdge c e = f .edge e (rw (left-alone .graph) at h) in
       record { left = rw (left-alone .graph) (q .left); right = rw (left-alone .graph) (q .right); differ = rw (left-alone .graph) (q .differ); weight = rw (left-alone .graph) (q .weight) }
 
-  passed-vertex : (v : ℕ) → v < vertexCount (finish w n) → SoundVertex (finish w n) v
-  unfolding finish withOvergrown withBoundary withNodes
+  passed-vertex : (v : ℕ) → v < vertexCount (finishPass w n) → SoundVertex (finishPass w n) v
+  unfolding finishPass withOvergrown withBoundary withNodes
   passed-vertex v h =
       let q : SoundVertex c v = f .vertex v (rw (left-alone .graph) at h) in
       record {
@@ -306,8 +306,8 @@ module _ (c : State) (z : Shape c) (f : Sound c) (n : ℕ) (b : n < nodeCount c)
         sides = rw (left-alone .graph) (q .sides);
       }
 
-  passed-side : (s : ℕ) → s < sideCount (finish w n) → SoundSide (finish w n) s
-  unfolding finish withOvergrown withBoundary withNodes
+  passed-side : (s : ℕ) → s < sideCount (finishPass w n) → SoundSide (finishPass w n) s
+  unfolding finishPass withOvergrown withBoundary withNodes
   passed-side s h =
       let q : SoundSide c s = f .side s (rw (left-alone .graph) at h) in
       record {
@@ -318,8 +318,8 @@ module _ (c : State) (z : Shape c) (f : Sound c) (n : ℕ) (b : n < nodeCount c)
       }
 
   -- the lists of node n, and of every other node
-  own-here : OwnLists (finish w n) n
-  unfolding finish withOvergrown withBoundary withNodes
+  own-here : OwnLists (finishPass w n) n
+  unfolding finishPass withOvergrown withBoundary withNodes
   own-here = record {
     sides-once = rw boundary-now (own .once);
     vertices-once = rw overgrown-now (over .once);
@@ -327,8 +327,8 @@ module _ (c : State) (z : Shape c) (f : Sound c) (n : ℕ) (b : n < nodeCount c)
     vertices-held = rw overgrown-now (all-unmap (λ v. eqb (vertexHolderAt (w .state) v) (n + 1)) (λ (o : Overgrown). o .vertex) (w .over) (over .held));
   }
 
-  own-there : (m : ℕ) → m ≢ n → OwnLists c m → OwnLists (finish w n) m
-  unfolding finish withOvergrown withBoundary withNodes
+  own-there : (m : ℕ) → m ≢ n → OwnLists c m → OwnLists (finishPass w n) m
+  unfolding finishPass withOvergrown withBoundary withNodes
   own-there m ne q = record {
     sides-once = rw (left-alone .boundaries m ne) (q .sides-once);
     vertices-once = rw (left-alone .overgrowns m ne) (q .vertices-once);
@@ -336,20 +336,20 @@ module _ (c : State) (z : Shape c) (f : Sound c) (n : ℕ) (b : n < nodeCount c)
     vertices-held = rw (left-alone .overgrowns m ne) (all-weaker (λ (o : Overgrown). eqb (vertexHolderAt c (o .vertex)) (m + 1)) (λ (o : Overgrown). eqb (vertexHolderAt (w .state) (o .vertex)) (m + 1)) (λ o e. eq-eqb _ _ (grown .vstays (o .vertex) m (eqb-true _ _ e))) (overgrownOf c m) (q .vertices-held));
   }
 
-  over-here : all (overSound (finish w n)) (w .over) ≡ true
+  over-here : all (overSound (finishPass w n)) (w .over) ≡ true
   unfolding overSound
   over-here =
-      all-weaker (overSound c) (overSound (finish w n)) over-same (w .over)
+      all-weaker (overSound c) (overSound (finishPass w n)) over-same (w .over)
       (all-both (λ (o : Overgrown). ltb (o .vertex) (vertexCount c)) (λ (o : Overgrown). leb (o .amount) dualLimit) (w .over) (all-unmap (λ v. ltb v (vertexCount c)) (λ (o : Overgrown). o .vertex) (w .over) (over .inside)) amounts)
 
-  passed-node : (m : ℕ) → m < nodeCount (finish w n) → SoundNode (finish w n) m
+  passed-node : (m : ℕ) → m < nodeCount (finishPass w n) → SoundNode (finishPass w n) m
   passed-node m h =
       let q : SoundNode c m = f .node m (rw (left-alone .growState) at h) in
-      let class : classSound (finish w n) m (classOf (finish w n) m) ≡ true = ap (λ (l : List NodeClass). classSound (finish w n) m (getD l m (defectVertex 0))) (left-alone .class) ∙ place-same m (classOf c m) ∙ q .class in
-      let growState : growStateOf (finish w n) m ≤ 2 = rw (left-alone .growState) (q .growState) in
-      let parent : parentSound (finish w n) m ≡ true = parent-same m ∙ q .parent in
-      let dual : dualOf (finish w n) m ≤ dualLimit = rw (left-alone .dual) (q .dual) in
-      let outer : parentOf (finish w n) m ≡ 0 → parentOf c m ≡ 0 = λ e. rw (left-alone .parent) at e in
+      let class : classSound (finishPass w n) m (classOf (finishPass w n) m) ≡ true = ap (λ (l : List NodeClass). classSound (finishPass w n) m (getD l m (defectVertex 0))) (left-alone .class) ∙ place-same m (classOf c m) ∙ q .class in
+      let growState : growStateOf (finishPass w n) m ≤ 2 = rw (left-alone .growState) (q .growState) in
+      let parent : parentSound (finishPass w n) m ≡ true = parent-same m ∙ q .parent in
+      let dual : dualOf (finishPass w n) m ≤ dualLimit = rw (left-alone .dual) (q .dual) in
+      let outer : parentOf (finishPass w n) m ≡ 0 → parentOf c m ≡ 0 = λ e. rw (left-alone .parent) at e in
       elim (decEq m n) [
         | yes e ↦ record {
           class = class;
@@ -358,7 +358,7 @@ module _ (c : State) (z : Shape c) (f : Sound c) (n : ℕ) (b : n < nodeCount c)
           dual = dual;
           boundary = rw (e, boundary-now, sides-count) (own .inside);
           overgrown = rw (e, overgrown-now) over-here;
-          own = λ r. rw e (own-test (finish w n) n own-here);
+          own = λ r. rw e (own-test (finishPass w n) n own-here);
         }
         | no ne ↦ record {
           class = class;
@@ -366,12 +366,12 @@ module _ (c : State) (z : Shape c) (f : Sound c) (n : ℕ) (b : n < nodeCount c)
           parent = parent;
           dual = dual;
           boundary = rw (left-alone .boundaries m ne, sides-count) (q .boundary);
-          overgrown = rw (left-alone .overgrowns m ne) (all-weaker (overSound c) (overSound (finish w n)) over-same (overgrownOf c m) (q .overgrown));
-          own = λ r. own-test (finish w n) m (own-there m ne (own-facts c m (q .own (outer r))));
+          overgrown = rw (left-alone .overgrowns m ne) (all-weaker (overSound c) (overSound (finishPass w n)) over-same (overgrownOf c m) (q .overgrown));
+          own = λ r. own-test (finishPass w n) m (own-there m ne (own-facts c m (q .own (outer r))));
         }
       ]
 
-  pub finished-sound : entries (finish w n) ≤ c .storeLimit → Sound (finish w n)
+  pub finished-sound : entries (finishPass w n) ≤ c .storeLimit → Sound (finishPass w n)
   finished-sound store = record {
     count = rw (left-alone .growState, left-alone .nodeLimit) (f .count);
     store = omega (arith, left-alone .storeLimit);
@@ -385,7 +385,7 @@ module _ (c : State) (z : Shape c) (f : Sound c) (n : ℕ) (b : n < nodeCount c)
 
 module _ (c : State) (z : Shape c) (h : sound c ≡ true) (v1 : 1 ≤ vertexCount c) (n : ℕ) (b : n < nodeCount c) (outer : parentOf c n ≡ 0) where
   -- a growing pass over an outermost node of a sound state leaves a sound state, if its lists are within L
-  pub grow-pass-sound : entries (finish (growPass c n) n) ≤ c .storeLimit → sound (finish (growPass c n) n) ≡ true
+  pub grow-pass-sound : entries (finishPass (growPass c n) n) ≤ c .storeLimit → sound (finishPass (growPass c n) n) ≡ true
   grow-pass-sound store =
       let f : Sound c = sound-facts c h in
       let t : Taken n (sideCount c) (vertexCount c) c (growPass c n) = sound-grow-taken c z h v1 n b outer in
@@ -394,11 +394,11 @@ module _ (c : State) (z : Shape c) (h : sound c ≡ true) (v1 : 1 ≤ vertexCoun
       sound-test _ (finished-sound c z f n b (growPass c n) (g .grown) (t .own) (t .over) (g .amounts) store)
 
   -- and its lists are no longer than 2 E + V
-  pub grow-pass-entries : entriesOf (finish (growPass c n) n) n ≤ sideCount c + vertexCount c
+  pub grow-pass-entries : entriesOf (finishPass (growPass c n) n) n ≤ sideCount c + vertexCount c
   unfolding entriesOf
   grow-pass-entries =
       let fits = sound-grow-fits c z h v1 n b outer in
       let k : Kept c (growPass c n .state) = grow-pass-keeps c n in
-      let e₁ : boundaryOf (finish (growPass c n) n) n ≡ growPass c n .kept = finish-boundary (growPass c n) n (rw (k .nodes, z .boundary) b) in
-      let e₂ : overgrownOf (finish (growPass c n) n) n ≡ growPass c n .over = finish-overgrown (growPass c n) n (rw (k .nodes, z .overgrown) b) in
+      let e₁ : boundaryOf (finishPass (growPass c n) n) n ≡ growPass c n .kept = finish-boundary (growPass c n) n (rw (k .nodes, z .boundary) b) in
+      let e₂ : overgrownOf (finishPass (growPass c n) n) n ≡ growPass c n .over = finish-overgrown (growPass c n) n (rw (k .nodes, z .overgrown) b) in
       rw (e₁, e₂) (omega (arith, fits .0, fits .1))

@@ -11,7 +11,7 @@ use lib.ListN.{length, length-set}
 use Rattle.graph.specs.Basic.{if_then_else_, fold, member}
 use Rattle.graph.specs.State.{State, Overgrown, opposite, endAt, growthAt, holderAt, grandsonAt, sidesAt, vertexHolderAt, defectAt, classOf, growStateOf, parentOf, dualOf, boundaryOf, overgrownOf, weightOver, withNodes, withBoundary, withOvergrown, heldSide, freeSide, heldVertex, freeVertex}
 use Rattle.graph.specs.Laws.{if-both, fold-keeps, Kept, kept-refl, kept-trans, kept-held-side, kept-free-side, kept-held-vertex, kept-free-vertex, boundary-other, overgrown-other}
-use Rattle.pass.specs.Work.{Work, onState, keep, keepOnce, note, push, call, start, finish}
+use Rattle.pass.specs.Work.{Work, onState, keep, keepOnce, note, push, callAnother, startPass, finishPass}
 use Rattle.pass.specs.Grow.{reaches, growStep, takeSide, takeVertex, takeStep, growScanned, growPass}
 use Rattle.pass.specs.Shrink.{emptyTops, belowTops, dropSide, dropStep, shrinkStep, closed, releaseSide, releaseStep, dropped, shrinkScanned, shrinkPass}
 
@@ -37,8 +37,8 @@ module _ (c : State) where
   unfolding push
   keeps-push w v p = p
 
-  pub keeps-call : (w : Work) (t : Bool) → Keeps c w → Keeps c (call w t)
-  unfolding call
+  pub keeps-call : (w : Work) (t : Bool) → Keeps c w → Keeps c (callAnother w t)
+  unfolding callAnother
   keeps-call w t p = p
 
   pub keeps-on : (w : Work) (d : State) → Keeps c w → Kept (w .state) d → Keeps c (onState w d)
@@ -108,7 +108,7 @@ module _ (c : State) where
 -- ---- a pass before it is finished
 
 pub grow-scanned-keeps : (c : State) (n : ℕ) → Keeps c (growScanned c n)
-unfolding growScanned start
+unfolding growScanned startPass
 grow-scanned-keeps c n = fold-keeps (growStep n) (Keeps c) (keeps-grow-step c n) _ (boundaryOf c n) (kept-refl c)
 
 pub grow-pass-keeps : (c : State) (n : ℕ) → Keeps c (growPass c n)
@@ -116,7 +116,7 @@ unfolding growPass
 grow-pass-keeps c n = fold-keeps (takeStep n) (Keeps c) (keeps-take-step c n) (growScanned c n) (growScanned c n .noted) (grow-scanned-keeps c n)
 
 pub dropped-keeps : (c : State) (n : ℕ) → Keeps c (dropped c n)
-unfolding dropped start
+unfolding dropped startPass
 dropped-keeps c n = fold-keeps (dropStep n) (Keeps c) (keeps-drop-step c n) _ (emptyTops (overgrownOf c n)) (kept-refl c)
 
 pub shrink-scanned-keeps : (c : State) (n : ℕ) → Keeps c (shrinkScanned c n)
@@ -154,8 +154,8 @@ passed-refl n c = record { graph = refl; growth = refl; defect = refl; class = r
 pub passed-trans : {n : ℕ} {c d e : State} → Passed n c d → Passed n d e → Passed n c e
 passed-trans p q = record { graph = q .graph ∙ p .graph; growth = q .growth ∙ p .growth; defect = q .defect ∙ p .defect; class = q .class ∙ p .class; growState = q .growState ∙ p .growState; parent = q .parent ∙ p .parent; dual = q .dual ∙ p .dual; nodeLimit = q .nodeLimit ∙ p .nodeLimit; storeLimit = q .storeLimit ∙ p .storeLimit; boundaries = λ m h. q .boundaries m h ∙ p .boundaries m h; overgrowns = λ m h. q .overgrowns m h ∙ p .overgrowns m h; boundary = q .boundary ∙ p .boundary; overgrown = q .overgrown ∙ p .overgrown; holder = q .holder ∙ p .holder; grandson = q .grandson ∙ p .grandson; vertexHolder = q .vertexHolder ∙ p .vertexHolder; vertexGrandson = q .vertexGrandson ∙ p .vertexGrandson }
 
-pub finish-passed : (n : ℕ) (c : State) (w : Work) → Keeps c w → Passed n c (finish w n)
-unfolding finish withBoundary withOvergrown withNodes
+pub finish-passed : (n : ℕ) (c : State) (w : Work) → Keeps c w → Passed n c (finishPass w n)
+unfolding finishPass withBoundary withOvergrown withNodes
 finish-passed n c w k =
     let nodes : w .state .nodes ≡ c .nodes = k .nodes in
     record {
@@ -178,8 +178,8 @@ finish-passed n c w k =
       vertexGrandson = k .vertexGrandson;
     }
 
-pub grow-passed : (c : State) (n : ℕ) → Passed n c (finish (growPass c n) n)
+pub grow-passed : (c : State) (n : ℕ) → Passed n c (finishPass (growPass c n) n)
 grow-passed c n = finish-passed n c (growPass c n) (grow-pass-keeps c n)
 
-pub shrink-passed : (c : State) (n : ℕ) → Passed n c (finish (shrinkPass c n) n)
+pub shrink-passed : (c : State) (n : ℕ) → Passed n c (finishPass (shrinkPass c n) n)
 shrink-passed c n = finish-passed n c (shrinkPass c n) (shrink-pass-keeps c n)

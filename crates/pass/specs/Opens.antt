@@ -4,7 +4,8 @@ use Rattle.graph.specs.Opens as Below
 use Rattle.pass.specs.Work
 use Rattle.pass.specs.Grow
 use Rattle.pass.specs.Shrink
+use Rattle.pass.specs.Prepare
 
 unfoldable pub everything : ℕ
-unfolding Below.everything Work.onState Work.keep Work.keepOnce Work.note Work.push Work.call Work.start Work.finish Grow.reaches Grow.growStep Grow.takeSide Grow.takeVertex Grow.takeStep Grow.growScanned Grow.growPass Shrink.emptyTops Shrink.belowTops Shrink.dropSide Shrink.dropStep Shrink.shrinkStep Shrink.closed Shrink.releaseSide Shrink.releaseStep Shrink.dropped Shrink.shrinkScanned Shrink.shrinkPass
+unfolding Below.everything Work.onState Work.keep Work.keepOnce Work.note Work.push Work.callAnother Work.startPass Work.finishPass Grow.reaches Grow.growStep Grow.takeSide Grow.takeVertex Grow.takeStep Grow.growScanned Grow.growPass Shrink.emptyTops Shrink.belowTops Shrink.dropSide Shrink.dropStep Shrink.shrinkStep Shrink.closed Shrink.releaseSide Shrink.releaseStep Shrink.dropped Shrink.shrinkScanned Shrink.shrinkPass Prepare.onePass Prepare.prepareFrom Prepare.prepareNode
 everything = 0

@@ -5,7 +5,7 @@ use mathlib.Core.List.{List, [], _∷_, _++_}
 use lib.Dec.{eqb, leb}
 use Rattle.graph.specs.Basic.{if_then_else_, fold}
 use Rattle.graph.specs.State.{State, Overgrown, opposite, endAt, growthAt, holderAt, sidesAt, defectAt, vertexHolderAt, boundaryOf, overgrownOf, grownOver, weightOver, freeSide, freeVertex}
-use Rattle.pass.specs.Work.{Work, onState, keepOnce, note, call, start}
+use Rattle.pass.specs.Work.{Work, onState, keepOnce, note, callAnother, startPass}
 
 -- the vertices at the top of a stack whose amount is 0, from the top down
 unfoldable pub emptyTops : List Overgrown → List ℕ
@@ -19,7 +19,7 @@ belowTops (o ∷ os) = if eqb (o .amount) 0 then belowTops os else o ∷ os
 
 -- a side t at an overgrown vertex that is taken off: it is freed, the side across is kept once, and an edge of weight 0 calls for another pass
 unfoldable pub dropSide : Work → ℕ → Work
-dropSide w t = call (keepOnce (onState w (freeSide (w .state) t)) (opposite t)) (eqb (weightOver (w .state) t) 0)
+dropSide w t = callAnother (keepOnce (onState w (freeSide (w .state) t)) (opposite t)) (eqb (weightOver (w .state) t) 0)
 
 -- an overgrown vertex v is taken off: if node n holds it, it is released
 unfoldable pub dropStep : ℕ → Work → ℕ → Work
@@ -37,7 +37,7 @@ closed n c t = eqb (holderAt c t) (n + 1) && eqb (holderAt c (opposite t)) (n + 
 unfoldable pub releaseSide : ℕ → Work → ℕ → Work
 releaseSide n w t =
     if closed n (w .state) t
-    then call (keepOnce (onState w (freeSide (w .state) t)) (opposite t)) (eqb (weightOver (w .state) t) 0)
+    then callAnother (keepOnce (onState w (freeSide (w .state) t)) (opposite t)) (eqb (weightOver (w .state) t) 0)
     else onState w (freeSide (w .state) t)
 
 -- a noted vertex: it is released, if held
@@ -46,7 +46,7 @@ releaseStep n w v = if eqb (vertexHolderAt (w .state) v) 0 then w else fold (rel
 
 -- the pass: over the empty tops, over the boundary, then over what was noted
 unfoldable pub dropped : State → ℕ → Work
-dropped c n = fold (dropStep n) (start c (belowTops (overgrownOf c n))) (emptyTops (overgrownOf c n))
+dropped c n = fold (dropStep n) (startPass c (belowTops (overgrownOf c n))) (emptyTops (overgrownOf c n))
 
 unfoldable pub shrinkScanned : State → ℕ → Work
 shrinkScanned c n = fold shrinkStep (dropped c n) (boundaryOf c n)

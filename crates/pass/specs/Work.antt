@@ -33,13 +33,13 @@ unfoldable pub push : Work → ℕ → Work
 push w v = record { state = w .state; kept = w .kept; noted = w .noted; over = record { vertex = v; amount = 0 } ∷ w .over; another = w .another }
 
 -- another pass is called for, if the test passes
-unfoldable pub call : Work → Bool → Work
-call w t = record { state = w .state; kept = w .kept; noted = w .noted; over = w .over; another = w .another || t }
+unfoldable pub callAnother : Work → Bool → Work
+callAnother w t = record { state = w .state; kept = w .kept; noted = w .noted; over = w .over; another = w .another || t }
 
 -- the start of a pass over node n with the overgrown stack o
-unfoldable pub start : State → List Overgrown → Work
-start c o = record { state = c; kept = []; noted = []; over = o; another = false }
+unfoldable pub startPass : State → List Overgrown → Work
+startPass c o = record { state = c; kept = []; noted = []; over = o; another = false }
 
 -- the end of a pass over node n: its lists are written
-unfoldable pub finish : Work → ℕ → State
-finish w n = withOvergrown (withBoundary (w .state) n (w .kept)) n (w .over)
+unfoldable pub finishPass : Work → ℕ → State
+finishPass w n = withOvergrown (withBoundary (w .state) n (w .kept)) n (w .over)

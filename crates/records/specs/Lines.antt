@@ -6,7 +6,8 @@ use lib.IntN.{ℤ}
 use lib.Dec.{leb}
 use lib.ListN.{length, drop}
 use Rattle.graph.specs.Basic.{if_then_else_}
-use Rattle.calls.specs.Answer.{Answer, NonZeroGrow, Unlimited, Conflicting, TouchingVirtual, BlossomNeedExpand, VertexShrinkStop, VertexShrinkStopPeer, Done, Node, Prepared, Refused, Vertex}
+use Rattle.calls.specs.declared.Answer.{Answer}
+use Rattle.calls.specs.declared.Answer.the-variants.{NonZeroGrow, Unlimited, Conflicting, TouchingVirtual, BlossomNeedExpand, VertexShrinkStop, VertexShrinkStopPeer, Done, Node, Prepared, Refused, Vertex}
 use Rattle.calls.specs.Calls.{Outcome, answered, growths, touching}
 use Rattle.records.specs.Text.{ascii, decimal, signedText, spaced, flag}
 
@@ -19,7 +20,7 @@ wordsOf (TouchingVirtual n g v) = ascii "TouchingVirtual" ++ spaced (n ∷ g ∷
 wordsOf (BlossomNeedExpand n) = ascii "BlossomNeedExpand" ++ spaced (n ∷ [])
 wordsOf (VertexShrinkStop n) = ascii "VertexShrinkStop" ++ spaced (n ∷ [])
 wordsOf (VertexShrinkStopPeer n p g) = ascii "VertexShrinkStop" ++ spaced (n ∷ p ∷ g ∷ [])
-wordsOf done = ascii "Done"
+wordsOf Done = ascii "Done"
 wordsOf (Node n) = ascii "Node" ++ spaced (n ∷ [])
 wordsOf (Prepared k) = ascii "Prepared" ++ spaced (k ∷ [])
 wordsOf (Refused k) = ascii "Refused" ++ spaced (k ∷ [])

@@ -7,8 +7,9 @@ use lib.ListN.{length}
 use Rattle.graph.specs.Basic.{if_then_else_}
 use Rattle.graph.specs.State.{State}
 use Rattle.graph.specs.Open.{Edge, opened, openRefusal}
-use Rattle.calls.specs.Answer.{Answer, Refused}
-use Rattle.calls.specs.Calls.{Call, Outcome, answered, Given, calling}
+use Rattle.calls.specs.declared.Answer.{Answer}
+use Rattle.calls.specs.declared.Answer.the-variants.{Refused}
+use Rattle.calls.specs.Calls.{Call, Outcome, answered, Response, respond}
 use Rattle.records.specs.Record.{Record, sizes, anEdge, aVirtual, ask, illFormed, Next, nothing, next, nextRecord}
 use Rattle.records.specs.Lines.{linesFor, joined, fitting, over}
 
@@ -56,12 +57,12 @@ runRefusal g = if tooLarge g then 4 else openRefusal (g .v) (g .e) (g .n) (g .l)
 -- ---- a record
 
 -- a call on an opened state
-unfoldable pub toldTurn : ℕ → Given → Turn
+unfoldable pub toldTurn : ℕ → Response → Turn
 toldTurn k x = record { stage = running (x .state); lines = linesFor k (x .outcome) }
 
 -- the first call, which opens the graph
 unfoldable pub openTurn : ℕ → Gathered → Call → Turn
-openTurn k g a = if eqb (runRefusal g) 0 then toldTurn k (calling (opened (g .v) (g .n) (g .l) (g .edges) (g .virtuals)) a) else ends k (runRefusal g)
+openTurn k g a = if eqb (runRefusal g) 0 then toldTurn k (respond (opened (g .v) (g .n) (g .l) (g .edges) (g .virtuals)) a) else ends k (runRefusal g)
 
 -- record k at a stage
 unfoldable pub turn : ℕ → Stage → Record → Turn
@@ -79,7 +80,7 @@ turn k (gathering g) illFormed = ends k 3
 turn k (running c) (sizes v e n l) = ends k 3
 turn k (running c) (anEdge x) = ends k 3
 turn k (running c) (aVirtual x) = ends k 3
-turn k (running c) (ask a) = toldTurn k (calling c a)
+turn k (running c) (ask a) = toldTurn k (respond c a)
 turn k (running c) illFormed = ends k 3
 
 -- ---- the run

@@ -3,11 +3,10 @@ use Prim.Native.Nat.{ℕ, zero, suc, _+_}
 use mathlib.Core.Bool.{Bool, true, false}
 use lib.Dec.{eqb}
 use Rattle.graph.specs.Basic.{if_then_else_}
-use Rattle.graph.specs.State.{State, vertexCount}
-use Rattle.pass.specs.Work.{Work, finish}
+use Rattle.graph.specs.State.{State, vertexCount, up}
+use Rattle.pass.specs.Work.{Work, finishPass}
 use Rattle.pass.specs.Grow.{growPass}
 use Rattle.pass.specs.Shrink.{shrinkPass}
-use Rattle.calls.specs.Answer.{up}
 
 -- one pass in direction d
 unfoldable pub onePass : State → ℕ → ℕ → Work
@@ -22,7 +21,7 @@ unfoldable pub prepareFrom : ℕ → State → ℕ → ℕ → ℕ → Prepared
 prepareFrom zero c n d k = record { state = c; passes = k }
 prepareFrom (suc fuel) c n d k =
     let w : Work = onePass c n d in
-    elim (w .another) [ true ↦ prepareFrom fuel (finish w n) n d (k + 1) | false ↦ record { state = finish w n; passes = k + 1 } ]
+    elim (w .another) [ true ↦ prepareFrom fuel (finishPass w n) n d (k + 1) | false ↦ record { state = finishPass w n; passes = k + 1 } ]
 
 -- node n prepared in direction d: at most V + 1 passes
 unfoldable pub prepareNode : State → ℕ → ℕ → Prepared
