@@ -2,3 +2,7 @@
 
 pub mod words; // the only place that sees a signed number
 pub mod rows; // the arrays of a block
+pub mod side; // fields of sides
+pub mod vertex; // fields of vertices
+pub mod edge; // fields of edges
+pub mod node; // fields of nodes

@@ -1,0 +1,19 @@
+use borrow.Author.Needs.{needs}
+use native.Mathlib.Omega.{arith}
+use Rattle.graph.specs.Form.{Laid}
+use Rattle.graph.specs.FieldLaws.{parent-read}
+use Rattle.graph.proofs.node.parent.Statement.{statement}
+use Rattle.graph.proofs.node.parent.Tie as tie
+use Rattle.graph.proofs.node.parent.Reads as reads
+use Rattle.graph.proofs.node.parent.Lts as lts
+use Rattle.graph.proofs.rows.node_word.Reads as node-word-reads
+
+node-word-requires : tie.Need-node-word-requires
+unfolding Laid
+node-word-requires c κs = (c .pre .0 .laid, omega arith, omega arith)
+
+returns : tie.Need-returns
+returns c = let s = c .before in rw (c .node-word .ensures .0) (parent-read (s .args .b .now) (s .pre .0 .laid) (s .args .n) (s .pre .1), search needs)
+
+pub parent-spec : {M : Type 1} → statement M
+parent-spec = tie.close (tie.spec node-word-requires returns)

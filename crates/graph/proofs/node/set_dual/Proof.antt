@@ -1,0 +1,22 @@
+use native.Mathlib.Omega.{arith}
+use Rattle.graph.specs.Form.{Laid}
+use Rattle.graph.specs.FieldLaws.{dual-put}
+use borrow.Author.Needs.{needs}
+use Rattle.graph.proofs.node.set_dual.Statement.{statement}
+use Rattle.graph.proofs.node.set_dual.Tie as tie
+use Rattle.graph.proofs.node.set_dual.Reads as reads
+use Rattle.graph.proofs.node.set_dual.Lts as lts
+use Rattle.graph.proofs.rows.put_node.Reads as put-node-reads
+
+put-node-requires : tie.Need-put-node-requires
+unfolding Laid
+put-node-requires c κs = let s = c .before in (s .pre .0 .laid, omega arith, omega arith, omega arith)
+
+same-length : tie.Need-same-length
+same-length c = search needs
+
+returns : tie.Need-returns
+returns c = let s = c .before .before .before in dual-put (s .args .n) (s .args .x) (s .pre .0) (s .pre .1) (c .before .put-node .ensures)
+
+pub set-dual-spec : {M : Type 1} → statement M
+set-dual-spec = tie.close (tie.spec put-node-requires same-length returns)

@@ -1,0 +1,20 @@
+use native.Mathlib.Omega.{arith}
+use Rattle.graph.specs.Layout.{stateOf, stateFrom}
+use Rattle.graph.specs.FieldLaws.{end-below}
+use mathlib.Core.Path.{refl}
+use borrow.Author.Needs.{needs}
+use Rattle.graph.proofs.side.end.Statement.{statement}
+use Rattle.graph.proofs.side.end.Tie as tie
+use Rattle.graph.proofs.side.end.Reads as reads
+use Rattle.graph.proofs.side.end.Lts as lts
+use Rattle.graph.proofs.rows.side_word.Reads as side-word-reads
+
+side-word-requires : tie.Need-side-word-requires
+side-word-requires c κs = search needs
+
+returns : tie.Need-returns
+unfolding stateOf stateFrom
+returns c = rw (c .side-word .ensures .0) (refl, end-below (c .before .args .b .now) (c .before .args .s) (c .before .pre .0) (c .before .pre .1))
+
+pub end-spec : {M : Type 1} → statement M
+end-spec = tie.close (tie.spec side-word-requires returns)

@@ -1,0 +1,25 @@
+use Rattle.graph.specs.State.{freeSide}
+use Rattle.graph.specs.RowLaws.{becomes-then}
+use borrow.Author.Needs.{needs}
+use Rattle.graph.proofs.side.free.Statement.{statement}
+use Rattle.graph.proofs.side.free.Tie as tie
+use Rattle.graph.proofs.side.free.Reads as reads
+use Rattle.graph.proofs.side.free.Lts as lts
+use Rattle.graph.proofs.side.set_grandson.Reads as set-grandson-reads
+use Rattle.graph.proofs.side.set_holder.Reads as set-holder-reads
+
+set-holder-requires : tie.Need-set-holder-requires
+set-holder-requires c κs = search needs
+
+set-grandson-requires : tie.Need-set-grandson-requires
+set-grandson-requires c κs = search needs
+
+same-length : tie.Need-same-length
+same-length c = search needs
+
+returns : tie.Need-returns
+unfolding freeSide
+returns c = let p = c .before .before .before .before .set-holder .ensures in becomes-then p (rw (p .state) at (c .before .set-grandson .ensures))
+
+pub free-spec : {M : Type 1} → statement M
+free-spec = tie.close (tie.spec set-holder-requires set-grandson-requires same-length returns)

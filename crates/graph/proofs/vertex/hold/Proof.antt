@@ -1,0 +1,30 @@
+use Rattle.graph.specs.State.{heldVertex}
+use Rattle.graph.specs.RowLaws.{becomes-then}
+use borrow.Author.Needs.{needs}
+use Rattle.graph.proofs.vertex.hold.Statement.{statement}
+use Rattle.graph.proofs.vertex.hold.Tie as tie
+use Rattle.graph.proofs.vertex.hold.Reads as reads
+use Rattle.graph.proofs.vertex.hold.Lts as lts
+use Rattle.graph.proofs.vertex.set_grandson.Reads as set-grandson-reads
+use Rattle.graph.proofs.vertex.set_holder.Reads as set-holder-reads
+
+add-set-holder : tie.Need-add-set-holder
+add-set-holder c = search needs
+
+set-holder-requires : tie.Need-set-holder-requires
+set-holder-requires c κs = search needs
+
+set-grandson-requires : tie.Need-set-grandson-requires
+set-grandson-requires c κs = search needs
+
+same-length : tie.Need-same-length
+same-length c = search needs
+
+returns : tie.Need-returns
+unfolding heldVertex
+returns c = let p = c .before .before .before .before .set-holder .ensures in becomes-then p (rw (p .state) at (c .before .set-grandson .ensures))
+
+pub hold-spec : {M : Type 1} → statement M
+hold-spec =
+    tie.close
+    (tie.spec add-set-holder set-holder-requires set-grandson-requires same-length returns)

@@ -1,0 +1,19 @@
+use Rattle.graph.specs.FieldLaws.{vertex-holder-put}
+use borrow.Author.Needs.{needs}
+use Rattle.graph.proofs.vertex.set_holder.Statement.{statement}
+use Rattle.graph.proofs.vertex.set_holder.Tie as tie
+use Rattle.graph.proofs.vertex.set_holder.Reads as reads
+use Rattle.graph.proofs.vertex.set_holder.Lts as lts
+use Rattle.graph.proofs.rows.put_vertex.Reads as put-vertex-reads
+
+put-vertex-requires : tie.Need-put-vertex-requires
+put-vertex-requires c κs = search needs
+
+same-length : tie.Need-same-length
+same-length c = search needs
+
+returns : tie.Need-returns
+returns c = let s = c .before .before .before in vertex-holder-put (s .args .v) (s .args .x) (s .pre .0) (c .before .put-vertex .ensures)
+
+pub set-holder-spec : {M : Type 1} → statement M
+set-holder-spec = tie.close (tie.spec put-vertex-requires same-length returns)
