@@ -6,3 +6,4 @@ pub mod side; // fields of sides
 pub mod vertex; // fields of vertices
 pub mod edge; // fields of edges
 pub mod node; // fields of nodes
+pub mod dual_node; // a node as a value

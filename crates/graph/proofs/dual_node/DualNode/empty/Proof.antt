@@ -1,0 +1,14 @@
+use borrow.Author.Needs.{needs}
+use mathlib.Core.Path.{refl}
+use Rattle.graph.specs.Node.{emptyNode}
+use Rattle.graph.proofs.dual_node.DualNode.empty.Statement.{statement}
+use Rattle.graph.proofs.dual_node.DualNode.empty.Tie as tie
+use Rattle.graph.proofs.dual_node.DualNode.empty.Reads as reads
+use Rattle.graph.proofs.dual_node.DualNode.empty.Lts as lts
+
+returns : tie.Need-returns
+unfolding emptyNode
+returns c = refl
+
+pub empty-spec : {M : Type 1} → statement M
+empty-spec = tie.close (tie.spec returns)
