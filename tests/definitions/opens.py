@@ -5,7 +5,7 @@ Run it from the top of the repository after adding, renaming or removing a defin
 import re
 
 MODULES = {
-    'graph': ['Basic', 'State', 'Open', 'Sound'],
+    'graph': ['Basic', 'State', 'Open', 'Sound', 'Node'],
     'pass': ['Work', 'Grow', 'Shrink', 'Prepare'],
     'calls': ['Answer', 'Refuse', 'Scan', 'Growth', 'Insert', 'Calls'],
     'records': ['Text', 'Record', 'Lines', 'Run'],

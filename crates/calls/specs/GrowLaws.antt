@@ -16,7 +16,8 @@ use Rattle.graph.specs.State.{State, Overgrown, growthAt, dualOf, boundaryOf, o
 use Rattle.graph.specs.Laws.{fold-keeps, growth-same, growth-other}
 use Rattle.graph.specs.Members.{by-test, clash, member-head, member-tail, member-cons, member-nil, distinct-head, distinct-tail}
 use Rattle.calls.specs.declared.Answer.{Answer}
-use Rattle.calls.specs.Growth.{moved, movedTop, moveSide, growApply}
+use Rattle.graph.specs.Node.{moved}
+use Rattle.calls.specs.Growth.{movedStack, moveSide, growApply}
 use Rattle.calls.specs.Scan.{Look, Scan, over, joined, look, scanStep, gapOf}
 
 -- ---- growth, side by side
@@ -67,11 +68,11 @@ apply-start c n y o t = refl
 
 pub apply-out : (c : State) (n d l t : ℕ) → member t (boundaryOf c n) ≡ false → growthAt (growApply c n d l) t ≡ growthAt c t
 unfolding growApply
-apply-out c n d l t h = move-out d l _ (boundaryOf c n) t h ∙ apply-start c n (moved d l (dualOf c n)) (movedTop d l (overgrownOf c n)) t
+apply-out c n d l t h = move-out d l _ (boundaryOf c n) t h ∙ apply-start c n (moved d l (dualOf c n)) (movedStack d l (overgrownOf c n)) t
 
 pub apply-in : (c : State) (n d l t : ℕ) → distinct (boundaryOf c n) ≡ true → t < length (c .sides .growth) → member t (boundaryOf c n) ≡ true → growthAt (growApply c n d l) t ≡ moved d l (growthAt c t)
 unfolding growApply withOvergrown withDual withNodes
-apply-in c n d l t h r m = move-in d l (withOvergrown (withDual c n (moved d l (dualOf c n))) n (movedTop d l (overgrownOf c n))) (boundaryOf c n) t h r m
+apply-in c n d l t h r m = move-in d l (withOvergrown (withDual c n (moved d l (dualOf c n))) n (movedStack d l (overgrownOf c n))) (boundaryOf c n) t h r m
 
 -- ---- the scan
 

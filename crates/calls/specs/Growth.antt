@@ -5,6 +5,7 @@ use mathlib.Core.List.{List, [], _∷_}
 use lib.Dec.{leb, ltb, eqb}
 use Rattle.graph.specs.Basic.{if_then_else_, fold, any}
 use Rattle.graph.specs.State.{State, Overgrown, opposite, growthAt, holderAt, dualOf, boundaryOf, overgrownOf, grownOver, weightOver, withGrowth, withDual, withOvergrown, up}
+use Rattle.graph.specs.Node.{moved}
 use Rattle.graph.specs.Open.{dualLimit, growthLimit}
 
 -- the top amount of a stack, or none: the test holds of it
@@ -30,13 +31,10 @@ growCheck c n d l =
     if eqb d up then (if any (passesWeight c n l) (boundaryOf c n) then 10 else if passesLimit c n l then 12 else 0)
     else if fallsShort c n l then 11 else 0
 
--- x moved by l, up or down
-unfoldable pub moved : ℕ → ℕ → ℕ → ℕ
-moved d l x = if eqb d up then x + l else x - l
-
-unfoldable pub movedTop : ℕ → ℕ → List Overgrown → List Overgrown
-movedTop d l [] = []
-movedTop d l (o ∷ os) = record { vertex = o .vertex; amount = moved d l (o .amount) } ∷ os
+-- the top amount of a stack is moved
+unfoldable pub movedStack : ℕ → ℕ → List Overgrown → List Overgrown
+movedStack d l [] = []
+movedStack d l (o ∷ os) = record { vertex = o .vertex; amount = moved d l (o .amount) } ∷ os
 
 -- a boundary side is moved
 unfoldable pub moveSide : ℕ → ℕ → State → ℕ → State
@@ -45,4 +43,4 @@ moveSide d l c s = withGrowth c s (moved d l (growthAt c s))
 -- the dual variable, the top amount and every boundary side are moved
 unfoldable pub growApply : State → ℕ → ℕ → ℕ → State
 growApply c n d l =
-    fold (moveSide d l) (withOvergrown (withDual c n (moved d l (dualOf c n))) n (movedTop d l (overgrownOf c n))) (boundaryOf c n)
+    fold (moveSide d l) (withOvergrown (withDual c n (moved d l (dualOf c n))) n (movedStack d l (overgrownOf c n))) (boundaryOf c n)

@@ -6,7 +6,7 @@ use lib.Dec.{leb, ltb, eqb}
 use lib.ListN.{length}
 use Rattle.graph.specs.Basic.{if_then_else_, member, sumBelow}
 use Rattle.graph.specs.State.{State, vertexCount, edgeCount, sideCount, nodeCount, parentOf}
-use Rattle.graph.specs.Sound.{entriesOf, sound}
+use Rattle.graph.specs.Sound.{entriesOf}
 use Rattle.calls.specs.declared.Answer.{Answer}
 use Rattle.calls.specs.declared.Answer.the-variants.{Refused}
 use Rattle.calls.specs.Answer.{Reply, says}
@@ -43,6 +43,6 @@ nodeRefusal c n wrong short =
 unfoldable pub unless : ℕ → State → Reply → Reply
 unless k c r = if eqb k 0 then r else says (Refused k) c
 
--- a call on a stranger's block: `fits` says that block and scratch have their exact lengths and the sizes are in range
-unfoldable pub guarded : Bool → State → Reply → Reply
-guarded fits c r = if not fits then says (Refused 1) c else if not (sound c) then says (Refused 2) c else r
+-- a call on lent memory: `fits` says that block and scratch have their exact lengths and the sizes are in range, `good` that the block is sound
+unfoldable pub guarded : Bool → Bool → State → Reply → Reply
+guarded fits good c r = if not fits then says (Refused 1) c else if not good then says (Refused 2) c else r

@@ -5,7 +5,7 @@ use mathlib.Core.List.{List, [], _∷_}
 use lib.IntN.{ℤ, pos, negsuc, negℤ, subℕ}
 use lib.Dec.{leb, ltb, eqb}
 use Rattle.graph.specs.Basic.{if_then_else_, fold}
-use Rattle.graph.specs.State.{State, Overgrown, NodeClass, defectVertex, blossom, opposite, endAt, growthAt, holderAt, grandsonAt, sidesAt, virtualAt, classOf, growStateOf, dualOf, boundaryOf, overgrownOf, grownOver, weightOver, growing, shrinking, up}
+use Rattle.graph.specs.State.{State, Overgrown, NodeClass, defectVertex, blossom, opposite, endAt, growthAt, holderAt, grandsonAt, sidesAt, passable, classOf, growStateOf, dualOf, boundaryOf, overgrownOf, grownOver, weightOver, growing, shrinking, up}
 use Rattle.calls.specs.declared.Answer.{Answer}
 use Rattle.calls.specs.declared.Answer.the-variants.{NonZeroGrow, Unlimited, Conflicting, TouchingVirtual, BlossomNeedExpand, VertexShrinkStop, VertexShrinkStopPeer, Refused}
 
@@ -46,7 +46,7 @@ lookPeer c n s p l = if isZero l then meets (Conflicting p (grandsonAt c (opposi
 unfoldable pub lookFree : State → ℕ → ℕ → ℤ → Look
 lookFree c n s l =
     if not (isZero l) then room l
-    else if eqb (virtualAt c (endAt c (opposite s))) 0 then meets (Refused 13)
+    else if passable c (endAt c (opposite s)) then meets (Refused 13)
     else meets (TouchingVirtual n (grandsonAt c s - 1) (endAt c (opposite s)))
 
 -- the far side is held by a peer p, that is not n: a Shrink peer is skipped, a Grow peer takes half of the gap

@@ -18,7 +18,8 @@ use Rattle.calls.specs.Answer.{Reply, says}
 use Rattle.calls.specs.Refuse.{unless, nodeRefusal, storeShort}
 use Rattle.pass.specs.Prepare.{prepareNode}
 use Rattle.calls.specs.Scan.{scan}
-use Rattle.calls.specs.Growth.{growCheck, growApply, moveSide, moved, movedTop}
+use Rattle.graph.specs.Node.{moved}
+use Rattle.calls.specs.Growth.{growCheck, growApply, moveSide, movedStack}
 use Rattle.calls.specs.Insert.{insertDefect, defectPut, defectRefusal, holdStep, insertBlossom, blossomPut, blossomRefusal, joinCircle, joinStep, joinSide, seated, Joining, prepareStep}
 use Rattle.calls.specs.Calls.{setGrowState, prepareDualNodeGrowth, maxUpdateLength, readied, growPrepared, growToward, growDualNode, signedFor, follow, advanceBy, toward, advance, representativeVertex, clear, Call, InsertDefect, InsertBlossom, SetGrowState, Prepare, MaxUpdateLength, Grow, ReadTable, Advance, Contacts, RepresentativeVertex, Clear, Response, response, respond}
 use Rattle.pass.specs.PrepareLaws.{prepare-passed}
@@ -59,7 +60,7 @@ pub shape-apply : (c : State) (n d l : ℕ) → Shape c → Shape (growApply c n
 unfolding growApply
 shape-apply c n d l z =
     fold-keeps (moveSide d l) Shape (shape-move d l) _ (boundaryOf c n)
-    (shape-overgrown (withDual c n (moved d l (dualOf c n))) n (movedTop d l (overgrownOf c n)) (shape-dual c n (moved d l (dualOf c n)) z))
+    (shape-overgrown (withDual c n (moved d l (dualOf c n))) n (movedStack d l (overgrownOf c n)) (shape-dual c n (moved d l (dualOf c n)) z))
 
 -- ---- insertion
 

@@ -31,7 +31,8 @@ use Rattle.calls.specs.declared.Answer.the-variants.{Done}
 use Rattle.calls.specs.Answer.{Reply, says}
 use Rattle.calls.specs.Refuse.{storeShort, nodeRefusal, unless}
 use Rattle.pass.specs.Prepare.{onePass, prepareNode}
-use Rattle.calls.specs.Growth.{moved, movedTop, moveSide, growCheck, growApply, topIs}
+use Rattle.graph.specs.Node.{moved}
+use Rattle.calls.specs.Growth.{movedStack, moveSide, growCheck, growApply, topIs}
 use Rattle.calls.specs.Calls.{growPrepared, growToward}
 use Rattle.pass.specs.PrepareLaws.{passState, one-passed, one-up, prepare-leaves}
 use Rattle.calls.specs.Shapes.{shape-passed, shape-apply}
@@ -99,10 +100,10 @@ pub record Applied (n y : ℕ) (o : List Overgrown) (c d : State) : Type 0 where
   pub dual : d .nodes .dual ≡ set (c .nodes .dual) n y
   pub overgrown : d .nodes .overgrown ≡ set (c .nodes .overgrown) n o
 
-pub apply-applied : (c : State) (n d l : ℕ) → Applied n (moved d l (dualOf c n)) (movedTop d l (overgrownOf c n)) c (growApply c n d l)
+pub apply-applied : (c : State) (n d l : ℕ) → Applied n (moved d l (dualOf c n)) (movedStack d l (overgrownOf c n)) c (growApply c n d l)
 unfolding growApply withOvergrown withDual withNodes
 apply-applied c n d l =
-    let s : State = withOvergrown (withDual c n (moved d l (dualOf c n))) n (movedTop d l (overgrownOf c n)) in
+    let s : State = withOvergrown (withDual c n (moved d l (dualOf c n))) n (movedStack d l (overgrownOf c n)) in
     let m : Moved s (fold (moveSide d l) s (boundaryOf c n)) = sides-moved s d l (boundaryOf c n) in
     record {
       graph = m .graph;
@@ -122,7 +123,7 @@ apply-applied c n d l =
 apply-states : (c : State) (n d l : ℕ) → growApply c n d l .nodes .growState ≡ c .nodes .growState
 unfolding growApply withOvergrown withDual withNodes
 apply-states c n d l =
-    let s : State = withOvergrown (withDual c n (moved d l (dualOf c n))) n (movedTop d l (overgrownOf c n)) in
+    let s : State = withOvergrown (withDual c n (moved d l (dualOf c n))) n (movedStack d l (overgrownOf c n)) in
     ap (λ (x : Nodes). x .growState) (sides-moved s d l (boundaryOf c n) .nodes)
 
 module _ (c : State) (z : Shape c) (f : Sound c) (n : ℕ) (b : n < nodeCount c) (y : ℕ) (o : List Overgrown) (d : State) (p : Applied n y o c d) (small : y ≤ dualLimit) (tops : all (overSound c) o ≡ true) (same : map (λ (x : Overgrown). x .vertex) o ≡ map (λ (x : Overgrown). x .vertex) (overgrownOf c n)) (count : length o ≡ length (overgrownOf c n)) (growths : (s : ℕ) → s < sideCount c → growthAt d s ≤ growthLimit) (states : (m : ℕ) → m < nodeCount c → growStateOf d m ≤ 2) where
@@ -236,18 +237,18 @@ pub moved-le : (d l x k : ℕ) → x ≤ k → (eqb d up ≡ true → x + l ≤ 
 unfolding moved
 moved-le d l x k h g = by-test (eqb d up) (λ e. rw e (g e)) (λ e. rw e (omega arith))
 
-moved-vertices : (d l : ℕ) (o : List Overgrown) → map (λ (x : Overgrown). x .vertex) (movedTop d l o) ≡ map (λ (x : Overgrown). x .vertex) o
-unfolding movedTop
+moved-vertices : (d l : ℕ) (o : List Overgrown) → map (λ (x : Overgrown). x .vertex) (movedStack d l o) ≡ map (λ (x : Overgrown). x .vertex) o
+unfolding movedStack
 moved-vertices d l [] = refl
 moved-vertices d l (x ∷ xs) = refl
 
-moved-count : (d l : ℕ) (o : List Overgrown) → length (movedTop d l o) ≡ length o
-unfolding movedTop
+moved-count : (d l : ℕ) (o : List Overgrown) → length (movedStack d l o) ≡ length o
+unfolding movedStack
 moved-count d l [] = refl
 moved-count d l (x ∷ xs) = refl
 
-moved-tops : (c : State) (d l : ℕ) (o : List Overgrown) → all (overSound c) o ≡ true → (eqb d up ≡ true → topIs (λ a. ltb dualLimit (a + l)) o ≡ false) → all (overSound c) (movedTop d l o) ≡ true
-unfolding movedTop topIs all overSound
+moved-tops : (c : State) (d l : ℕ) (o : List Overgrown) → all (overSound c) o ≡ true → (eqb d up ≡ true → topIs (λ a. ltb dualLimit (a + l)) o ≡ false) → all (overSound c) (movedStack d l o) ≡ true
+unfolding movedStack topIs all overSound
 moved-tops c d l [] h g = refl
 moved-tops c d l (x ∷ xs) h g =
     let top : overSound c x ≡ true = and-left (overSound c x) (all (overSound c) xs) h in
@@ -263,13 +264,13 @@ apply-sound c z h n d l b outer ok =
     let q : SoundNode c n = f .node n b in
     let own : OwnLists c n = own-facts c n (q .own outer) in
     let small : moved d l (dualOf c n) ≤ dualLimit = moved-le d l (dualOf c n) dualLimit (q .dual) (λ e. grow-accepted c n d l e ok .dual) in
-    let tops : all (overSound c) (movedTop d l (overgrownOf c n)) ≡ true = moved-tops c d l (overgrownOf c n) (q .overgrown) (λ e. grow-accepted c n d l e ok .top) in
+    let tops : all (overSound c) (movedStack d l (overgrownOf c n)) ≡ true = moved-tops c d l (overgrownOf c n) (q .overgrown) (λ e. grow-accepted c n d l e ok .top) in
     let growths : (s : ℕ) → s < sideCount c → growthAt (growApply c n d l) s ≤ growthLimit =
     λ s r.
     by-test (member s (boundaryOf c n))
     (λ m. let e : growthAt (growApply c n d l) s ≡ moved d l (growthAt c s) = apply-in c n d l s (own .sides-once) (rw (z .growth) r) m in let k : moved d l (growthAt c s) ≤ growthLimit = moved-le d l (growthAt c s) growthLimit (f .side s r .growth) (λ u. grow-accepted c n d l u ok .growth s m) in omega arith)
     (λ m. let e : growthAt (growApply c n d l) s ≡ growthAt c s = apply-out c n d l s m in let k : growthAt c s ≤ growthLimit = f .side s r .growth in omega arith) in
-    sound-test (growApply c n d l) (applied-sound c z f n b (moved d l (dualOf c n)) (movedTop d l (overgrownOf c n)) (growApply c n d l) (apply-applied c n d l) small tops (moved-vertices d l (overgrownOf c n)) (moved-count d l (overgrownOf c n)) growths (λ m r. rw (apply-states c n d l) (f .node m r .growState)))
+    sound-test (growApply c n d l) (applied-sound c z f n b (moved d l (dualOf c n)) (movedStack d l (overgrownOf c n)) (growApply c n d l) (apply-applied c n d l) small tops (moved-vertices d l (overgrownOf c n)) (moved-count d l (overgrownOf c n)) growths (λ m r. rw (apply-states c n d l) (f .node m r .growState)))
 
 -- ---- set state
 

@@ -122,6 +122,10 @@ sidesAt c v = getD (c .graph .at) v []
 abbrev pub virtualAt : State → ℕ → ℕ
 virtualAt c v = getD (c .graph .virtual) v 0
 
+-- growth goes on at vertex v: it is not virtual
+abbrev pub passable : State → ℕ → Bool
+passable c v = eqb (virtualAt c v) 0
+
 abbrev pub defectAt : State → ℕ → ℕ
 defectAt c v = getD (c .vertices .defect) v 0
 

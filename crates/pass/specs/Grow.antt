@@ -5,12 +5,12 @@ use mathlib.Core.List.{List, [], _∷_, _++_}
 use lib.Dec.{eqb}
 use lib.ListN.{length}
 use Rattle.graph.specs.Basic.{if_then_else_, fold}
-use Rattle.graph.specs.State.{State, opposite, endAt, holderAt, grandsonAt, sidesAt, virtualAt, vertexHolderAt, boundaryOf, overgrownOf, grownOver, weightOver, heldSide, heldVertex}
+use Rattle.graph.specs.State.{State, opposite, endAt, holderAt, grandsonAt, sidesAt, passable, vertexHolderAt, boundaryOf, overgrownOf, grownOver, weightOver, heldSide, heldVertex}
 use Rattle.pass.specs.Work.{Work, onState, keep, note, push, callAnother, startPass, finishPass}
 
--- the edge of side s is full, its far side is free, and the far vertex is not virtual
+-- the edge of side s is full, its far side is free, and growth goes on at the far vertex
 unfoldable pub reaches : State → ℕ → Bool
-reaches c s = eqb (grownOver c s) (weightOver c s) && eqb (holderAt c (opposite s)) 0 && eqb (virtualAt c (endAt c (opposite s))) 0
+reaches c s = eqb (grownOver c s) (weightOver c s) && eqb (holderAt c (opposite s)) 0 && passable c (endAt c (opposite s))
 
 -- a boundary side: the far side is taken and the side noted, or the side is kept
 unfoldable pub growStep : ℕ → Work → ℕ → Work
