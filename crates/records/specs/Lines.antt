@@ -12,20 +12,20 @@ use Rattle.calls.specs.Answer.{flag}
 use Rattle.calls.specs.Calls.{Outcome, answered, growths, touching}
 use Rattle.records.specs.Text.{ascii, decimal, signedText, spaced}
 
--- the words of an answer
+-- an answer in words
 unfoldable pub wordsOf : Answer → List ℕ
-wordsOf (NonZeroGrow l e) = ascii "NonZeroGrow " ++ signedText l ++ spaced (flag e ∷ [])
-wordsOf (Unlimited e) = ascii "NonZeroGrow -1" ++ spaced (flag e ∷ [])
-wordsOf (Conflicting p g n h) = ascii "Conflicting" ++ spaced (p ∷ g ∷ n ∷ h ∷ [])
-wordsOf (TouchingVirtual n g v) = ascii "TouchingVirtual" ++ spaced (n ∷ g ∷ v ∷ 0 ∷ [])
-wordsOf (BlossomNeedExpand n) = ascii "BlossomNeedExpand" ++ spaced (n ∷ [])
-wordsOf (VertexShrinkStop n) = ascii "VertexShrinkStop" ++ spaced (n ∷ [])
-wordsOf (VertexShrinkStopPeer n p g) = ascii "VertexShrinkStop" ++ spaced (n ∷ p ∷ g ∷ [])
-wordsOf Done = ascii "Done"
-wordsOf (Node n) = ascii "Node" ++ spaced (n ∷ [])
-wordsOf (Prepared k) = ascii "Prepared" ++ spaced (k ∷ [])
-wordsOf (Refused k) = ascii "Refused" ++ spaced (k ∷ [])
-wordsOf (Vertex v) = ascii "Vertex" ++ spaced (v ∷ [])
+wordsOf (NonZeroGrow l e) = ascii "free " ++ signedText l ++ spaced (flag e ∷ [])
+wordsOf (Unlimited e) = ascii "free -1" ++ spaced (flag e ∷ [])
+wordsOf (Conflicting p g n h) = ascii "conflict" ++ spaced (p ∷ g ∷ n ∷ h ∷ [])
+wordsOf (TouchingVirtual n g v) = ascii "virtual" ++ spaced (n ∷ g ∷ v ∷ 0 ∷ [])
+wordsOf (BlossomNeedExpand n) = ascii "expand" ++ spaced (n ∷ [])
+wordsOf (VertexShrinkStop n) = ascii "stop" ++ spaced (n ∷ [])
+wordsOf (VertexShrinkStopPeer n p g) = ascii "stop" ++ spaced (n ∷ p ∷ g ∷ [])
+wordsOf Done = ascii "done"
+wordsOf (Node n) = ascii "node" ++ spaced (n ∷ [])
+wordsOf (Prepared k) = ascii "prepared" ++ spaced (k ∷ [])
+wordsOf (Refused k) = ascii "refused" ++ spaced (k ∷ [])
+wordsOf (Vertex v) = ascii "vertex" ++ spaced (v ∷ [])
 
 -- the line of record k with these words
 unfoldable pub line : ℕ → List ℕ → List ℕ

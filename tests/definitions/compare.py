@@ -1,0 +1,276 @@
+#!/usr/bin/env python3
+"""Compares the definitions of specs/ with the Python model, by computation.
+
+    tests/definitions/compare.py [--lists 600] [--states 200] [--streams 100] [--seed 1] [--keep DIR]
+
+The prover computes, from the definitions themselves:
+  lists    random call lists: every answer, the whole state after the last call, and whether it is sound;
+  states   sound states that no call list reaches (a reached state with fields changed at random), a few calls on each;
+  streams  record streams: the lines, all of them and those that fit into a random space.
+Each comparison is a theorem proved by `refl` in a crate of tests that is written beside a copy of this repository.
+MODEL names the folder of model.py and runner.py (default ../shared/model), VECTORS the file of streams (default
+../shared/vectors/streams.bin). A wrong answer makes the check fail and names the case.
+"""
+import argparse, collections, os, random, shutil, struct, subprocess, sys, tempfile
+
+TOP = os.path.dirname(os.path.dirname(os.path.dirname(os.path.abspath(__file__))))
+sys.path.insert(0, os.environ.get('MODEL', os.path.join(TOP, '..', 'shared', 'model')))
+import model as M  # noqa: E402
+import runner as R  # noqa: E402
+
+SEEN = collections.Counter()
+
+# ---------------------------------------------------------------- terms
+
+def items(xs): return '(' + ' ∷ '.join(list(xs) + ['[]']) + ')'
+def nats(xs): return items(str(int(x)) for x in xs)
+def stored(xs): return nats(x + 1 for x in xs)
+def whole(k): return f'(pos {k})' if k >= 0 else f'(negsuc {-k - 1})'
+def truth(t): return 'true' if t else 'false'
+
+
+def answer(a):
+    kind, values = a[0], [max(x, 0) for x in a[1:]]
+    SEEN[f'refused {a[1]}' if kind == 'refused' else kind] += 1
+    if kind == 'free':
+        return f'(Unlimited {truth(a[2])})' if a[3] else f'(NonZeroGrow {whole(a[1])} {truth(a[2])})'
+    if kind == 'virtual':
+        values = values[:3]
+    if kind == 'stop' and len(values) > 1:
+        kind = 'stop peer'
+    name = {'conflict': 'Conflicting', 'virtual': 'TouchingVirtual', 'expand': 'BlossomNeedExpand', 'stop': 'VertexShrinkStop',
+            'stop peer': 'VertexShrinkStopPeer', 'done': 'Done', 'node': 'Node', 'prepared': 'Prepared', 'vertex': 'Vertex',
+            'refused': 'Refused'}[kind]
+    return '(' + ' '.join([name] + [str(v) for v in values]) + ')'
+
+
+def state(st):
+    nodes = st.nodes
+    classes = items(f'blossom {n.first}' if n.vertex == M.NONE else f'defectVertex {n.vertex}' for n in nodes)
+    stacks = items(items(f'over {v} {a}' for v, a in reversed(n.overgrown)) for n in nodes)
+    return f'''record {{
+    graph = record {{ end = {nats(st.end)}; weight = {nats(st.weight)}; at = {items(nats(x) for x in st.at)}; virtual = {nats(st.virtual)} }};
+    vertices = record {{ defect = {nats(st.defect)}; vertexHolder = {stored(st.vholder)}; vertexGrandson = {stored(st.vgrandson)} }};
+    sides = record {{ growth = {nats(st.growth)}; holder = {stored(st.holder)}; grandson = {stored(st.grandson)} }};
+    nodes = record {{ class = {classes}; growState = {nats(n.state for n in nodes)}; parent = {stored(n.parent for n in nodes)}; dual = {nats(n.dual for n in nodes)}; boundary = {items(nats(n.boundary) for n in nodes)}; overgrown = {stacks} }};
+    nodeLimit = {st.N};
+    storeLimit = {st.L} }}'''
+
+
+def line(st, c):
+    """A call made on the model, and the line that says what it gives."""
+    kind, f = c[0], c[1:]
+    if kind == 'table': return f'ReadTable gives growths {nats(M.table(st))}'
+    if kind == 'contacts': return f'Contacts gives touching {nats(M.contacts(st))}'
+    call, term = {
+        'defect': (M.insert_defect, lambda v, x: f'InsertDefect {v} {x}'),
+        'blossom': (M.insert_blossom, lambda x, ms: f'InsertBlossom {x} {nats(ms)}'),
+        'state': (M.set_state, lambda n, x: f'SetGrowState {n} {x}'),
+        'prepare': (M.prepare, lambda n, d: f'Prepare {n} {d}'),
+        'length': (M.length, lambda n, d, p: f'MaxUpdateLength {n} {d} {truth(p)}'),
+        'grow': (M.grow, lambda n, l: f'Grow {n} {whole(l)}'),
+        'advance': (M.advance, lambda n: f'Advance {n}'),
+        'representative': (M.representative, lambda n: f'RepresentativeVertex {n}'),
+        'clear': (M.clear, lambda: 'Clear')}[kind]
+    return f'{term(*f)} gives answered {answer(call(st, *f))}'
+
+# ---------------------------------------------------------------- random graphs, calls and states
+
+def graph(rng):
+    V = rng.randint(3, 7)
+    E = rng.randint(V - 1, V + 3)
+    weights = rng.choice([[0, 1, 2, 3, 4], [2, 4, 6], [0, 0, 2], [1, 3, 5, 7], [2, 3, 4, 20]])
+    edges = []
+    for i in range(E):
+        if i < V - 1: l, r = i + 1, rng.randrange(i + 1)
+        elif rng.random() < .25: l, r, _ = rng.choice(edges)
+        else: l, r = rng.sample(range(V), 2)
+        if rng.random() < .5: l, r = r, l
+        edges.append((l, r, rng.choice(weights)))
+    virtuals = [v for v in range(V) if rng.random() < .2]
+    return V, E, rng.choice([2, 3, 4, 6, 8]), rng.choice([25, 50, 80, 120, 200, 400]), edges, virtuals
+
+
+def call(rng, st):
+    n, x = len(st.nodes), rng.random()
+    outermost = [i for i in range(n) if st.nodes[i].parent == M.NONE]
+    i = rng.choice(outermost) if outermost and rng.random() < .93 else rng.randrange(n + 1)
+    if outermost and rng.random() < .4: i = outermost[-1]
+    if n == 0 or x < .14 or n < 3 and rng.random() < .5:
+        return 'defect', rng.randrange(st.V + (rng.random() < .1)), rng.choice([1, 1, 1, 1, 0, 2, 3 if rng.random() < .2 else 1])
+    if x < .30 and len(outermost) >= 3 or x < .16:
+        good = len(outermost) >= 3 and rng.random() < .85
+        return 'blossom', rng.choice([1, 1, 0, 2]), rng.sample(outermost, 3) if good else [rng.randrange(n) for _ in range(rng.randint(1, 4))]
+    if x < .36: return 'state', i, rng.choice([0, 1, 2, 2, 1, 3 if rng.random() < .2 else 1])
+    if x < .38: return 'prepare', i, rng.choice([0, 1, 1, 2 if rng.random() < .2 else 0])
+    if x < .48: return 'length', i, rng.choice([0, 1]), rng.random() < .6
+    if x < .56: return 'grow', i, rng.choice([1, 2, 3, 4, -1, -2, -3, 0, 1000000000 if rng.random() < .3 else 1])
+    if x < .92: return 'advance', i
+    if x < .94: return 'representative', i
+    if x < .96: return 'contacts',
+    return ('clear',) if x > .99 else ('table',)
+
+
+def opened(rng):
+    V, E, N, L, edges, virtuals = graph(rng)
+    _, st = M.open_graph(V, E, N, L, edges, virtuals)
+    ends = items(f'edge {l} {r} {w}' for l, r, w in edges)
+    return st, f'opened {V} {N} {L} {ends} {nats(virtuals)}'
+
+
+def unreached(rng):
+    """A sound state with fields changed at random, so that no call list reaches it (but by chance)."""
+    while True:
+        st, _ = opened(rng)
+        seen = SEEN.copy()
+        for _ in range(rng.randint(4, 14)): line(st, call(rng, st))
+        SEEN.clear(); SEEN.update(seen)  # calls on the way are not compared
+        n = len(st.nodes)
+        defects = [i for i in range(n) if st.nodes[i].vertex != M.NONE]
+        if not defects: continue
+        for _ in range(rng.randint(1, 6)):
+            s, v, i = rng.randrange(2 * st.E), rng.randrange(st.V), rng.randrange(n)
+            k = rng.randrange(6)
+            if k == 0: st.growth[s] = rng.choice([0, 0, 1, 2, 5, 9])
+            elif k == 1: st.holder[s], st.grandson[s] = rng.randrange(n), rng.choice(defects)
+            elif k == 2: st.vholder[v] = rng.choice([M.NONE, rng.randrange(n)])
+            elif k == 3: st.nodes[i].boundary = rng.sample(range(2 * st.E), rng.randint(0, min(4, 2 * st.E)))
+            elif k == 4: st.nodes[i].overgrown = [(u, rng.choice([0, 0, 1, 3])) for u in rng.sample(range(st.V), rng.randint(0, 2))]
+            else: st.nodes[i].dual = rng.choice([0, 1, 2, 7])
+        for i, nd in enumerate(st.nodes):  # an outermost node holds what it lists
+            if nd.parent == M.NONE and rng.random() < .8:
+                for s in nd.boundary: st.holder[s], st.grandson[s] = i, rng.choice(defects)
+                for u, _ in nd.overgrown: st.vholder[u] = i
+        if not M.sound(st): return st
+
+# ---------------------------------------------------------------- the crate of tests
+
+HEAD = '''-- {0}
+use Prim.Native.Nat.{{ℕ}}
+use mathlib.Core.Path.{{_≡_, refl}}
+use mathlib.Core.Bool.{{Bool, true, false}}
+use mathlib.Core.List.{{List, [], _∷_}}
+use lib.IntN.{{pos, negsuc}}
+use Rattle.graph.specs.State.{{State, Overgrown, NodeClass, defectVertex, blossom}}
+use Rattle.graph.specs.Open.{{opened}}
+use Rattle.graph.specs.Sound.{{sound}}
+use Rattle.calls.specs.declared.Answer.the-variants.{{NonZeroGrow, Unlimited, Conflicting, TouchingVirtual, BlossomNeedExpand, VertexShrinkStop, VertexShrinkStopPeer, Done, Node, Prepared, Vertex, Refused}}
+use Rattle.calls.specs.Calls.{{InsertDefect, InsertBlossom, SetGrowState, Prepare, MaxUpdateLength, Grow, ReadTable, Advance, Contacts, RepresentativeVertex, Clear, answered, growths, touching, respond}}
+use Rattle.calls.specs.Examples.{{Line, _gives_, edge, given, wanted}}
+use Rattle.calls.specs.Opens.{{everything}}
+
+abbrev over : ℕ → ℕ → Overgrown
+over v a = record {{ vertex = v; amount = a }}
+
+unfoldable after : State → List Line → State
+after c [] = c
+after c ((k gives o) ∷ ls) = after (respond c k .state) ls
+
+'''
+
+
+def case(name, start, lines, st):
+    body = ' ∷\n    '.join(lines + ['[]'])
+    return f'''{name}-start : State
+{name}-start = {start}
+
+{name}-lines : List Line
+{name}-lines =
+    {body}
+
+{name} : (given {name}-start {name}-lines ≡ wanted {name}-lines) × (after {name}-start {name}-lines ≡ {state(st)}) × (sound (after {name}-start {name}-lines) ≡ {truth(not M.sound(st))})
+unfolding everything edge given wanted after {name}-start {name}-lines
+{name} = (refl, refl, refl)
+
+'''
+
+
+def list_case(rng, name):
+    st, start = opened(rng)
+    return case(name, start, [line(st, call(rng, st)) for _ in range(rng.randint(10, 25))], st)
+
+
+def state_case(rng, name):
+    st = unreached(rng)
+    start, lines = state(st), []
+    while len(lines) < 4 and not M.sound(st):
+        n, v = len(st.nodes), rng.randrange(st.V)
+        i = rng.randrange(n)
+        lines.append(line(st, rng.choice([('prepare', i, 0), ('prepare', i, 1), ('length', i, 0, False), ('length', i, 1, False), ('length', i, 1, True),
+                                          ('length', i, 0, True), ('grow', i, 1), ('grow', i, -1), ('advance', i), ('defect', v, 1),
+                                          ('blossom', 1, rng.sample(range(n), 3) if n > 2 else [i])])))
+    return case(name, start, lines, st)
+
+
+def streams(rng, path, count):
+    data, out = open(path, 'rb').read(), []
+    while data:
+        n, m = struct.unpack('<II', data[:8])
+        out.append((data[8:8 + n], data[8 + n:8 + n + m]))
+        data = data[8 + n + m:]
+    out = [x for x in out if len(x[0]) < 1200]
+    return rng.sample(out, min(count, len(out)))
+
+
+def fitting(text, space):
+    out = b''
+    for l in text.splitlines(keepends=True):
+        if len(out) + len(l) > space: break
+        out += l
+    return out
+
+
+def stream_case(name, data, text, space):
+    SEEN['stream'] += 1
+    return f'''{name} : (linesOf {nats(data)} ≡ {nats(text)}) × (fittedLines {nats(data)} {space} ≡ {nats(fitting(text, space))})
+unfolding everything
+{name} = (refl, refl)
+
+'''
+
+
+STREAMS = '''-- Record streams, and the lines that they give.
+use Prim.Native.Nat.{ℕ}
+use mathlib.Core.Path.{_≡_, refl}
+use mathlib.Core.List.{List, [], _∷_}
+use Rattle.records.specs.Run.{linesOf, fittedLines}
+use Rattle.records.specs.Opens.{everything}
+
+'''
+
+
+def main():
+    p = argparse.ArgumentParser(description=__doc__, formatter_class=argparse.RawDescriptionHelpFormatter)
+    for name, default in ('lists', 600), ('states', 200), ('streams', 100), ('seed', 1): p.add_argument('--' + name, type=int, default=default)
+    p.add_argument('--keep', help='write the copy here and leave it')
+    o = p.parse_args()
+    rng = random.Random(o.seed)
+    modules, per = {}, 20
+    for kind, count, make, what in (('Lists', o.lists, list_case, 'Random call lists.'), ('States', o.states, state_case, 'Sound states that no call list reaches.')):
+        for f in range(0, count, per):
+            modules[f'{kind}{f // per}'] = HEAD.format(what) + ''.join(make(rng, f'case{k}') for k in range(f, min(f + per, count)))
+    path = os.environ.get('VECTORS', os.path.join(TOP, '..', 'shared', 'vectors', 'streams.bin'))
+    chosen = streams(rng, path, o.streams) if o.streams else []
+    for f in range(0, len(chosen), per):
+        modules[f'Streams{f // per}'] = STREAMS + ''.join(
+            stream_case(f'stream{f + k}', d, t, rng.randint(0, len(t) + 3)) for k, (d, t) in enumerate(chosen[f:f + per]))
+    top = o.keep or tempfile.mkdtemp()
+    shutil.copytree(TOP, top, dirs_exist_ok=True, ignore=shutil.ignore_patterns('.git'))
+    subprocess.run(['git', 'init', '-q', top], check=True)
+    specs = os.path.join(top, 'crates', 'trial', 'specs')
+    os.makedirs(specs, exist_ok=True)
+    os.makedirs(os.path.join(top, 'crates', 'trial', 'src'), exist_ok=True)
+    open(os.path.join(top, 'crates', 'trial', 'src', 'lib.rt'), 'w').write('// Tests only.\n')
+    open(os.path.join(top, 'crates.txt'), 'a').write('trial: graph pass calls records\n')
+    open(os.path.join(specs, 'Lib.antt'), 'w').write('-- Tests.\n' + ''.join(f'pub mod {m}\n' for m in modules))
+    for m, text in modules.items(): open(os.path.join(specs, m + '.antt'), 'w').write(text)
+    run = subprocess.run(['rt', 'check', 'trial'], cwd=top, capture_output=True, text=True)
+    for l in run.stdout.splitlines() + run.stderr.splitlines():
+        if 'error' in l or l.startswith('rt:'): print(l[:300])
+    print(f'seed {o.seed}: {o.lists} call lists, {o.states} states that no call list reaches, {len(chosen)} record streams; ' + ', '.join(f'{k} {v}' for k, v in sorted(SEEN.items())))
+    if not o.keep: shutil.rmtree(top)
+    sys.exit(run.returncode)
+
+
+if __name__ == '__main__':
+    main()
