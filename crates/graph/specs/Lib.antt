@@ -14,6 +14,7 @@ pub mod Members
 pub mod Shape
 pub mod Opened
 pub mod Sounds
+pub mod Budget
 pub mod RowLaws
 pub mod NumberLaws
 pub mod ListLaws
