@@ -3,3 +3,4 @@
 pub mod words; // the only place that sees a signed number
 pub mod rows; // the arrays of a block
 pub mod sides; // the sides at a vertex
+pub mod lists; // the lists of a node
