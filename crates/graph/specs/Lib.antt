@@ -7,6 +7,7 @@ pub mod Word
 pub mod Rows
 pub mod Layout
 pub mod Form
+pub mod Replace
 pub mod Opens
 pub mod Laws
 pub mod Members
@@ -17,3 +18,8 @@ pub mod RowLaws
 pub mod NumberLaws
 pub mod ListLaws
 pub mod SideLaws
+pub mod MoveLaws
+pub mod CutLaws
+pub mod StoreLaws
+pub mod UsedLaws
+pub mod ReplaceLaws

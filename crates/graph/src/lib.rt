@@ -4,3 +4,4 @@ pub mod words; // the only place that sees a signed number
 pub mod rows; // the arrays of a block
 pub mod sides; // the sides at a vertex
 pub mod lists; // the lists of a node
+pub mod store; // replacing the lists of a node
