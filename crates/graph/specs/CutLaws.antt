@@ -1,18 +1,16 @@
 -- Lists one after another in a store, and what becomes of them where one of them is replaced and the later ones are shifted.
-use Prim.Native.Nat.{ℕ, zero, suc, _+_, _-_, _*_, _≤_, _<_}
+use Prim.Native.Nat.{ℕ, zero, suc, _+_, _≤_, _<_}
 use native.Mathlib.Omega.{arith}
-use native.Mathlib.Decide.{ℕ-discrete as decEq, decLt}
 use mathlib.Core.Path.{_≡_, refl, sym, ap, _∙_}
-use mathlib.Core.Logic.{_≢_}
-use mathlib.Core.List.{List, [], _∷_, _++_}
-use lib.ListN.{length, set, getD, take, drop, length-take, length-drop, length-set}
+use mathlib.Core.List.{List, [], _∷_}
+use lib.ListN.{length, set, getD, take, drop, length-drop}
 use lib.Seq.{getD-take, getD-drop, ext-getD, length-take-le, drop-drop}
-use Rattle.graph.specs.State.{Overgrown}
 use Rattle.graph.specs.Layout.{stackFrom, boundaries, stacks}
 use Rattle.graph.specs.Form.{startsFrom, totalFrom}
 
 -- ---- sums
 
+-- how long all lists are, of b and o entries each
 unfoldable pub sumOf : List ℕ → List ℕ → ℕ
 sumOf [] os = 0
 sumOf (b ∷ bs) [] = 0

@@ -79,9 +79,6 @@ pub nodes-within : (b : List ℤ) → Laid b → nodeCount (stateOf b) ≤ state
 unfolding Laid
 nodes-within b q = omega arith
 
-pub node-below : (b : List ℤ) (n : ℕ) → Laid b → n < nodeCount (stateOf b) → n < stateOf b .nodeLimit
-node-below b n q h = omega (arith, nodes-within b q)
-
 pub store-max : (b : List ℤ) → Laid b → stateOf b .storeLimit ≤ 65536
 unfolding Laid
 store-max b q = omega arith

@@ -1,13 +1,12 @@
 -- A stretch of a row of a block written, word by word.
-use Prim.Native.Nat.{ℕ, zero, suc, _+_, _-_, _≤_, _<_, min, max}
+use Prim.Native.Nat.{ℕ, _+_, _-_, _≤_, _<_, min, max}
 use native.Mathlib.Omega.{arith}
 use native.Mathlib.Decide.{ℕ-discrete as decEq}
 use mathlib.Core.Path.{_≡_, refl, sym, ap, _∙_}
-use mathlib.Core.List.{List, [], _∷_}
+use mathlib.Core.List.{List}
 use lib.IntN.{ℤ}
 use lib.ListN.{length, set, getD, length-set}
 use lib.Seq.{getD-set-same, getD-set-other}
-use Rattle.graph.specs.State.{State}
 use Rattle.graph.specs.Word.{wordAt}
 use Rattle.graph.specs.Rows.{offset}
 use Rattle.graph.specs.Layout.{rowsOf, row, stateOf}
@@ -48,8 +47,20 @@ wrote-at a n g w i h = w .inside (a + i) (omega arith) (omega arith) ∙ ap g (l
 
 -- ---- the loops
 
+-- the n words of the store at `from` are copied to `to`
+abbrev pub Copied : List ℤ → List ℤ → ℕ → ℕ → ℕ → Type 0
+Copied b₀ b from to n = Wrote 18 b₀ b to (to + n) (λ p. getD (storeOf b₀) (from + (p - to)) 0)
+
+-- the n words of t from s on are put into the store at a
+abbrev pub Filled : List ℤ → List ℤ → List ℤ → ℕ → ℕ → ℕ → Type 0
+Filled b₀ b t s a n = Wrote 18 b₀ b a (a + n) (λ p. wordAt t (s + (p - a)))
+
+-- the starts of the nodes from lo up to hi are larger by add and smaller by sub
+abbrev pub Shifted : List ℤ → List ℤ → ℕ → ℕ → ℕ → ℕ → Type 0
+Shifted b₀ b lo hi add sub = Wrote 15 b₀ b lo hi (λ p. startWord b₀ p + add - sub)
+
 module _ {b₀ b b' : List ℤ} (q : Laid b₀) where
-  pub move-down-more : (from to i x : ℕ) → Wrote 18 b₀ b to (to + i) (λ p. getD (storeOf b₀) (from + (p - to)) 0) → to ≤ from → from + i < stateOf b₀ .storeLimit → x ≡ getD (storeOf b) (from + i) 0 → Rowed 18 b b' (set (storeOf b) (to + i) x) → Wrote 18 b₀ b' to (to + (i + 1)) (λ p. getD (storeOf b₀) (from + (p - to)) 0)
+  pub move-down-more : (from to i x : ℕ) → Copied b₀ b from to i → to ≤ from → from + i < stateOf b₀ .storeLimit → x ≡ getD (storeOf b) (from + i) 0 → Rowed 18 b b' (set (storeOf b) (to + i) x) → Copied b₀ b' from to (i + 1)
   move-down-more from to i x a h k e r =
       let z : to + i - to ≡ i = omega arith in
       wrote-more to (to + (i + 1)) (to + i) x (omega arith) a r (omega (arith, store-length b₀ q)) (rw z (e ∙ a .above (from + i) (omega arith))) (omega arith) (omega arith) (omega arith) (omega arith)
@@ -59,7 +70,7 @@ module _ {b₀ b b' : List ℤ} (q : Laid b₀) where
       let z : to + i - to ≡ i = omega arith in
       wrote-more (to + i) (to + n) (to + i) x (omega arith) a r (omega (arith, store-length b₀ q)) (rw z (e ∙ a .below (from + i) (omega arith))) (omega arith) (omega arith) (omega arith) (omega arith)
 
-  pub fill-more : (t : List ℤ) (s at i x : ℕ) → Wrote 18 b₀ b at (at + i) (λ p. wordAt t (s + (p - at))) → at + i < stateOf b₀ .storeLimit → x ≡ wordAt t (s + i) → Rowed 18 b b' (set (storeOf b) (at + i) x) → Wrote 18 b₀ b' at (at + (i + 1)) (λ p. wordAt t (s + (p - at)))
+  pub fill-more : (t : List ℤ) (s at i x : ℕ) → Filled b₀ b t s at i → at + i < stateOf b₀ .storeLimit → x ≡ wordAt t (s + i) → Rowed 18 b b' (set (storeOf b) (at + i) x) → Filled b₀ b' t s at (i + 1)
   fill-more t s at i x a k e r =
       let z : at + i - at ≡ i = omega arith in
       wrote-more at (at + (i + 1)) (at + i) x (omega arith) a r (omega (arith, store-length b₀ q)) (rw z e) (omega arith) (omega arith) (omega arith) (omega arith)
@@ -68,13 +79,13 @@ starts-length : (b : List ℤ) → Laid b → length (row (rowsOf b) 15) ≡ sta
 unfolding Laid offset
 starts-length b q = rows-length b 15 (omega arith) ∙ sym (q .counted .node-limit)
 
-pub shift-more : {b₀ b b' : List ℤ} (q : Laid b₀) (add sub lo i x : ℕ) → Wrote 15 b₀ b lo i (λ p. startWord b₀ p + add - sub) → lo ≤ i → i < stateOf b₀ .nodeLimit → x ≡ startWord b i + add - sub → Rowed 15 b b' (set (row (rowsOf b) 15) i x) → Wrote 15 b₀ b' lo (i + 1) (λ p. startWord b₀ p + add - sub)
+pub shift-more : {b₀ b b' : List ℤ} (q : Laid b₀) (add sub lo i x : ℕ) → Shifted b₀ b lo i add sub → lo ≤ i → i < stateOf b₀ .nodeLimit → x ≡ startWord b i + add - sub → Rowed 15 b b' (set (row (rowsOf b) 15) i x) → Shifted b₀ b' lo (i + 1) add sub
 shift-more {b₀} {b} {b'} q add sub lo i x a h k e r =
     wrote-more lo (i + 1) i x (omega arith) a r (omega (arith, starts-length b₀ q)) (rw (a .above i (omega arith)) at e) (omega arith) (omega arith) (omega arith) (omega arith)
 
 -- nothing moves where a stretch stays, and no start changes where as much comes as goes
-pub moved-none : (b : List ℤ) (from to n : ℕ) → Laid b → from ≡ to → Wrote 18 b b to (to + n) (λ p. getD (storeOf b) (from + (p - to)) 0)
+pub moved-none : (b : List ℤ) (from to n : ℕ) → Laid b → from ≡ to → Copied b b from to n
 moved-none b from to n q e = wrote-none 18 b to (to + n) (λ p. getD (storeOf b) (from + (p - to)) 0) q (λ p x y. ap (λ i. getD (storeOf b) i 0) (let z : p ≡ from + (p - to) = omega arith in z))
 
-pub shifted-none : (b : List ℤ) (add sub lo hi : ℕ) → Laid b → add ≡ sub → Wrote 15 b b lo hi (λ p. startWord b p + add - sub)
+pub shifted-none : (b : List ℤ) (add sub lo hi : ℕ) → Laid b → add ≡ sub → Shifted b b lo hi add sub
 shifted-none b add sub lo hi q e = wrote-none 15 b lo hi (λ p. startWord b p + add - sub) q (λ p x y. omega arith)

@@ -1,5 +1,5 @@
 -- The lists of one node replaced: the state that the block holds then.
-use Prim.Native.Nat.{ℕ, zero, suc, _+_, _-_, _≤_, _<_}
+use Prim.Native.Nat.{ℕ, _+_, _-_, _≤_, _<_}
 use native.Mathlib.Omega.{arith}
 use native.Mathlib.Decide.{decLt}
 use mathlib.Core.Path.{_≡_, refl, sym, ap, _∙_}
@@ -7,7 +7,7 @@ use mathlib.Core.List.{List, [], _∷_, _++_, map, reverse, reverse-append}
 use lib.IntN.{ℤ}
 use lib.ListN.{length, set, getD, take, drop, length-drop, length-set, length-append, take-append-drop}
 use lib.Seq.{getD-take, ext-getD, length-take-le, take-set-lt, take-at, drop-at, take-all, take-take}
-use Rattle.graph.specs.State.{State, Overgrown, nodeCount, boundaryOf, overgrownOf, withNodes, withBoundary, withOvergrown}
+use Rattle.graph.specs.State.{nodeCount, boundaryOf, overgrownOf, withNodes, withBoundary, withOvergrown}
 use Rattle.graph.specs.Sound.{entries, entriesOf}
 use Rattle.graph.specs.Word.{numbersAt}
 use Rattle.graph.specs.Rows.{rows, offset}
@@ -17,7 +17,7 @@ use Rattle.graph.specs.Replace.{withLists}
 use Rattle.graph.specs.RowLaws.{header-get, rows-length, formed-of, state-of-rows}
 use Rattle.graph.specs.NumberLaws.{numbers-length}
 use Rattle.graph.specs.ListLaws.{startWord, blenWord, olenWord, storeOf, store-length, store-max, nodes-within, length-stack, Lists, lists-of}
-use Rattle.graph.specs.CutLaws.{sumOf, startAt, restAt, total-sum, starts-at, starts-length, sum-set, start-set-le, start-set-gt, Local, cut, cut-replaced, boundaries-cut, stacks-cut, boundary-local, stack-local}
+use Rattle.graph.specs.CutLaws.{sumOf, startAt, total-sum, starts-at, starts-length, sum-set, start-set-le, start-set-gt, Local, cut, cut-replaced, boundaries-cut, stacks-cut, boundary-local, stack-local}
 use Rattle.graph.specs.StoreLaws.{newLists, Stored, Kept, rowed-kept, kept-then, Resized}
 use Rattle.graph.specs.UsedLaws.{blens, olens, usedIn, Split, count-is, length-bs, length-os, start-is, used-within, split-of, part-of, later, used-entries}
 

@@ -1,10 +1,10 @@
 -- The words of a node's lists replaced in the store, and the starts and lengths that go with them: what stands where.
 -- In all of it the lists start at a; the old ones have x words of boundary and y in all; k of boundary and m of kept stack are in the new ones.
-use Prim.Native.Nat.{ℕ, zero, suc, _+_, _-_, _≤_, _<_}
+use Prim.Native.Nat.{ℕ, _+_, _-_, _≤_, _<_}
 use native.Mathlib.Omega.{arith}
 use native.Mathlib.Decide.{decLt}
-use mathlib.Core.Path.{_≡_, refl, sym, ap, _∙_}
-use mathlib.Core.List.{List, [], _∷_, _++_}
+use mathlib.Core.Path.{_≡_, sym, ap, _∙_}
+use mathlib.Core.List.{List, _++_}
 use lib.IntN.{ℤ}
 use lib.ListN.{length, set, getD, take, drop, length-drop, List·getD-append}
 use lib.Seq.{getD-take, getD-drop, getD-append-add, length-take-le}
@@ -16,7 +16,7 @@ use Rattle.graph.specs.Form.{Laid, Rowed}
 use Rattle.graph.specs.RowLaws.{rowed-then}
 use Rattle.graph.specs.NumberLaws.{numbers-entry, numbers-length}
 use Rattle.graph.specs.ListLaws.{startWord, storeOf, store-length}
-use Rattle.graph.specs.MoveLaws.{Wrote, wrote-at}
+use Rattle.graph.specs.MoveLaws.{Copied, Filled, Shifted, wrote-at}
 use Rattle.graph.specs.CutLaws.{Agree}
 
 -- ---- the kept stack and the rest behind the lists, moved
@@ -30,7 +30,7 @@ pub record Moved (b₀ b : List ℤ) (a x y rest k m z : ℕ) : Type 0 where
 
 module _ (b₀ b₁ b : List ℤ) (a x y rest k m z : ℕ) (hx : x + m ≤ y) (hk : k + m ≤ z) where
   -- the rest first, where it goes up
-  pub moved-up : y < z → Wrote 18 b₀ b₁ (a + z) (a + z + rest) (λ p. getD (storeOf b₀) (a + y + (p - (a + z))) 0) → Wrote 18 b₁ b (a + k) (a + k + m) (λ p. getD (storeOf b₁) (a + x + (p - (a + k))) 0) → Moved b₀ b a x y rest k m z
+  pub moved-up : y < z → Copied b₀ b₁ (a + y) (a + z) rest → Copied b₁ b (a + x) (a + k) m → Moved b₀ b a x y rest k m z
   moved-up h u v = record {
     still = rowed-then (u .still) (v .still);
     before = λ p i. v .below p (omega arith) ∙ u .below p (omega arith);
@@ -39,7 +39,7 @@ module _ (b₀ b₁ b : List ℤ) (a x y rest k m z : ℕ) (hx : x + m ≤ y) (h
   }
 
   -- the rest last, where it stays or goes down
-  pub moved-down : z ≤ y → Wrote 18 b₀ b₁ (a + k) (a + k + m) (λ p. getD (storeOf b₀) (a + x + (p - (a + k))) 0) → Wrote 18 b₁ b (a + z) (a + z + rest) (λ p. getD (storeOf b₁) (a + y + (p - (a + z))) 0) → Moved b₀ b a x y rest k m z
+  pub moved-down : z ≤ y → Copied b₀ b₁ (a + x) (a + k) m → Copied b₁ b (a + y) (a + z) rest → Moved b₀ b a x y rest k m z
   moved-down h u v = record {
     still = rowed-then (u .still) (v .still);
     before = λ p i. v .below p (omega arith) ∙ u .below p (omega arith);
@@ -61,8 +61,8 @@ pub record Stored (b₀ b t : List ℤ) (a x y rest k m q o : ℕ) : Type 0 wher
 
 module _ (b₀ b₁ b₂ b t : List ℤ) (a x y rest k m q o : ℕ) (g : Laid b₀) (hx : x + m ≤ y) (room : a + y + rest ≤ stateOf b₀ .storeLimit)
     (h : Moved b₀ b₁ a x y rest k m (k + (m + o)))
-    (u : Wrote 18 b₁ b₂ a (a + k) (λ p. wordAt t (0 + (p - a))))
-    (v : Wrote 18 b₂ b (a + k + m) (a + k + m + o) (λ p. wordAt t (q + (p - (a + k + m)))))
+    (u : Filled b₁ b₂ t 0 a k)
+    (v : Filled b₂ b t q (a + k + m) o)
     (ht : k ≤ length t) (hq : q + o ≤ length t) where
   first : (i : ℕ) → i < k → getD (storeOf b) (a + i) 0 ≡ getD (numbersAt t 0 k) i 0
   first i j = v .below (a + i) (omega arith) ∙ wrote-at a k (λ r. wordAt t (0 + r)) u i j ∙ sym (numbers-entry t 0 k i j)
@@ -136,7 +136,7 @@ pub record Resized (b₀ b : List ℤ) (n c k o y : ℕ) : Type 0 where
   pub size : length (row (rowsOf b) 15) ≡ length (row (rowsOf b₀) 15)
 
 module _ (b₀ b₁ b₂ b : List ℤ) (n c k o y : ℕ)
-    (s : Wrote 15 b₀ b₁ (n + 1) c (λ p. startWord b₀ p + (k + o) - y))
+    (s : Shifted b₀ b₁ (n + 1) c (k + o) y)
     (u : Rowed 16 b₁ b₂ (set (row (rowsOf b₁) 16) n k))
     (v : Rowed 17 b₂ b (set (row (rowsOf b₂) 17) n o)) where
   same : row (rowsOf b) 15 ≡ row (rowsOf b₁) 15

@@ -1,5 +1,5 @@
 -- The lists of all nodes in the store: how many words they take, and where those of one node stand among them.
-use Prim.Native.Nat.{ℕ, zero, suc, _+_, _-_, _≤_, _<_}
+use Prim.Native.Nat.{ℕ, zero, suc, _+_, _≤_, _<_}
 use native.Mathlib.Omega.{arith}
 use mathlib.Core.Path.{_≡_, refl, sym, ap, _∙_}
 use mathlib.Core.List.{List, [], _∷_}
@@ -7,13 +7,13 @@ use lib.IntN.{ℤ}
 use lib.ListN.{length, getD, take}
 use lib.Seq.{getD-take, length-take-le}
 use Rattle.graph.specs.Basic.{sumBelow}
-use Rattle.graph.specs.State.{State, nodeCount, boundaryOf, overgrownOf}
+use Rattle.graph.specs.State.{nodeCount, boundaryOf, overgrownOf}
 use Rattle.graph.specs.Sound.{entries, entriesOf}
 use Rattle.graph.specs.Rows.{offset}
 use Rattle.graph.specs.Layout.{rowsOf, row, stateOf}
 use Rattle.graph.specs.Form.{Laid, Listed}
 use Rattle.graph.specs.RowLaws.{header-get, rows-length}
-use Rattle.graph.specs.ListLaws.{startWord, blenWord, olenWord, store-max, Lists, lists-of}
+use Rattle.graph.specs.ListLaws.{startWord, blenWord, olenWord, store-max, lists-of}
 use Rattle.graph.specs.CutLaws.{sumOf, startAt, restAt, total-sum, starts-at, parts-sum, start-behind}
 
 -- the lengths of the nodes' lists

@@ -1,16 +1,16 @@
 // Replacing the lists of a node in the store. What must not move is left in its place.
 
 ghost use mathlib.Core.Path.{_≡_};
-ghost use Prim.Native.Nat.{ℕ, _+_, _-_, _<_, _≤_};
-ghost use lib.ListN.{length, getD};
+ghost use Prim.Native.Nat.{ℕ, _+_, _<_, _≤_};
+ghost use lib.ListN.{length};
 ghost use Rattle.graph.specs.State.{nodeCount, overgrownOf};
 ghost use Rattle.graph.specs.Sound.{entries, entriesOf};
-ghost use Rattle.graph.specs.Word.{wordAt, numbersAt};
+ghost use Rattle.graph.specs.Word.{numbersAt};
 ghost use Rattle.graph.specs.Layout.{stateOf};
 ghost use Rattle.graph.specs.Form.{Laid, Listed, Formed, Becomes};
 ghost use Rattle.graph.specs.Replace.{withLists};
-ghost use Rattle.graph.specs.ListLaws.{startWord, storeOf};
-ghost use Rattle.graph.specs.MoveLaws.{Wrote};
+ghost use Rattle.graph.specs.ListLaws.{startWord};
+ghost use Rattle.graph.specs.MoveLaws.{Copied, Filled, Shifted};
 ghost use Rattle.graph.specs.StoreLaws.{Moved, Stored, Resized};
 ghost use Rattle.graph.specs.UsedLaws.{usedIn};
 ghost use Rattle.graph.specs.ReplaceLaws.{Asked};
@@ -23,7 +23,7 @@ use crate::words;
 // The n words at `from` are copied to `to`, which lies before them.
 fn move_down(b: &mut [i64], from: usize, to: usize, n: usize)
     requires { ⌜ Laid (now b) × (to ≤ from) × (from + n ≤ stateOf (now b) .storeLimit) ⌝ }
-    ensures { λ r. ⌜ Wrote 18 (now (b .entry)) (now (b .exit)) to (to + n) (λ p. getD (storeOf (now (b .entry))) (from + (p - to)) 0) ⌝ }
+    ensures { λ r. ⌜ Copied (now (b .entry)) (now (b .exit)) from to n ⌝ }
 {
     let mut i = 0;
     while i < n {
@@ -36,7 +36,7 @@ fn move_down(b: &mut [i64], from: usize, to: usize, n: usize)
 // The n words at `from` are copied to `to`, which lies behind them.
 fn move_up(b: &mut [i64], from: usize, to: usize, n: usize)
     requires { ⌜ Laid (now b) × (from ≤ to) × (to + n ≤ stateOf (now b) .storeLimit) ⌝ }
-    ensures { λ r. ⌜ Wrote 18 (now (b .entry)) (now (b .exit)) to (to + n) (λ p. getD (storeOf (now (b .entry))) (from + (p - to)) 0) ⌝ }
+    ensures { λ r. ⌜ Copied (now (b .entry)) (now (b .exit)) from to n ⌝ }
 {
     let mut i = n;
     while 0 < i {
@@ -49,7 +49,7 @@ fn move_up(b: &mut [i64], from: usize, to: usize, n: usize)
 // The n words at `from` are copied to `to`.
 fn move_words(b: &mut [i64], from: usize, to: usize, n: usize)
     requires { ⌜ Laid (now b) × (from + n ≤ stateOf (now b) .storeLimit) × (to + n ≤ stateOf (now b) .storeLimit) ⌝ }
-    ensures { λ r. ⌜ Wrote 18 (now (b .entry)) (now (b .exit)) to (to + n) (λ p. getD (storeOf (now (b .entry))) (from + (p - to)) 0) ⌝ }
+    ensures { λ r. ⌜ Copied (now (b .entry)) (now (b .exit)) from to n ⌝ }
 {
     if from < to {
         move_up(b, from, to, n);
@@ -63,7 +63,7 @@ fn move_words(b: &mut [i64], from: usize, to: usize, n: usize)
 // The n words of t from q on are put into the store at `at`.
 fn fill(b: &mut [i64], t: &[i64], q: usize, at: usize, n: usize)
     requires { ⌜ Laid (now b) × (q + n ≤ length (now t)) × (at + n ≤ stateOf (now b) .storeLimit) ⌝ }
-    ensures { λ r. ⌜ Wrote 18 (now (b .entry)) (now (b .exit)) at (at + n) (λ p. wordAt (now (t .entry)) (q + (p - at))) ⌝ }
+    ensures { λ r. ⌜ Filled (now (b .entry)) (now (b .exit)) (now (t .entry)) q at n ⌝ }
 {
     let mut i = 0;
     while i < n {
@@ -78,7 +78,7 @@ fn fill(b: &mut [i64], t: &[i64], q: usize, at: usize, n: usize)
 // The starts of the nodes from lo up to hi grow by add and shrink by sub.
 fn shift_each(b: &mut [i64], lo: usize, hi: usize, add: usize, sub: usize)
     requires { ⌜ Laid (now b) × (lo ≤ hi) × (hi ≤ stateOf (now b) .nodeLimit) × (add ≤ 65536) × ((p : ℕ) → lo ≤ p → p < hi → (sub ≤ startWord (now b) p) × (startWord (now b) p ≤ 65536)) ⌝ }
-    ensures { λ r. ⌜ Wrote 15 (now (b .entry)) (now (b .exit)) lo hi (λ p. startWord (now (b .entry)) p + add - sub) ⌝ }
+    ensures { λ r. ⌜ Shifted (now (b .entry)) (now (b .exit)) lo hi add sub ⌝ }
 {
     let mut i = lo;
     while i < hi {
@@ -91,7 +91,7 @@ fn shift_each(b: &mut [i64], lo: usize, hi: usize, add: usize, sub: usize)
 // The same, with nothing done where they stay.
 fn shift_starts(b: &mut [i64], lo: usize, hi: usize, add: usize, sub: usize)
     requires { ⌜ Laid (now b) × (lo ≤ hi) × (hi ≤ stateOf (now b) .nodeLimit) × (add ≤ 65536) × ((p : ℕ) → lo ≤ p → p < hi → (sub ≤ startWord (now b) p) × (startWord (now b) p ≤ 65536)) ⌝ }
-    ensures { λ r. ⌜ Wrote 15 (now (b .entry)) (now (b .exit)) lo hi (λ p. startWord (now (b .entry)) p + add - sub) ⌝ }
+    ensures { λ r. ⌜ Shifted (now (b .entry)) (now (b .exit)) lo hi add sub ⌝ }
 {
     if add != sub {
         shift_each(b, lo, hi, add, sub);

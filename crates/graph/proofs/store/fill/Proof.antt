@@ -2,11 +2,9 @@ use borrow.Author.Needs.{needs}
 use native.Mathlib.Omega.{arith}
 use Prim.Native.Nat.{_+_, _-_, _≤_}
 use mathlib.Core.Path.{_≡_}
-use lib.ListN.{getD}
 use Rattle.graph.specs.Layout.{stateOf}
-use Rattle.graph.specs.Word.{wordAt}
 use Rattle.graph.specs.ListLaws.{store-max}
-use Rattle.graph.specs.MoveLaws.{Wrote, wrote-none, fill-more}
+use Rattle.graph.specs.MoveLaws.{Filled, wrote-none, fill-more}
 use Rattle.graph.proofs.store.fill.Statement.{statement}
 use Rattle.graph.proofs.store.fill.Tie as tie
 use Rattle.graph.proofs.store.fill.Reads as reads
@@ -15,7 +13,7 @@ use Rattle.graph.proofs.rows.put_store.Reads as put-store-reads
 use Rattle.graph.proofs.words.word.Reads as word-reads
 
 abbrev Inv-loop : tie.InvT-loop
-Inv-loop b₀ t q at n i₀ b i = (i ≤ n) × (stateOf b₀ .storeLimit ≤ 65536) × Wrote 18 b₀ b at (at + i) (λ p. wordAt t (q + (p - at)))
+Inv-loop b₀ t q at n i₀ b i = (i ≤ n) × (stateOf b₀ .storeLimit ≤ 65536) × Filled b₀ b t q at i
 
 abbrev μ-loop : tie.MeasureT-loop
 μ-loop b₀ t q at n i₀ b i = n - i

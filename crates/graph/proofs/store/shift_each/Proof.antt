@@ -1,11 +1,8 @@
 use borrow.Author.Needs.{needs}
 use native.Mathlib.Omega.{arith}
-use Prim.Native.Nat.{_+_, _-_, _≤_}
+use Prim.Native.Nat.{_-_, _≤_}
 use mathlib.Core.Path.{_≡_}
-use lib.ListN.{getD}
-use Rattle.graph.specs.Layout.{stateOf}
-use Rattle.graph.specs.ListLaws.{startWord}
-use Rattle.graph.specs.MoveLaws.{Wrote, wrote-none, shift-more}
+use Rattle.graph.specs.MoveLaws.{Shifted, wrote-none, shift-more}
 use Rattle.graph.proofs.store.shift_each.Statement.{statement}
 use Rattle.graph.proofs.store.shift_each.Tie as tie
 use Rattle.graph.proofs.store.shift_each.Reads as reads
@@ -14,7 +11,7 @@ use Rattle.graph.proofs.rows.node_word.Reads as node-word-reads
 use Rattle.graph.proofs.rows.put_node.Reads as put-node-reads
 
 abbrev Inv-loop : tie.InvT-loop
-Inv-loop b₀ lo hi add sub i₀ b i = (lo ≤ i) × (i ≤ hi) × Wrote 15 b₀ b lo i (λ p. startWord b₀ p + add - sub)
+Inv-loop b₀ lo hi add sub i₀ b i = (lo ≤ i) × (i ≤ hi) × Shifted b₀ b lo i add sub
 
 abbrev μ-loop : tie.MeasureT-loop
 μ-loop b₀ lo hi add sub i₀ b i = hi - i
