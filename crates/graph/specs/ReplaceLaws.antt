@@ -19,7 +19,7 @@ use Rattle.graph.specs.NumberLaws.{numbers-length}
 use Rattle.graph.specs.ListLaws.{startWord, blenWord, olenWord, storeOf, store-length, store-max, nodes-within, length-stack, Lists, lists-of}
 use Rattle.graph.specs.CutLaws.{sumOf, startAt, total-sum, starts-at, starts-length, sum-set, start-set-le, start-set-gt, Local, cut, cut-replaced, boundaries-cut, stacks-cut, boundary-local, stack-local}
 use Rattle.graph.specs.StoreLaws.{newLists, Stored, Kept, rowed-kept, kept-then, Resized}
-use Rattle.graph.specs.UsedLaws.{blens, olens, usedIn, Split, count-is, length-bs, length-os, start-is, used-within, split-of, part-of, later, used-entries}
+use Rattle.graph.specs.UsedLaws.{blens, olens, Split, count-is, length-bs, length-os, start-is, entries-within, split-of, part-of, later}
 
 -- ---- stacks
 
@@ -50,26 +50,27 @@ pub record Asked (b : List ℤ) (n a x y rest k m o : ℕ) : Type 0 where
   pub room : a + (k + (m + o)) + rest ≤ stateOf b .storeLimit
   pub small : stateOf b .storeLimit ≤ 65536
 
-pub asked-of : (b : List ℤ) (n a x w u k m o : ℕ) → Laid b → Listed b → n < nodeCount (stateOf b) → a ≡ startWord b n → x ≡ length (boundaryOf (stateOf b) n) → w ≡ length (overgrownOf (stateOf b) n) → u ≡ usedIn b
-    → m ≤ length (overgrownOf (stateOf b) n) → entries (stateOf b) + (k + m + o) ≤ stateOf b .storeLimit + entriesOf (stateOf b) n
-    → Asked b n a x (x + w) (u - (a + (x + w))) k m o
-unfolding entriesOf
-asked-of b n a x w u k m o q f h ea ex ew eu hm hr =
-    let l : Lists b n = lists-of b n q f h in
-    let lx : x ≡ blenWord b n = ex ∙ l .boundary-length in
-    let lw : w ≡ olenWord b n = ew ∙ l .overgrown-length in
-    let g : a + (x + w) ≤ u = omega (arith, part-of b q f n h, ea, eu, lx, lw) in
-    let s : a + (x + w) + (u - (a + (x + w))) ≡ usedIn b = omega (arith, g, eu) in
-    record {
-      split = split-of b q f n a (x + w) (u - (a + (x + w))) h ea (omega (arith, lx, lw)) s;
-      start = ea;
-      boundary = lx;
-      both = omega (arith, lx, lw);
-      keeps = omega (arith, hm, ew);
-      within = omega (arith, s, used-within b q f);
-      room = omega (arith, s, used-entries b q f, hr, ex, ew);
-      small = store-max b q;
-    }
+-- what the readers give: start a, boundary length x, overgrown length w, entries u
+module _ (b : List ℤ) (n a x w u : ℕ) (q : Laid b) (f : Listed b) (h : n < nodeCount (stateOf b)) (ea : a ≡ startWord b n) (ex : x ≡ length (boundaryOf (stateOf b) n)) (ew : w ≡ length (overgrownOf (stateOf b) n)) (eu : u ≡ entries (stateOf b)) where
+  pub asked-part : a + (x + w) ≤ u
+  asked-part = let l : Lists b n = lists-of b n q f h in omega (arith, part-of b q f n h, ea, ex, ew, eu, l .boundary-length, l .overgrown-length)
+
+  pub asked-of : (k m o : ℕ) → m ≤ length (overgrownOf (stateOf b) n) → entries (stateOf b) + (k + m + o) ≤ stateOf b .storeLimit + entriesOf (stateOf b) n → Asked b n a x (x + w) (u - (a + (x + w))) k m o
+  unfolding entriesOf
+  asked-of k m o hm hr =
+      let l : Lists b n = lists-of b n q f h in
+      let s : a + (x + w) + (u - (a + (x + w))) ≡ entries (stateOf b) = omega (arith, asked-part, eu) in
+      let y : x + w ≡ blenWord b n + olenWord b n = omega (arith, ex, ew, l .boundary-length, l .overgrown-length) in
+      record {
+        split = split-of b q f n a (x + w) (u - (a + (x + w))) h ea y s;
+        start = ea;
+        boundary = ex ∙ l .boundary-length;
+        both = y;
+        keeps = omega (arith, hm, ew);
+        within = omega (arith, s, entries-within b q f);
+        room = omega (arith, s, hr, ex, ew);
+        small = store-max b q;
+      }
 
 starts-still : (b₀ b₁ : List ℤ) → Rowed 18 b₀ b₁ (storeOf b₁) → row (rowsOf b₁) 15 ≡ row (rowsOf b₀) 15
 unfolding rowsOf rows

@@ -7,7 +7,7 @@ use lib.IntN.{ℤ}
 use lib.ListN.{length, getD, take}
 use lib.Seq.{getD-take, length-take-le}
 use Rattle.graph.specs.Basic.{sumBelow}
-use Rattle.graph.specs.State.{nodeCount, boundaryOf, overgrownOf}
+use Rattle.graph.specs.State.{State, nodeCount, boundaryOf, overgrownOf}
 use Rattle.graph.specs.Sound.{entries, entriesOf}
 use Rattle.graph.specs.Rows.{offset}
 use Rattle.graph.specs.Layout.{rowsOf, row, stateOf}
@@ -23,10 +23,6 @@ blens b = take (getD (row (rowsOf b) 0) 4 0) (row (rowsOf b) 16)
 abbrev pub olens : List ℤ → List ℕ
 olens b = take (getD (row (rowsOf b) 0) 4 0) (row (rowsOf b) 17)
 
--- how many words of the store the lists take
-unfoldable pub usedIn : List ℤ → ℕ
-usedIn b = sumOf (blens b) (olens b)
-
 rest-last : (bs os : List ℕ) (n : ℕ) → n + 1 ≡ length bs → n + 1 ≡ length os → restAt bs os n ≡ 0
 unfolding restAt sumOf
 rest-last [] os n h k = refl
@@ -34,6 +30,30 @@ rest-last (b ∷ bs) [] n h k = refl
 rest-last (b ∷ []) (o ∷ os) zero h k = refl
 rest-last (b ∷ c ∷ bs) (o ∷ os) zero h k = absurd (omega arith)
 rest-last (b ∷ bs) (o ∷ os) (suc n) h k = rest-last bs os n (omega arith) (omega arith)
+
+-- ---- sums
+
+sum-first : (f : ℕ → ℕ) (n : ℕ) → sumBelow f (suc n) ≡ f 0 + sumBelow (λ i. f (suc i)) n
+unfolding sumBelow
+sum-first f zero = omega arith
+sum-first f (suc n) = let ih : sumBelow f n + f n ≡ f 0 + sumBelow (λ i. f (suc i)) n = sum-first f n in omega arith
+
+sum-same : (f g : ℕ → ℕ) (n : ℕ) → ((i : ℕ) → i < n → f i ≡ g i) → sumBelow f n ≡ sumBelow g n
+unfolding sumBelow
+sum-same f g zero h = refl
+sum-same f g (suc n) h = let ih : sumBelow f n ≡ sumBelow g n = sum-same f g n (λ i k. h i (omega arith)) in let e : f n ≡ g n = h n (omega arith) in omega arith
+
+sum-lists : (bs os : List ℕ) → length bs ≡ length os → sumBelow (λ i. getD bs i 0 + getD os i 0) (length bs) ≡ sumOf bs os
+unfolding sumOf sumBelow
+sum-lists [] os h = refl
+sum-lists (b ∷ bs) [] h = absurd (omega arith)
+sum-lists (b ∷ bs) (o ∷ os) h = sum-first (λ i. getD (b ∷ bs) i 0 + getD (o ∷ os) i 0) (length bs) ∙ (let ih : sumBelow (λ i. getD bs i 0 + getD os i 0) (length bs) ≡ sumOf bs os = sum-lists bs os (omega arith) in omega arith)
+
+pub entries-none : (c : State) → nodeCount c ≡ 0 → entries c ≡ 0
+unfolding entries sumBelow
+entries-none c h = rw h
+
+-- ---- where the lists stand
 
 -- node n: where its lists start, how many words they have, and how many stand behind them
 pub record Split (b : List ℤ) (n a y rest : ℕ) : Type 0 where
@@ -70,63 +90,42 @@ module _ (b : List ℤ) (q : Laid b) (f : Listed b) where
       ∙ starts-at 0 (blens b) (olens b) n (omega (arith, length-bs)) (omega (arith, length-os))
       ∙ omega arith
 
-  parts : (n : ℕ) → n < nodeCount (stateOf b) → startWord b n + (blenWord b n + olenWord b n) + restAt (blens b) (olens b) n ≡ usedIn b
-  unfolding usedIn
-  parts n h = omega (arith, parts-sum (blens b) (olens b) n (omega (arith, length-bs)) (omega (arith, length-os)), start-is n h, blen-is n h, olen-is n h)
+  -- all lists have as many words as there are entries
+  sum-entries : sumOf (blens b) (olens b) ≡ entries (stateOf b)
+  unfolding entries entriesOf
+  sum-entries =
+      sym (sum-lists (blens b) (olens b) (length-bs ∙ sym length-os))
+      ∙ ap (sumBelow (λ i. getD (blens b) i 0 + getD (olens b) i 0)) length-bs
+      ∙ sum-same (λ i. getD (blens b) i 0 + getD (olens b) i 0) (λ n. length (boundaryOf (stateOf b) n) + length (overgrownOf (stateOf b) n)) (nodeCount (stateOf b))
+      (λ i h. let l = lists-of b i q f h in omega (arith, l .boundary-length, l .overgrown-length, blen-is i h, olen-is i h))
 
-  pub used-within : usedIn b ≤ stateOf b .storeLimit
-  unfolding usedIn Laid Listed
-  used-within = omega (arith, total-sum 0 (blens b) (olens b), f .total, header-get b 3 (omega arith), q .counted .store-limit)
+  parts : (n : ℕ) → n < nodeCount (stateOf b) → startWord b n + (blenWord b n + olenWord b n) + restAt (blens b) (olens b) n ≡ entries (stateOf b)
+  parts n h = omega (arith, sum-entries, parts-sum (blens b) (olens b) n (omega (arith, length-bs)) (omega (arith, length-os)), start-is n h, blen-is n h, olen-is n h)
+
+  pub entries-within : entries (stateOf b) ≤ stateOf b .storeLimit
+  unfolding Laid Listed
+  entries-within = omega (arith, sum-entries, total-sum 0 (blens b) (olens b), f .total, header-get b 3 (omega arith), q .counted .store-limit)
 
   -- the lists of the last node end where all lists end
-  pub used-last : (n : ℕ) → n + 1 ≡ nodeCount (stateOf b) → startWord b n + blenWord b n + olenWord b n ≡ usedIn b
-  used-last n h =
+  pub entries-last : (n : ℕ) → n + 1 ≡ nodeCount (stateOf b) → startWord b n + blenWord b n + olenWord b n ≡ entries (stateOf b)
+  entries-last n h =
       let z = rest-last (blens b) (olens b) n (omega (arith, length-bs)) (omega (arith, length-os)) in
       omega (arith, parts n (omega arith), z)
 
-  pub split-of : (n a y rest : ℕ) → n < nodeCount (stateOf b) → a ≡ startWord b n → y ≡ blenWord b n + olenWord b n → a + y + rest ≡ usedIn b → Split b n a y rest
-  unfolding usedIn
+  pub split-of : (n a y rest : ℕ) → n < nodeCount (stateOf b) → a ≡ startWord b n → y ≡ blenWord b n + olenWord b n → a + y + rest ≡ entries (stateOf b) → Split b n a y rest
   split-of n a y rest h ea ey er = record {
     below = h;
     is-start = ea ∙ start-is n h;
     is-old = omega (arith, ey, blen-is n h, olen-is n h);
     is-rest = omega (arith, parts n h, ea, ey, er);
-    sum = er;
+    sum = er ∙ sym sum-entries;
   }
 
-  -- a node's lists are a part of what is used, and those of a later node start behind them
-  pub part-of : (n : ℕ) → n < nodeCount (stateOf b) → startWord b n + (blenWord b n + olenWord b n) ≤ usedIn b
+  -- a node's lists are a part of all, and those of a later node start behind them
+  pub part-of : (n : ℕ) → n < nodeCount (stateOf b) → startWord b n + (blenWord b n + olenWord b n) ≤ entries (stateOf b)
   part-of n h = omega (arith, parts n h)
 
   pub later : (n x : ℕ) → n < x → x < nodeCount (stateOf b) → (blenWord b n + olenWord b n ≤ startWord b x) × (startWord b x ≤ 65536)
   later n x h k =
       let e = start-behind (blens b) (olens b) n x h (omega (arith, length-bs)) (omega (arith, length-os)) in
-      (omega (arith, start-is x k, e, blen-is n (omega arith), olen-is n (omega arith)), omega (arith, part-of x k, used-within, store-max b q))
-
--- ---- the words used are the entries of all lists
-
-sum-first : (f : ℕ → ℕ) (n : ℕ) → sumBelow f (suc n) ≡ f 0 + sumBelow (λ i. f (suc i)) n
-unfolding sumBelow
-sum-first f zero = omega arith
-sum-first f (suc n) = let ih : sumBelow f n + f n ≡ f 0 + sumBelow (λ i. f (suc i)) n = sum-first f n in omega arith
-
-sum-same : (f g : ℕ → ℕ) (n : ℕ) → ((i : ℕ) → i < n → f i ≡ g i) → sumBelow f n ≡ sumBelow g n
-unfolding sumBelow
-sum-same f g zero h = refl
-sum-same f g (suc n) h = let ih : sumBelow f n ≡ sumBelow g n = sum-same f g n (λ i k. h i (omega arith)) in let e : f n ≡ g n = h n (omega arith) in omega arith
-
-sum-lists : (bs os : List ℕ) → length bs ≡ length os → sumBelow (λ i. getD bs i 0 + getD os i 0) (length bs) ≡ sumOf bs os
-unfolding sumOf sumBelow
-sum-lists [] os h = refl
-sum-lists (b ∷ bs) [] h = absurd (omega arith)
-sum-lists (b ∷ bs) (o ∷ os) h = sum-first (λ i. getD (b ∷ bs) i 0 + getD (o ∷ os) i 0) (length bs) ∙ (let ih : sumBelow (λ i. getD bs i 0 + getD os i 0) (length bs) ≡ sumOf bs os = sum-lists bs os (omega arith) in omega arith)
-
-pub used-entries : (b : List ℤ) → Laid b → Listed b → usedIn b ≡ entries (stateOf b)
-unfolding usedIn entries entriesOf
-used-entries b q f =
-    sym (sum-lists (blens b) (olens b) (length-bs b q f ∙ sym (length-os b q f)))
-    ∙ ap (sumBelow (λ i. getD (blens b) i 0 + getD (olens b) i 0)) (length-bs b q f)
-    ∙ sum-same (λ i. getD (blens b) i 0 + getD (olens b) i 0) (λ n. length (boundaryOf (stateOf b) n) + length (overgrownOf (stateOf b) n)) (nodeCount (stateOf b))
-    (λ i h.
-    let l = lists-of b i q f h in
-    omega (arith, l .boundary-length, l .overgrown-length, blen-is b q f i h, olen-is b q f i h))
+      (omega (arith, start-is x k, e, blen-is n (omega arith), olen-is n (omega arith)), omega (arith, part-of x k, entries-within, store-max b q))

@@ -1,18 +1,16 @@
 // Replacing the lists of a node in the store. What must not move is left in its place.
 
-ghost use mathlib.Core.Path.{_≡_};
 ghost use Prim.Native.Nat.{ℕ, _+_, _<_, _≤_};
 ghost use lib.ListN.{length};
 ghost use Rattle.graph.specs.State.{nodeCount, overgrownOf};
 ghost use Rattle.graph.specs.Sound.{entries, entriesOf};
 ghost use Rattle.graph.specs.Word.{numbersAt};
 ghost use Rattle.graph.specs.Layout.{stateOf};
-ghost use Rattle.graph.specs.Form.{Laid, Listed, Formed, Becomes};
+ghost use Rattle.graph.specs.Form.{Laid, Formed, Becomes};
 ghost use Rattle.graph.specs.Replace.{withLists};
 ghost use Rattle.graph.specs.ListLaws.{startWord};
 ghost use Rattle.graph.specs.MoveLaws.{Copied, Filled, Shifted};
 ghost use Rattle.graph.specs.StoreLaws.{Moved, Stored, Resized};
-ghost use Rattle.graph.specs.UsedLaws.{usedIn};
 ghost use Rattle.graph.specs.ReplaceLaws.{Asked};
 use crate::lists;
 use crate::rows;
@@ -110,7 +108,7 @@ fn put_sizes(b: &mut [i64], n: usize, c: usize, k: usize, o: usize, y: usize)
 
 // ---- the lists of a node, which start at a and have y words, the first x of them boundary
 
-// The m words at x move to k, and the `rest` words behind the lists move to z: first what must give way to the other.
+// Counted from a, the m words at x move to k, and the `rest` words behind the lists, at y, move to z: first what the other would overwrite.
 fn make_room(b: &mut [i64], a: usize, x: usize, y: usize, rest: usize, k: usize, m: usize, z: usize)
     requires { ⌜ Laid (now b) × (x + m ≤ y) × (k + m ≤ z) × (a + y + rest ≤ stateOf (now b) .storeLimit) × (a + z + rest ≤ stateOf (now b) .storeLimit) × (stateOf (now b) .storeLimit ≤ 65536) ⌝ }
     ensures { λ r. ⌜ Moved (now (b .entry)) (now (b .exit)) a x y rest k m z ⌝ }
@@ -145,18 +143,6 @@ fn put_lists(
     fill(b, t, q, a + k + m, o);
 }
 
-// How many words of the store the lists of all nodes take.
-fn used(b: &[i64]) -> usize
-    requires { ⌜ Laid (now b) × Listed (now b) × (1 ≤ nodeCount (stateOf (now b))) ⌝ }
-    ensures { λ r. ⌜ (r ≡ usedIn (now (b .entry))) × (r ≤ 65536) ⌝ }
-{
-    let n = rows::node_count(b) - 1;
-    let a = lists::start(b, n);
-    let k = lists::boundary_len(b, n);
-    let o = lists::overgrown_len(b, n);
-    a + k + o
-}
-
 // The lists of node n are replaced, where all of it is known to fit.
 fn replace_at(
     b: &mut [i64],
@@ -189,6 +175,6 @@ pub fn replace_lists(b: &mut [i64], n: usize, t: &[i64], k: usize, m: usize, q: 
     let a = lists::start(b, n);
     let x = lists::boundary_len(b, n);
     let y = x + lists::overgrown_len(b, n);
-    let rest = used(b) - (a + y);
+    let rest = lists::entry_count(b) - (a + y);
     replace_at(b, n, t, k, m, q, o, a, x, y, rest);
 }
