@@ -8,6 +8,7 @@ pub mod Rows
 pub mod Layout
 pub mod Node
 pub mod Form
+pub mod Replace
 pub mod Opens
 pub mod Laws
 pub mod Members
@@ -20,3 +21,8 @@ pub mod NumberLaws
 pub mod ListLaws
 pub mod SideLaws
 pub mod FieldLaws
+pub mod MoveLaws
+pub mod CutLaws
+pub mod StoreLaws
+pub mod UsedLaws
+pub mod ReplaceLaws

@@ -7,3 +7,6 @@ pub mod vertex; // fields of vertices
 pub mod edge; // fields of edges
 pub mod node; // fields of nodes
 pub mod dual_node; // a node as a value
+pub mod sides; // the sides at a vertex
+pub mod lists; // the lists of a node
+pub mod store; // replacing the lists of a node
