@@ -20,7 +20,14 @@ impl DualNode {
     pub fn empty() -> DualNode
         ensures { λ r. ⌜ r ≡ emptyNode ⌝ }
     {
-        DualNode { class: 0, state: 0, parent: 0, dual: 0, overgrown: 0, top: 0 }
+        DualNode {
+            class: 0,
+            state: 0,
+            parent: 0,
+            dual: 0,
+            overgrown: 0,
+            top: 0,
+        }
     }
 
     // The node grown by a length: its dual variable and its top amount move.
@@ -47,5 +54,9 @@ fn move_top(direction: usize, by: usize, n: usize, x: usize) -> usize
     requires { ⌜ TopMovable direction by n x ⌝ }
     ensures { λ r. ⌜ r ≡ movedTop direction by n x ⌝ }
 {
-    if n == 0 { x } else { move_number(direction, by, x) }
+    if n == 0 {
+        x
+    } else {
+        move_number(direction, by, x)
+    }
 }

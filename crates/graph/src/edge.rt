@@ -5,7 +5,6 @@ ghost use Prim.Native.Nat.{_<_, _≤_};
 ghost use Rattle.graph.specs.State.{edgeCount, weightAt};
 ghost use Rattle.graph.specs.Layout.{stateOf};
 ghost use Rattle.graph.specs.Form.{Formed};
-
 use crate::rows;
 
 // The weight of edge i.

@@ -5,7 +5,6 @@ ghost use Prim.Native.Nat.{_<_};
 ghost use Rattle.graph.specs.State.{vertexCount, nodeCount, classOf, growStateOf, parentOf, dualOf, withGrowState, withParent, withDual};
 ghost use Rattle.graph.specs.Layout.{stateOf, classFrom};
 ghost use Rattle.graph.specs.Form.{Formed, Becomes};
-
 use crate::rows;
 
 // What node n stands for: a defect's vertex, or V + the first member of a blossom.

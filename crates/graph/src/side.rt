@@ -5,7 +5,6 @@ ghost use Prim.Native.Nat.{_/_, _<_};
 ghost use Rattle.graph.specs.State.{opposite, heldSide, freeSide, vertexCount, sideCount, nodeCount, endAt, growthAt, holderAt, grandsonAt, withGrowth, withHolder, withGrandson};
 ghost use Rattle.graph.specs.Layout.{stateOf};
 ghost use Rattle.graph.specs.Form.{Formed, Becomes};
-
 use crate::rows;
 
 // The side across.

@@ -5,7 +5,6 @@ ghost use Prim.Native.Nat.{_<_, _≤_};
 ghost use Rattle.graph.specs.State.{heldVertex, freeVertex, vertexCount, virtualAt, defectAt, vertexHolderAt, vertexGrandsonAt, withDefect, withVertexHolder, withVertexGrandson};
 ghost use Rattle.graph.specs.Layout.{stateOf};
 ghost use Rattle.graph.specs.Form.{Formed, Becomes};
-
 use crate::rows;
 
 // 1 if vertex v is virtual, 0 else.
