@@ -17,3 +17,4 @@ pub mod RowLaws
 pub mod NumberLaws
 pub mod ListLaws
 pub mod SideLaws
+pub mod SizeLaws

@@ -2,3 +2,4 @@
 
 pub mod words; // the only place that sees a signed number
 pub mod rows; // the arrays of a block
+pub mod sizes; // the sizes in range, and the lengths that they fix
