@@ -18,3 +18,6 @@ pub mod NumberLaws
 pub mod ListLaws
 pub mod SideLaws
 pub mod SizeLaws
+pub mod Scans
+pub mod ScanLaws
+pub mod PackLaws
