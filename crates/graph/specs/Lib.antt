@@ -21,3 +21,5 @@ pub mod SizeLaws
 pub mod Scans
 pub mod ScanLaws
 pub mod PackLaws
+pub mod WalkLaws
+pub mod WiringLaws

@@ -31,9 +31,9 @@ wiredAt c v = same (sidesAt c v) (sidesOf (c .graph .end) v)
 unfoldable pub standsAt : State → ℕ → ℕ → ℕ → Bool
 standsAt c v i s = ltb i (length (sidesAt c v)) && eqb (getD (sidesAt c v) i 0) s
 
--- vertex v has as many sides as were counted
+-- vertex v has as many sides as `next` counted
 unfoldable pub countedAt : State → List ℕ → ℕ → Bool
-countedAt c counts v = eqb (getD counts v 0) (length (sidesAt c v))
+countedAt c next v = eqb (getD next v 0) (length (sidesAt c v))
 
 -- no entry stands twice, and all pass
 unfoldable pub onceAll : (ℕ → Bool) → List ℕ → Bool

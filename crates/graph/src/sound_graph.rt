@@ -1,14 +1,18 @@
 // The soundness test of the graph, and of the numbers that are stored of each vertex and each side.
 
 ghost use mathlib.Core.Path.{_≡_};
-ghost use Prim.Native.Nat.{_<_};
+ghost use mathlib.Core.Bool.{true, _&&_};
+ghost use Prim.Native.Nat.{_*_, _<_, _≤_};
+ghost use lib.ListN.{length};
 ghost use Rattle.graph.specs.Basic.{allBelow};
-ghost use Rattle.graph.specs.State.{vertexCount, edgeCount, sideCount};
-ghost use Rattle.graph.specs.Sound.{storedDefect, sideSound, edgeSound};
-ghost use Rattle.graph.specs.Layout.{stateOf};
+ghost use Rattle.graph.specs.State.{vertexCount, edgeCount, sideCount, endAt};
+ghost use Rattle.graph.specs.Sound.{storedDefect, sideSound, edgeSound, vertexSound};
+ghost use Rattle.graph.specs.Layout.{eOf, rowsOf, row, risingTo, stateOf};
 ghost use Rattle.graph.specs.Form.{Laid};
-ghost use Rattle.graph.specs.Scans.{vertexNumbers};
+ghost use Rattle.graph.specs.SideLaws.{Rising};
+ghost use Rattle.graph.specs.Scans.{vertexNumbers, risesAt, wiredAt, standsAt, countedAt};
 use crate::rows;
+use crate::sides;
 
 // ---- edges
 
@@ -70,6 +74,105 @@ pub fn vertices_numbers(b: &[i64]) -> bool
         }
     }
     true
+}
+
+// ---- the sides at each vertex
+
+// Whether the sides at vertex v do not end before they begin.
+fn rises_at(b: &[i64], v: usize) -> bool
+    requires { ⌜ Laid (now b) × (v < vertexCount (stateOf (now b))) ⌝ }
+    ensures { λ r. ⌜ r ≡ risesAt (now (b .entry)) v ⌝ }
+{
+    sides::first(b, v) <= sides::last(b, v)
+}
+
+// Whether the firsts do not fall.
+pub fn rising(b: &[i64]) -> bool
+    requires { ⌜ Laid (now b) ⌝ }
+    ensures { λ r. ⌜ r ≡ risingTo (row (rowsOf (now (b .entry))) 4) (2 * eOf (now (b .entry))) ⌝ }
+{
+    let n = rows::vertex_count(b);
+    let mut v = 0;
+    while v < n {
+        if rises_at(b, v) {
+            v += 1;
+        } else {
+            return false;
+        }
+    }
+    true
+}
+
+// The vertex of side s, where all edges are sound.
+fn end_vertex(b: &[i64], s: usize) -> usize
+    requires { ⌜ Laid (now b) × (allBelow (edgeSound (stateOf (now b))) (edgeCount (stateOf (now b))) ≡ true) × (s < sideCount (stateOf (now b))) ⌝ }
+    ensures { λ r. ⌜ (r ≡ endAt (stateOf (now (b .entry))) s) × (r < vertexCount (stateOf (now (b .entry)))) ⌝ }
+{
+    rows::side_word(b, 0, s)
+}
+
+// Whether side s is entry i of the sides at vertex v.
+fn stands_at(b: &[i64], v: usize, i: usize, s: usize) -> bool
+    requires { ⌜ Laid (now b) × Rising (now b) × (v < vertexCount (stateOf (now b))) ⌝ }
+    ensures { λ r. ⌜ r ≡ standsAt (stateOf (now (b .entry))) v i s ⌝ }
+{
+    if i < sides::stretch_len(b, v) {
+        sides::stretch_side(b, v, i) == s
+    } else {
+        false
+    }
+}
+
+// Whether each vertex has as many sides as `next` counted.
+fn all_counted(b: &[i64], next: &[usize]) -> bool
+    requires { ⌜ Laid (now b) × Rising (now b) × (vertexCount (stateOf (now b)) ≤ length (now next)) ⌝ }
+    ensures { λ r. ⌜ r ≡ allBelow (countedAt (stateOf (now (b .entry))) (now (next .entry))) (vertexCount (stateOf (now (b .entry)))) ⌝ }
+{
+    let n = rows::vertex_count(b);
+    let mut v = 0;
+    while v < n {
+        if next[v] == sides::stretch_len(b, v) {
+            v += 1;
+        } else {
+            return false;
+        }
+    }
+    true
+}
+
+// Whether the sides at each vertex are those whose end it is, by rising number: each side must stand at the next place of its vertex.
+pub fn wired(b: &[i64]) -> bool
+    requires { ⌜ Laid (now b) × Rising (now b) × (allBelow (edgeSound (stateOf (now b))) (edgeCount (stateOf (now b))) ≡ true) ⌝ }
+    ensures { λ r. ⌜ r ≡ allBelow (wiredAt (stateOf (now (b .entry)))) (vertexCount (stateOf (now (b .entry)))) ⌝ }
+{
+    let n = rows::side_count(b);
+    let mut next = [0usize; 1024];
+    let mut s = 0;
+    while s < n {
+        let v = end_vertex(b, s);
+        let i = next[v];
+        if stands_at(b, v, i, s) {
+            next[v] = i + 1;
+            s += 1;
+        } else {
+            return false;
+        }
+    }
+    all_counted(b, &next)
+}
+
+// Whether all edges and all vertices are sound.
+pub fn graph_sound(b: &[i64]) -> bool
+    requires { ⌜ Laid (now b) × Rising (now b) ⌝ }
+    ensures { λ r. ⌜ r ≡ allBelow (edgeSound (stateOf (now (b .entry)))) (edgeCount (stateOf (now (b .entry)))) && allBelow (vertexSound (stateOf (now (b .entry)))) (vertexCount (stateOf (now (b .entry)))) ⌝ }
+{
+    if edges_sound(b) {
+        let x = vertices_numbers(b);
+        let y = wired(b);
+        x & y
+    } else {
+        false
+    }
 }
 
 // ---- sides
