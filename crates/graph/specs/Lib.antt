@@ -23,3 +23,4 @@ pub mod ScanLaws
 pub mod PackLaws
 pub mod WalkLaws
 pub mod WiringLaws
+pub mod StampLaws

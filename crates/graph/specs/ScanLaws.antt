@@ -76,6 +76,12 @@ module _ {A : Type 0} (p : A → Bool) where
   pub list-done : (l : List A) (i : ℕ) → length l ≤ i → all p (take i l) ≡ true → true ≡ all p l
   list-done l i h a = sym (rw (take-all i l h) at a)
 
+  pub list-at : (l : List A) (i : ℕ) (d : A) → all p l ≡ true → i < length l → p (getD l i d) ≡ true
+  unfolding all
+  list-at [] i d h k = absurd (omega arith)
+  list-at (x ∷ l) zero d h k = and-left (p x) (all p l) h
+  list-at (x ∷ l) (suc i) d h k = list-at l i d (and-right (p x) (all p l) h) (omega arith)
+
   pub list-from : (l : List A) (d : A) → ((i : ℕ) → i < length l → p (getD l i d) ≡ true) → all p l ≡ true
   unfolding all
   list-from [] d h = refl

@@ -1,50 +1,13 @@
-// The soundness test of the nodes: their numbers and their lists.
+// The soundness test of the nodes.
 
 ghost use mathlib.Core.Path.{_≡_};
-ghost use Prim.Native.Nat.{_<_, _≤_};
+ghost use Prim.Native.Nat.{_<_};
 ghost use Rattle.graph.specs.State.{nodeCount, classOf};
 ghost use Rattle.graph.specs.Sound.{classSound, parentSound};
-ghost use Rattle.graph.specs.Layout.{stateOf, fitsAt, packed};
+ghost use Rattle.graph.specs.Layout.{stateOf};
 ghost use Rattle.graph.specs.Form.{Laid};
 ghost use Rattle.graph.specs.Scans.{nodeNumbers};
 use crate::rows;
-
-// ---- where the lists stand
-
-// Whether lists that start at s and have k and o entries start at a and end within l.
-fn fits_at(a: usize, l: usize, s: usize, k: usize, o: usize) -> bool
-    requires { ⌜ (a ≤ 65536) × (l ≤ 65536) ⌝ }
-    ensures { λ r. ⌜ r ≡ fitsAt a l s k o ⌝ }
-{
-    if (s == a) & (k <= l) & (o <= l) {
-        a + k + o <= l
-    } else {
-        false
-    }
-}
-
-// Whether the lists of the nodes stand one after another within the store.
-pub fn packed(b: &[i64]) -> bool
-    requires { ⌜ Laid (now b) ⌝ }
-    ensures { λ r. ⌜ r ≡ packed (now (b .entry)) ⌝ }
-{
-    let c = rows::node_count(b);
-    let l = rows::store_limit(b);
-    let mut n = 0;
-    let mut a = 0;
-    while n < c {
-        let s = rows::node_word(b, 4, n);
-        let k = rows::node_word(b, 5, n);
-        let o = rows::node_word(b, 6, n);
-        if fits_at(a, l, s, k, o) {
-            a = a + k + o;
-            n += 1;
-        } else {
-            return false;
-        }
-    }
-    true
-}
 
 // ---- the numbers
 
