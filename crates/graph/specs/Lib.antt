@@ -24,3 +24,5 @@ pub mod PackLaws
 pub mod WalkLaws
 pub mod WiringLaws
 pub mod StampLaws
+pub mod BlockLaws
+pub mod Example

@@ -8,3 +8,4 @@ pub mod lists; // the lists of a node
 pub mod sound_graph; // the soundness test of the graph, the vertices and the sides
 pub mod sound_lists; // the soundness test of the nodes' lists
 pub mod sound_nodes; // the soundness test of the nodes
+pub mod sound; // the soundness test of a block
