@@ -1,8 +1,8 @@
 -- A block that passes the tests `sized` and `blockSound` is in form and holds a sound state.
-use Prim.Native.Nat.{ℕ, zero, suc, _+_, _*_, _/_, _≤_, _<_}
+use Prim.Native.Nat.{ℕ, suc, _*_, _≤_, _<_}
 use native.Mathlib.Omega.{arith}
 use mathlib.Core.Path.{_≡_, refl, sym, ap, _∙_}
-use mathlib.Core.Bool.{Bool, true, false, _&&_}
+use mathlib.Core.Bool.{true, _&&_}
 use mathlib.Core.List.{List, [], _∷_, map}
 use lib.IntN.{ℤ}
 use lib.Dec.{leb, ltb}
@@ -10,7 +10,7 @@ use lib.ListN.{length, getD, length-map}
 use lib.Seq.{ext-getD}
 use borrow.Author.Tests.{leb-true, le-leb, lt-ltb}
 use Rattle.graph.specs.Basic.{all, below, allBelow}
-use Rattle.graph.specs.State.{State, vertexCount, edgeCount, sideCount, nodeCount, endAt, weightAt, sidesAt}
+use Rattle.graph.specs.State.{vertexCount, edgeCount, sideCount, nodeCount}
 use Rattle.graph.specs.Open.{weightLimit, sidesOf}
 use Rattle.graph.specs.Sound.{edgeSound, vertexSound, sideSound, nodeSound, entries, sound}
 use Rattle.graph.specs.Rows.{offset}
@@ -19,7 +19,7 @@ use Rattle.graph.specs.Members.{length-below, all-below-from}
 use Rattle.graph.specs.Shape.{sound-edge, sound-vertex, edge-facts, vertex-facts}
 use Rattle.graph.specs.Opened.{getD-tabled}
 use Rattle.graph.specs.Layout.{eOf, nOf, countOf, rowsOf, row, stretches, risingTo, packed, stateFrom, stateOf, sized, blockSound}
-use Rattle.graph.specs.Form.{PackedRows, GraphRows, Laid, Listed, Formed}
+use Rattle.graph.specs.Form.{GraphRows, Laid, Listed, Formed}
 use Rattle.graph.specs.RowLaws.{header-get, rows-length, laid-of, formed-of}
 use Rattle.graph.specs.SizeLaws.{sized-of}
 use Rattle.graph.specs.ScanLaws.{list-from, ends-of}

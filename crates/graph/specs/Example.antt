@@ -1,12 +1,11 @@
 -- A block of 2 vertices and 1 edge with one defect node, and the state that it holds: computed, so that layout and tests are seen to mean what they say.
-use Prim.Native.Nat.{ℕ}
 use mathlib.Core.Path.{_≡_, refl}
-use mathlib.Core.Bool.{Bool, true, false}
+use mathlib.Core.Bool.{true, false}
 use mathlib.Core.List.{List, [], _∷_, map}
 use lib.IntN.{ℤ, pos, negsuc}
 use lib.ListN.{set}
 use Rattle.graph.specs.Basic
-use Rattle.graph.specs.State.{State, Overgrown, defectVertex}
+use Rattle.graph.specs.State.{State, defectVertex}
 use Rattle.graph.specs.Open.{sizesOk, sidesOf}
 use Rattle.graph.specs.Sound.{nodeOrNone, isDefect, storedDefect, edgeSound, vertexSound, sideSound, classSound, parentSound, overSound, ownLists, nodeSound, entriesOf, entries, sound}
 use Rattle.graph.specs.Word.{toNat, wordAt}

@@ -1,8 +1,8 @@
 -- The test that the nodes' lists stand one after another within the store: its loop, what it shows, and that all entries are within L.
-use Prim.Native.Nat.{ℕ, zero, suc, _+_, _-_, _*_, _≤_, _<_}
+use Prim.Native.Nat.{ℕ, zero, suc, _+_, _≤_, _<_}
 use native.Mathlib.Omega.{arith}
 use native.Mathlib.Numerals.{add-one}
-use mathlib.Core.Path.{_≡_, refl, sym, ap, _∙_}
+use mathlib.Core.Path.{_≡_, refl, sym, _∙_}
 use mathlib.Core.Bool.{Bool, true, false, _&&_}
 use mathlib.Core.List.{List, [], _∷_}
 use lib.IntN.{ℤ}
@@ -11,12 +11,12 @@ use lib.ListN.{length, getD, take, drop, drop-of-length-le}
 use lib.Seq.{drop-cons, getD-take, length-take-le}
 use borrow.Author.Tests.{leb-true, eqb-true}
 use Rattle.graph.specs.Basic.{sumBelow}
-use Rattle.graph.specs.State.{State, nodeCount}
+use Rattle.graph.specs.State.{nodeCount}
 use Rattle.graph.specs.Sound.{entriesOf, entries}
 use Rattle.graph.specs.Rows.{offset}
 use Rattle.graph.specs.Laws.{and-left, and-right}
-use Rattle.graph.specs.Layout.{vOf, eOf, nOf, lOf, countOf, rowsOf, row, fitsAt, packedFrom, packed, stateOf}
-use Rattle.graph.specs.Form.{startsFrom, totalFrom, PackedRows, LaidOut, Laid, Listed}
+use Rattle.graph.specs.Layout.{nOf, lOf, countOf, rowsOf, row, fitsAt, packedFrom, packed, stateOf}
+use Rattle.graph.specs.Form.{startsFrom, totalFrom, PackedRows, Laid, Listed}
 use Rattle.graph.specs.RowLaws.{header-get, rows-length}
 use Rattle.graph.specs.ListLaws.{startWord, blenWord, olenWord, Lists, lists-of}
 

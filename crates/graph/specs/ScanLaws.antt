@@ -1,29 +1,31 @@
 -- What every scan of the soundness test does: one more passes, one fails, all passed.
-use Prim.Native.Nat.{ℕ, zero, suc, _+_, _-_, _*_, _/_, _%_, _≤_, _<_}
+use Prim.Native.Nat.{ℕ, zero, suc, _+_, _-_, _*_, _/_, _≤_, _<_}
 use native.Mathlib.Omega.{arith}
 use native.Mathlib.Numerals.{add-one}
 use native.Mathlib.Decide.{ℕ-discrete as decEq}
-use mathlib.Core.Path.{_≡_, refl, sym, ap, _∙_}
+use mathlib.Core.Path.{_≡_, refl, sym, _∙_}
 use mathlib.Core.Logic.{_≢_}
 use mathlib.Core.Bool.{Bool, true, false, _&&_, _||_, not}
-use mathlib.Core.List.{List, [], _∷_, _++_, map}
+use mathlib.Core.List.{List, [], _∷_, map}
 use lib.IntN.{ℤ}
 use lib.Dec.{eqb, leb, ltb}
-use lib.ListN.{length, getD, take, drop, List·getD-map}
+use lib.ListN.{length, getD, take}
 use lib.Seq.{take-suc, take-all, getD-take}
 use borrow.Author.Tests.{leb-true, lt-ltb, eq-eqb, ne-eqb}
 use Rattle.graph.specs.Basic.{if_then_else_, allBelow, all}
-use Rattle.graph.specs.State.{State, NodeClass, defectVertex, blossom, classOf, vertexCount, edgeCount, sideCount, nodeCount, endAt, parentOf, overgrownOf}
+use Rattle.graph.specs.State.{State, defectVertex, blossom, classOf, vertexCount, edgeCount, sideCount, nodeCount, endAt, parentOf, overgrownOf}
 use Rattle.graph.specs.Sound.{isDefect, edgeSound, vertexSound, classSound, overSound, ownLists, nodeSound}
 use Rattle.graph.specs.Laws.{and-left, and-right, by-parity}
 use Rattle.graph.specs.Members.{all-below-at, all-snoc}
 use Rattle.graph.specs.Shape.{SoundEdge, edge-facts}
-use Rattle.graph.specs.Opened.{getD-any}
-use Rattle.graph.specs.Layout.{vOf, nOf, countOf, rowsOf, row, classFrom, stateFrom, stateOf}
+use Rattle.graph.specs.Layout.{rowsOf, row, classFrom, stateFrom, stateOf}
 use Rattle.graph.specs.Form.{Laid, sidesOk}
-use Rattle.graph.specs.RowLaws.{header-get, rows-length}
-use Rattle.graph.specs.Rows.{offset}
+use Rattle.graph.specs.RowLaws.{header-get}
 use Rattle.graph.specs.Scans.{vertexNumbers, nodeNumbers, wiredAt}
+
+pub and-false : (t : Bool) → t && false ≡ false
+and-false true = refl
+and-false false = refl
 
 -- ---- over the numbers below n
 
@@ -34,11 +36,7 @@ all-more p n h q = rw (add-one, h, q)
 pub all-fails : (p : ℕ → Bool) (n i : ℕ) → i < n → p i ≡ false → allBelow p n ≡ false
 unfolding allBelow
 all-fails p zero i l q = absurd (omega arith)
-all-fails p (suc n) i l q = elim (decEq i n) [ yes e ↦ (rw (← e, q) (no-right (allBelow p i))) | no e ↦ rw (all-fails p n i (omega arith) q) ]
-  where
-    no-right : (t : Bool) → t && false ≡ false
-    no-right true = refl
-    no-right false = refl
+all-fails p (suc n) i l q = elim (decEq i n) [ yes e ↦ (rw (← e, q) (and-false (allBelow p i))) | no e ↦ rw (all-fails p n i (omega arith) q) ]
 
 pub all-same : (p q : ℕ → Bool) (n : ℕ) → ((i : ℕ) → i < n → p i ≡ q i) → allBelow p n ≡ allBelow q n
 unfolding allBelow
@@ -68,11 +66,7 @@ module _ {A : Type 0} (p : A → Bool) where
   unfolding all
   list-fails [] i d h q = absurd (omega arith)
   list-fails (x ∷ l) zero d h q = rw q
-  list-fails (x ∷ l) (suc i) d h q = rw (list-fails l i d (omega arith) q) (no-right (p x))
-    where
-      no-right : (t : Bool) → t && false ≡ false
-      no-right true = refl
-      no-right false = refl
+  list-fails (x ∷ l) (suc i) d h q = rw (list-fails l i d (omega arith) q) (and-false (p x))
 
   pub list-done : (l : List A) (i : ℕ) → length l ≤ i → all p (take i l) ≡ true → true ≡ all p l
   list-done l i h a = sym (rw (take-all i l h) at a)

@@ -20,7 +20,7 @@ use Rattle.graph.specs.Sound.{overSound, ownLists}
 use Rattle.graph.specs.Opened.{getD-zeros}
 use Rattle.graph.specs.Layout.{overgrownFrom}
 use Rattle.graph.specs.Scans.{sideHeld, vertexHeld, overgrownVertices, onceAll, AtMost, Stamps}
-use Rattle.graph.specs.ScanLaws.{list-at, list-fails}
+use Rattle.graph.specs.ScanLaws.{and-false, list-at, list-fails}
 
 -- ---- lists
 
@@ -36,10 +36,6 @@ member-snoc x (z ∷ l) y = rw (member-snoc x l y) (assoc (eqb x z) (member x l)
     assoc : (a b d : Bool) → a || (b || d) ≡ (a || b) || d
     assoc true b d = refl
     assoc false b d = refl
-
-no-right : (t : Bool) → t && false ≡ false
-no-right true = refl
-no-right false = refl
 
 or-none : (t : Bool) → t ≡ t || false
 or-none true = refl
@@ -57,7 +53,7 @@ twice (x ∷ l) zero h m = member-nil x m
 twice (x ∷ l) (suc i) h m =
     member-cons (getD l i 0) x (take i l) m
     (λ e. let r : member x l ≡ true = rw (← e) (member-at l i 0 (omega arith)) in rw r)
-    (λ e. rw (twice l i (omega arith) e) (no-right (not (member x l))))
+    (λ e. rw (twice l i (omega arith) e) (and-false (not (member x l))))
 
 -- ---- the loop over one list
 
@@ -115,7 +111,7 @@ module _ (k : ℕ) (p : ℕ → Bool) (l : List ℕ) (i : ℕ) (m : List ℕ) (s
       where
         go : (t : Bool) → p y ≡ t → t && not (eqb (getD m y 0) k) ≡ false → distinct l && all p l ≡ false
         go true a b = rw (twice l i h (rw (← e) (sym (s .marks y small) ∙ not-false (eqb (getD m y 0) k) b)))
-        go false a b = rw (list-fails p l i 0 h (rw (← e) a)) (no-right (distinct l))
+        go false a b = rw (list-fails p l i 0 h (rw (← e) a)) (and-false (distinct l))
 
 -- ---- the lists of one node
 
