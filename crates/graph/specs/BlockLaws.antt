@@ -23,7 +23,8 @@ use Rattle.graph.specs.Form.{GraphRows, Laid, Listed, Formed}
 use Rattle.graph.specs.RowLaws.{header-get, rows-length, laid-of, formed-of}
 use Rattle.graph.specs.SizeLaws.{sized-of}
 use Rattle.graph.specs.ScanLaws.{list-from, ends-of}
-use Rattle.graph.specs.PackLaws.{packed-of, entries-within}
+use Rattle.graph.specs.PackLaws.{packed-of}
+use Rattle.graph.specs.UsedLaws.{entries-within}
 
 -- ---- the parts of the test
 

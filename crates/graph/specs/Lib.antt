@@ -7,6 +7,8 @@ pub mod Word
 pub mod Rows
 pub mod Layout
 pub mod Form
+pub mod Replace
+pub mod Scans
 pub mod Opens
 pub mod Laws
 pub mod Members
@@ -17,8 +19,12 @@ pub mod RowLaws
 pub mod NumberLaws
 pub mod ListLaws
 pub mod SideLaws
+pub mod MoveLaws
+pub mod CutLaws
+pub mod StoreLaws
+pub mod UsedLaws
+pub mod ReplaceLaws
 pub mod SizeLaws
-pub mod Scans
 pub mod ScanLaws
 pub mod PackLaws
 pub mod WalkLaws

@@ -55,6 +55,7 @@ walk-none c n = record {
   list = λ v h. rw (getD-replicate {A = ℕ} n v 0 0 (rw (length-replicate {A = ℕ} n 0) at h));
 }
 
+-- the test `standsAt` as facts
 pub record StandsAt (c : State) (v i s : ℕ) : Type 0 where
   pub place : i < length (sidesAt c v)
   pub side : getD (sidesAt c v) i 0 ≡ s
