@@ -9,6 +9,7 @@ pub mod Layout
 pub mod Node
 pub mod Form
 pub mod Replace
+pub mod Scans
 pub mod Opens
 pub mod Laws
 pub mod Members
@@ -26,3 +27,11 @@ pub mod CutLaws
 pub mod StoreLaws
 pub mod UsedLaws
 pub mod ReplaceLaws
+pub mod SizeLaws
+pub mod ScanLaws
+pub mod PackLaws
+pub mod WalkLaws
+pub mod WiringLaws
+pub mod StampLaws
+pub mod BlockLaws
+pub mod Example

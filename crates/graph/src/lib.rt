@@ -7,6 +7,11 @@ pub mod vertex; // fields of vertices
 pub mod edge; // fields of edges
 pub mod node; // fields of nodes
 pub mod dual_node; // a node as a value
+pub mod sizes; // the sizes in range, and the lengths that they fix
 pub mod sides; // the sides at a vertex
 pub mod lists; // the lists of a node
 pub mod store; // replacing the lists of a node
+pub mod sound_graph; // the soundness test of the graph, the vertices and the sides
+pub mod sound_lists; // the soundness test of the nodes' lists
+pub mod sound_nodes; // the soundness test of the nodes
+pub mod sound; // the soundness test of a block

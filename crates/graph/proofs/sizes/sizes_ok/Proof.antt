@@ -1,0 +1,14 @@
+use borrow.Author.Needs.{needs}
+use mathlib.Core.Path.{refl}
+use Rattle.graph.specs.Open.{sizesOk}
+use Rattle.graph.proofs.sizes.sizes_ok.Statement.{statement}
+use Rattle.graph.proofs.sizes.sizes_ok.Tie as tie
+use Rattle.graph.proofs.sizes.sizes_ok.Reads as reads
+use Rattle.graph.proofs.sizes.sizes_ok.Lts as lts
+
+returns : tie.Need-returns
+unfolding sizesOk
+returns c = refl
+
+pub sizes-ok-spec : {M : Type 1} → statement M
+sizes-ok-spec = tie.close (tie.spec returns)
