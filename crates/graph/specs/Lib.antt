@@ -18,3 +18,5 @@ pub mod NumberLaws
 pub mod ListLaws
 pub mod SideLaws
 pub mod SizeLaws
+pub mod Opening
+pub mod OpenLaws
