@@ -20,3 +20,5 @@ pub mod SideLaws
 pub mod SizeLaws
 pub mod Opening
 pub mod OpenLaws
+pub mod MetLaws
+pub mod PlaceLaws
