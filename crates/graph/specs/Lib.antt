@@ -22,3 +22,6 @@ pub mod Opening
 pub mod OpenLaws
 pub mod MetLaws
 pub mod PlaceLaws
+pub mod TableLaws
+pub mod BlankLaws
+pub mod WalkLaws
