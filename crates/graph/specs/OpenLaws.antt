@@ -9,10 +9,10 @@ use lib.IntN.{ℤ, pos, negsuc}
 use lib.Dec.{leb, ltb, eqb}
 use lib.ListN.{length, getD, drop, length-map, drop-of-length-le, List·getD-eq-default}
 use lib.Seq.{drop-cons}
-use borrow.Author.Tests.{lt-ltb, le-ltb, eqb-true}
+use borrow.Author.Tests.{lt-ltb, le-ltb, ltb-true, eqb-true}
 use Rattle.graph.specs.Basic.{if_then_else_, all, below}
 use Rattle.graph.specs.Laws.{and-left, and-right}
-use Rattle.graph.specs.Members.{length-below}
+use Rattle.graph.specs.Members.{length-below, all-member, member-at}
 use Rattle.graph.specs.Word.{toNat, wordAt}
 use Rattle.graph.specs.Open.{Edge, weightLimit, sizesOk, edgeOk, openRefusal}
 use Rattle.graph.specs.Opened.{getD-any, getD-tabled}
@@ -76,6 +76,9 @@ module _ (v e n l : ℕ) (words : List ℤ) where
 
   pub first-refusal : (virtuals : List ℕ) (fit : Bool) → openRefusal v e n l (edgesFrom words) virtuals fit ≡ (if sizesOk v e n l && eqb (edgesIn words) e then refusalOfLengths v (edgesFrom words) virtuals fit else 4)
   first-refusal virtuals fit = refusal-links v e n l (edgesFrom words) virtuals fit ∙ ap (λ k. if sizesOk v e n l && eqb k e then refusalOfLengths v (edgesFrom words) virtuals fit else 4) (edges-count words)
+
+pub virtual-below : (words : List ℤ) (m i : ℕ) → all (λ x. ltb x m) (virtualsFrom words) ≡ true → i < length words → wordAt words i < m
+virtual-below words m i h k = rw (← virtuals-get words i) (ltb-true (getD (virtualsFrom words) i 0) m (all-member (λ x. ltb x m) (virtualsFrom words) (getD (virtualsFrom words) i 0) h (member-at (virtualsFrom words) i 0 (rw (virtuals-count words) k))))
 
 -- ---- a test of every entry: what remains decides the whole
 

@@ -9,10 +9,11 @@ use mathlib.Core.Bool.{Bool, true, false, _||_}
 use mathlib.Core.List.{List, [], _∷_, _++_, map, append-nil}
 use lib.IntN.{ℤ}
 use lib.Dec.{eqb}
-use lib.ListN.{length, getD, set, drop, replicate, length-set, length-map, length-replicate, getD-replicate, drop-of-length-le}
+use lib.ListN.{length, getD, set, take, drop, replicate, length-set, length-map, length-replicate, getD-replicate, drop-of-length-le}
 use lib.Seq.{drop-cons, set-at, append-snoc, getD-set-same, getD-set-other, ext-getD}
 use borrow.Author.Tests.{eq-eqb, ne-eqb}
 use Rattle.graph.specs.Basic.{if_then_else_, fold, any, member, below}
+use Rattle.graph.specs.Laws.{fold-more}
 use Rattle.graph.specs.Members.{length-below}
 use Rattle.graph.specs.State.{vertexCount, edgeCount, sideCount}
 use Rattle.graph.specs.Open.{flagIn}
@@ -115,6 +116,13 @@ flagged-at r (x ∷ xs) p h =
     go : (t : Bool) → _≡_ {A = ℕ} (if t then 1 else 1) 1
     go true = refl
     go false = refl
+
+-- one more flag
+pub flags-more : (b₀ b b' : List ℤ) (l : List ℕ) (i x : ℕ) → i < length l → x ≡ getD l i 0 → Rowed 1 b₀ b (fold flagged (row (rowsOf b₀) 1) (take i l)) → Rowed 1 b b' (set (row (rowsOf b) 1) x 1) → Rowed 1 b₀ b' (fold flagged (row (rowsOf b₀) 1) (take (i + 1) l))
+unfolding flagged
+flags-more b₀ b b' l i x h e p q =
+    let q' : Rowed 1 b b' (set (fold flagged (row (rowsOf b₀) 1) (take i l)) x 1) = rw (rowed-row (omega arith) p) at q in
+    rw (fold-more flagged (row (rowsOf b₀) 1) l i 0 h, ← e) (rowed-then p q')
 
 -- the virtual vertices flagged in a row of zeros
 pub flagged-zeros : (n : ℕ) (l : List ℕ) → fold flagged (replicate n 0) l ≡ map (flagIn l) (below n)
