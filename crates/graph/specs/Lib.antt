@@ -24,4 +24,4 @@ pub mod MetLaws
 pub mod PlaceLaws
 pub mod TableLaws
 pub mod BlankLaws
-pub mod WalkLaws
+pub mod WriteLaws
