@@ -20,8 +20,15 @@ pub mod SideLaws
 pub mod SizeLaws
 pub mod Opening
 pub mod OpenLaws
-pub mod MetLaws
+pub mod CountLaws
 pub mod PlaceLaws
 pub mod TableLaws
 pub mod BlankLaws
 pub mod WriteLaws
+pub mod Scans
+pub mod ScanLaws
+pub mod PackLaws
+pub mod WalkLaws
+pub mod WiringLaws
+pub mod StampLaws
+pub mod JoinLaws

@@ -8,15 +8,17 @@ use mathlib.Core.List.{List, [], _∷_, map, reverse, reverse-cons}
 use lib.IntN.{ℤ}
 use lib.Dec.{ltb}
 use lib.ListN.{length, getD, take, drop, length-take, length-drop, length-map, length-reverse, List·getD-map, List·getD-append}
-use lib.Seq.{getD-at, getD-take, getD-drop, drop-drop, length-take-le}
+use lib.Seq.{ext-getD, getD-at, getD-take, getD-drop, drop-drop, length-take-le}
 use borrow.Author.Tests.{ltb-true}
 use Rattle.graph.specs.Basic.{all}
 use Rattle.graph.specs.Members.{all-member, member-at}
 use Rattle.graph.specs.State.{State, Overgrown, sideCount, nodeCount, boundaryOf, overgrownOf}
+use Rattle.graph.specs.Word.{toNat, wordAt, numbersAt}
 use Rattle.graph.specs.Rows.{rows, offset}
 use Rattle.graph.specs.Layout.{nOf, lOf, countOf, rowsOf, row, overgrownFrom, stackFrom, boundaries, stacks, stateFrom, stateOf}
 use Rattle.graph.specs.Form.{startsFrom, totalFrom, Laid, Listed, sidesOk}
-use Rattle.graph.specs.RowLaws.{header-get, rows-length}
+use Rattle.graph.specs.RowLaws.{Stands, rows-get, header-get, rows-length}
+use Rattle.graph.specs.NumberLaws.{numbers-entry, numbers-length}
 
 -- ---- lists one after another
 
@@ -73,6 +75,36 @@ pub store-length : (b : List ℤ) → Laid b → length (storeOf b) ≡ stateOf 
 unfolding Laid offset
 store-length b q = rows-length b 18 (omega arith) ∙ sym (q .counted .store-limit)
 
+pub node-below : (b : List ℤ) (n : ℕ) → Laid b → n < nodeCount (stateOf b) → n < stateOf b .nodeLimit
+unfolding Laid
+node-below b n q h = omega arith
+
+pub store-max : (b : List ℤ) → Laid b → stateOf b .storeLimit ≤ 65536
+unfolding Laid
+store-max b q = omega arith
+
+-- the store stands at the end of the block
+store-begin : (b : List ℤ) (j : ℕ) → Laid b → j < stateOf b .storeLimit → Stands b 18 j (length b - stateOf b .storeLimit + j)
+unfolding Laid offset
+store-begin b j q h = record { place = omega arith; within = omega arith }
+
+pub store-fits : (b : List ℤ) → Laid b → stateOf b .storeLimit ≤ length b
+unfolding Laid
+store-fits b q = omega arith
+
+pub store-part : (b : List ℤ) (i k : ℕ) → Laid b → i + k ≤ stateOf b .storeLimit → numbersAt b (length b - stateOf b .storeLimit + i) k ≡ take k (drop i (storeOf b))
+store-part b i k q h =
+    let p : ℕ = length b - stateOf b .storeLimit + i in
+    let f : stateOf b .storeLimit ≤ length b = store-fits b q in
+    let x : length (numbersAt b p k) ≡ k = numbers-length b p k (omega arith) in
+    let y : length (take k (drop i (storeOf b))) ≡ k = length-take-le k (drop i (storeOf b)) (rw (length-drop i (storeOf b)) (omega (arith, store-length b q))) in
+    ext-getD 0 (numbersAt b p k) (take k (drop i (storeOf b))) (x ∙ sym y)
+    (λ j l.
+    let m : j < k = omega (arith, x, l) in
+    let z : p + j ≡ length b - stateOf b .storeLimit + (i + j) = omega arith in
+    numbers-entry b p k j m ∙ ap (wordAt b) z ∙ rows-get b 18 (i + j) _ (store-begin b (i + j) q (omega arith))
+    ∙ sym (getD-take k (drop i (storeOf b)) j 0 m ∙ getD-drop i (storeOf b) j 0))
+
 -- the lists of node n stand in the store
 pub record Lists (b : List ℤ) (n : ℕ) : Type 0 where
   pub within : startWord b n + blenWord b n + olenWord b n ≤ stateOf b .storeLimit
@@ -113,6 +145,14 @@ lists-of b n q p h =
 -- entry i of the boundary of node n is a word of the store
 pub boundary-entry : (b : List ℤ) (n i : ℕ) → Lists b n → i < blenWord b n → getD (storeOf b) (startWord b n + i) 0 ≡ getD (boundaryOf (stateOf b) n) i 0
 boundary-entry b n i q j = rw (q .boundary, getD-take (blenWord b n) (drop (startWord b n) (storeOf b)) i 0 j, getD-drop (startWord b n) (storeOf b) i 0)
+
+-- the boundary of node n as a stretch of the block
+pub boundary-part : (b : List ℤ) (n l a k : ℕ) → Laid b → Lists b n → l ≡ stateOf b .storeLimit → a ≡ startWord b n → k ≡ length (boundaryOf (stateOf b) n)
+    → map toNat (take (length b - l + a + k - (length b - l + a)) (drop (length b - l + a) b)) ≡ boundaryOf (stateOf b) n
+unfolding numbersAt
+boundary-part b n l a k q h el ea ek =
+    let z : length b - l + a + k - (length b - l + a) ≡ blenWord b n = omega (arith, ek, h .boundary-length) in
+    rw (z, el, ea, h .boundary) (store-part b (startWord b n) (blenWord b n) q (omega (arith, h .within)))
 
 pub side-below : (c : State) (n i : ℕ) → sidesOk c n ≡ true → i < length (boundaryOf c n) → getD (boundaryOf c n) i 0 < sideCount c
 unfolding sidesOk

@@ -11,13 +11,16 @@ use lib.Dec.{ltb, leb}
 use lib.ListN.{length, getD, take, drop, length-drop, List·getD-eq-default}
 use lib.Seq.{getD-take, getD-drop, length-take-le}
 use borrow.Author.Tests.{leb-true, lt-ltb, le-ltb}
-use Rattle.graph.specs.Basic.{if_then_else_}
+use Rattle.graph.specs.Basic.{if_then_else_, below}
 use Rattle.graph.specs.Laws.{and-left, and-right}
+use Rattle.graph.specs.Members.{member-at}
+use Rattle.graph.specs.Shape.{sides-of-out}
+use Rattle.graph.specs.Open.{sidesOf}
 use Rattle.graph.specs.State.{State, vertexCount, sideCount, sidesAt}
 use Rattle.graph.specs.Rows.{rows, offset}
 use Rattle.graph.specs.Layout.{vOf, eOf, rowsOf, row, stretches, risingTo, stateFrom, stateOf}
-use Rattle.graph.specs.Form.{LaidOut, Laid}
-use Rattle.graph.specs.RowLaws.{rows-length}
+use Rattle.graph.specs.Form.{LaidOut, Laid, Wired}
+use Rattle.graph.specs.RowLaws.{rows-length, header-get}
 
 pub stretches-at : (fs l : List ℕ) (v : ℕ) → v < length fs → getD (stretches fs l) v [] ≡ take (getD fs (suc v) (length l) - getD fs v 0) (drop (getD fs v 0) l)
 unfolding stretches
@@ -81,6 +84,10 @@ at-length : (b : List ℤ) → Laid b → length (row (rowsOf b) 9) ≡ 2 * eOf 
 unfolding Laid offset
 at-length b q = rows-length b 9 (omega arith)
 
+pub laid-sides : (b : List ℤ) → Laid b → sideCount (stateOf b) ≤ 8192
+unfolding Laid
+laid-sides b q = omega arith
+
 sides-stretch : (b : List ℤ) (v : ℕ) → v < length (row (rowsOf b) 4) → sidesAt (stateOf b) v ≡ take (getD (row (rowsOf b) 4) (suc v) (length (row (rowsOf b) 9)) - firstWord b v) (drop (firstWord b v) (row (rowsOf b) 9))
 unfolding stateOf stateFrom
 sides-stretch b v h = stretches-at (row (rowsOf b) 4) (row (rowsOf b) 9) v h
@@ -111,3 +118,23 @@ around-of b v q rs h =
 
 pub side-entry : (b : List ℤ) (v i : ℕ) → Around b v → i < lastWord b v - firstWord b v → getD (row (rowsOf b) 9) (firstWord b v + i) 0 ≡ getD (sidesAt (stateOf b) v) i 0
 side-entry b v i q j = rw (q .list, getD-take (lastWord b v - firstWord b v) (drop (firstWord b v) (row (rowsOf b) 9)) i 0 j, getD-drop (firstWord b v) (row (rowsOf b) 9) i 0)
+
+-- ---- of a block in form
+
+pub rising-of : (b : List ℤ) → Wired b → Rising b
+unfolding Wired
+rising-of b w = rw (header-get b 1 (omega arith)) at (w .firsts)
+
+sides-below : (ends vs : List ℕ) (v i : ℕ) → i < length (getD (map (sidesOf ends) vs) v []) → getD (getD (map (sidesOf ends) vs) v []) i 0 < length ends
+sides-below ends [] v i h = absurd (omega arith)
+sides-below ends (w ∷ vs) zero i h = sides-of-out ends w (getD (sidesOf ends w) i 0) (member-at (sidesOf ends w) i 0 h) .0
+sides-below ends (w ∷ vs) (suc v) i h = sides-below ends vs v i h
+
+sides-are : (b : List ℤ) → Wired b → stateOf b .graph .at ≡ map (sidesOf (stateOf b .graph .end)) (below (getD (row (rowsOf b) 0) 0 0))
+unfolding Wired stateOf stateFrom
+sides-are b w = w .sides
+
+pub vertex-side-below : (b : List ℤ) (v i : ℕ) → Wired b → i < length (sidesAt (stateOf b) v) → getD (sidesAt (stateOf b) v) i 0 < sideCount (stateOf b)
+vertex-side-below b v i w h =
+    let e = sides-are b w in
+    rw e (sides-below (stateOf b .graph .end) (below (getD (row (rowsOf b) 0) 0 0)) v i (rw e at h))

@@ -1,0 +1,59 @@
+use native.Mathlib.Omega.{arith}
+use Rattle.graph.specs.ListLaws.{lists-of, store-fits, boundary-part}
+use borrow.Author.Needs.{needs}
+use Rattle.graph.proofs.lists.boundary.Statement.{statement}
+use Rattle.graph.proofs.lists.boundary.Tie as tie
+use Rattle.graph.proofs.lists.boundary.Reads as reads
+use Rattle.graph.proofs.lists.boundary.Lts as lts
+use Rattle.graph.proofs.lists.boundary_len.Reads as boundary-len-reads
+use Rattle.graph.proofs.lists.start.Reads as start-reads
+use Rattle.graph.proofs.rows.store_limit.Reads as store-limit-reads
+
+store-limit-requires : tie.Need-store-limit-requires
+store-limit-requires c κs = search needs
+
+sub-a : tie.Need-sub-a
+sub-a c = let s = c .before in let f = store-fits (s .args .b .now) (s .pre .0) in omega arith
+
+start-requires : tie.Need-start-requires
+start-requires c κs = search needs
+
+add-a : tie.Need-add-a
+add-a c = search needs
+
+boundary-len-requires : tie.Need-boundary-len-requires
+boundary-len-requires c κs = search needs
+
+add-e : tie.Need-add-e
+add-e c = search needs
+
+mul-result : tie.Need-mul-result
+mul-result c = search needs
+
+sub-result : tie.Need-sub-result
+sub-result c = search needs
+
+part-result-start : tie.Need-part-result-start
+part-result-start c = search needs
+
+part-result-end : tie.Need-part-result-end
+part-result-end c = let s = c .before .before .before in let q = lists-of (s .args .b .now) (s .args .n) (s .pre .0) (s .pre .1) (s .pre .2) in let f = store-fits (s .args .b .now) (s .pre .0) in search needs
+
+returns : tie.Need-returns
+returns c = let s = c .before .before .before .before in boundary-part (s .args .b .now) (s .args .n) _ _ _ (s .pre .0) (lists-of (s .args .b .now) (s .args .n) (s .pre .0) (s .pre .1) (s .pre .2)) (c .before .before .before .store-limit .ensures .0) (c .before .before .start .ensures .0) (c .before .boundary-len .ensures .0)
+
+pub boundary-spec : {M : Type 1} → statement M
+boundary-spec =
+    tie.close
+    (tie.spec
+    store-limit-requires
+    sub-a
+    start-requires
+    add-a
+    boundary-len-requires
+    add-e
+    mul-result
+    sub-result
+    part-result-start
+    part-result-end
+    returns)

@@ -1,0 +1,20 @@
+use mathlib.Core.Path.{_≡_, sym, _∙_}
+use Rattle.graph.specs.State.{endAt}
+use Rattle.graph.specs.Layout.{stateOf, stateFrom}
+use Rattle.graph.specs.ScanLaws.{ends-of}
+use borrow.Author.Needs.{needs}
+use Rattle.graph.proofs.sound_graph.end_vertex.Statement.{statement}
+use Rattle.graph.proofs.sound_graph.end_vertex.Tie as tie
+use Rattle.graph.proofs.sound_graph.end_vertex.Reads as reads
+use Rattle.graph.proofs.sound_graph.end_vertex.Lts as lts
+use Rattle.graph.proofs.rows.side_word.Reads as side-word-reads
+
+side-word-requires : tie.Need-side-word-requires
+side-word-requires c κs = search needs
+
+returns : tie.Need-returns
+unfolding stateOf stateFrom
+returns c = let s = c .before in (c .side-word .ensures .0, rw (c .side-word .ensures .0) (ends-of (s .args .b .now) (s .pre .0) (s .pre .1) (s .args .s) (s .pre .2)))
+
+pub end-vertex-spec : {M : Type 1} → statement M
+end-vertex-spec = tie.close (tie.spec side-word-requires returns)

@@ -1,0 +1,55 @@
+-- The parts of the soundness test that one scan each finds out. What they join to stands in Sound and Layout.
+use Prim.Native.Nat.{ℕ, _+_, _≤_}
+use mathlib.Core.Bool.{Bool, true, false, _&&_, _||_, not}
+use mathlib.Core.List.{List, map}
+use lib.IntN.{ℤ}
+use lib.Dec.{eqb, leb, ltb}
+use lib.ListN.{length, getD}
+use Rattle.graph.specs.Basic.{all, distinct, same}
+use Rattle.graph.specs.State.{State, Overgrown, sidesAt, virtualAt, defectAt, holderAt, vertexHolderAt, vertexGrandsonAt, classOf, growStateOf, parentOf, dualOf, overgrownOf}
+use Rattle.graph.specs.Open.{dualLimit, sidesOf}
+use Rattle.graph.specs.Sound.{nodeOrNone, classSound, parentSound}
+use Rattle.graph.specs.SideLaws.{firstWord, lastWord}
+
+-- the numbers of vertex v
+unfoldable pub vertexNumbers : State → ℕ → Bool
+vertexNumbers c v = leb (virtualAt c v) 1 && leb (defectAt c v) 1 && nodeOrNone c (vertexHolderAt c v) && nodeOrNone c (vertexGrandsonAt c v)
+
+-- the numbers of node n
+unfoldable pub nodeNumbers : State → ℕ → Bool
+nodeNumbers c n = classSound c n (classOf c n) && leb (growStateOf c n) 2 && parentSound c n && leb (dualOf c n) dualLimit
+
+-- the sides at vertex v do not end before they begin
+unfoldable pub risesAt : List ℤ → ℕ → Bool
+risesAt b v = leb (firstWord b v) (lastWord b v)
+
+-- the sides at vertex v are those whose end it is
+unfoldable pub wiredAt : State → ℕ → Bool
+wiredAt c v = same (sidesAt c v) (sidesOf (c .graph .end) v)
+
+-- side s is entry i of the sides at vertex v
+unfoldable pub standsAt : State → ℕ → ℕ → ℕ → Bool
+standsAt c v i s = ltb i (length (sidesAt c v)) && eqb (getD (sidesAt c v) i 0) s
+
+-- vertex v has as many sides as `next` counted
+unfoldable pub countedAt : State → List ℕ → ℕ → Bool
+countedAt c next v = eqb (getD next v 0) (length (sidesAt c v))
+
+-- side s, and vertex v, are held by node n
+unfoldable pub sideHeld : State → ℕ → ℕ → Bool
+sideHeld c n s = eqb (holderAt c s) (n + 1)
+
+unfoldable pub vertexHeld : State → ℕ → ℕ → Bool
+vertexHeld c n v = eqb (vertexHolderAt c v) (n + 1)
+
+-- the vertices of the overgrown stack of node n
+abbrev pub overgrownVertices : State → ℕ → List ℕ
+overgrownVertices c n = map (λ (o : Overgrown). o .vertex) (overgrownOf c n)
+
+-- no entry stands twice, and all pass
+unfoldable pub onceAll : (ℕ → Bool) → List ℕ → Bool
+onceAll p l = distinct l && all p l
+
+-- no number of the array is above k
+abbrev pub AtMost : List ℕ → ℕ → Type 0
+AtMost m k = (x : ℕ) → getD m x 0 ≤ k
