@@ -32,3 +32,4 @@ pub mod WalkLaws
 pub mod WiringLaws
 pub mod StampLaws
 pub mod JoinLaws
+pub mod OpenedBlock

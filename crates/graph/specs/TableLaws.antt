@@ -52,6 +52,11 @@ table-eq d f g n e =
     ext-getD d (map f (below n)) (map g (below n)) (length-table f n ∙ sym (length-table g n))
     (λ i h. let k : i < n = rw (length-table f n) at h in getD-tabled f n i d k ∙ e i k ∙ sym (getD-tabled g n i d k))
 
+-- a table of a table
+pub map-twice : {A B C : Type 0} (f : A → B) (g : B → C) (l : List A) → map g (map f l) ≡ map (λ x. g (f x)) l
+map-twice f g [] = refl
+map-twice f g (x ∷ l) = ap (λ r. g (f x) ∷ r) (map-twice f g l)
+
 -- ---- a row of a block written so
 
 -- the first i places of row k have f, all else of b is as in b₀
