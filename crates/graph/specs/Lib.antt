@@ -33,3 +33,4 @@ pub mod WiringLaws
 pub mod StampLaws
 pub mod JoinLaws
 pub mod OpenedBlock
+pub mod OpenSteps

@@ -9,6 +9,7 @@ ghost use Rattle.graph.specs.Basic.{all};
 ghost use Rattle.graph.specs.Open.{sizesOk, edgeOk, openRefusal};
 ghost use Rattle.graph.specs.Opening.{givenAt, edgeAt, edgesIn, edgesFrom, virtualsFrom, fits, openedBlock};
 ghost use Rattle.graph.specs.OpenLaws.{refusalOfEdges, refusalOfVirtuals, refusalOfLengths};
+use crate::opened;
 use crate::sizes;
 use crate::words;
 
@@ -139,5 +140,31 @@ fn refusal(
         lengths_refusal(b, t, v, e, n, l, edges, virtuals)
     } else {
         4
+    }
+}
+
+// A graph is opened in the block b: 0, or the number of the refusal, which leaves the block as it was. The scratch is only measured.
+pub fn open(
+    b: &mut [i64],
+    t: &[i64],
+    v: usize,
+    e: usize,
+    n: usize,
+    l: usize,
+    edges: &[i64],
+    virtuals: &[i64],
+) -> usize
+    ensures { λ r.
+        ⌜
+        (r ≡ openRefusal v e n l (edgesFrom (now (edges .entry))) (virtualsFrom (now (virtuals .entry))) (fits (now (b .entry)) (now (t .entry)) v e n l))
+        × (now (b .exit) ≡ openedBlock v e n l (edgesFrom (now (edges .entry))) (virtualsFrom (now (virtuals .entry))) (fits (now (b .entry)) (now (t .entry)) v e n l) (now (b .entry)))
+        ⌝ }
+{
+    let k = refusal(b, t, v, e, n, l, edges, virtuals);
+    if k == 0 {
+        opened::write(b, v, e, n, l, edges, virtuals);
+        0
+    } else {
+        k
     }
 }
