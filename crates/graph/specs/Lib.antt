@@ -7,6 +7,8 @@ pub mod Word
 pub mod Rows
 pub mod Layout
 pub mod Form
+pub mod Replace
+pub mod Scans
 pub mod Opens
 pub mod Laws
 pub mod Members
@@ -17,6 +19,11 @@ pub mod RowLaws
 pub mod NumberLaws
 pub mod ListLaws
 pub mod SideLaws
+pub mod MoveLaws
+pub mod CutLaws
+pub mod StoreLaws
+pub mod UsedLaws
+pub mod ReplaceLaws
 pub mod SizeLaws
 pub mod Opening
 pub mod OpenLaws
@@ -25,7 +32,6 @@ pub mod PlaceLaws
 pub mod TableLaws
 pub mod BlankLaws
 pub mod WriteLaws
-pub mod Scans
 pub mod ScanLaws
 pub mod PackLaws
 pub mod WalkLaws
@@ -34,3 +40,6 @@ pub mod StampLaws
 pub mod JoinLaws
 pub mod OpenedBlock
 pub mod OpenSteps
+pub mod BlockLaws
+pub mod Example
+

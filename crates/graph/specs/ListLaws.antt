@@ -75,9 +75,9 @@ pub store-length : (b : List ℤ) → Laid b → length (storeOf b) ≡ stateOf 
 unfolding Laid offset
 store-length b q = rows-length b 18 (omega arith) ∙ sym (q .counted .store-limit)
 
-pub node-below : (b : List ℤ) (n : ℕ) → Laid b → n < nodeCount (stateOf b) → n < stateOf b .nodeLimit
+pub nodes-within : (b : List ℤ) → Laid b → nodeCount (stateOf b) ≤ stateOf b .nodeLimit
 unfolding Laid
-node-below b n q h = omega arith
+nodes-within b q = omega arith
 
 pub store-max : (b : List ℤ) → Laid b → stateOf b .storeLimit ≤ 65536
 unfolding Laid

@@ -1,8 +1,8 @@
--- The test that the nodes' lists stand one after another within the store: its loop, what it shows, and that all entries are within L.
-use Prim.Native.Nat.{ℕ, zero, suc, _+_, _-_, _*_, _≤_, _<_}
+-- The test that the nodes' lists stand one after another within the store: its loop, and what it shows.
+use Prim.Native.Nat.{ℕ, _+_, _≤_, _<_}
 use native.Mathlib.Omega.{arith}
 use native.Mathlib.Numerals.{add-one}
-use mathlib.Core.Path.{_≡_, refl, sym, ap, _∙_}
+use mathlib.Core.Path.{_≡_, refl, sym, _∙_}
 use mathlib.Core.Bool.{Bool, true, false, _&&_}
 use mathlib.Core.List.{List, [], _∷_}
 use lib.IntN.{ℤ}
@@ -10,18 +10,17 @@ use lib.Dec.{leb, eqb}
 use lib.ListN.{length, getD, take, drop, drop-of-length-le}
 use lib.Seq.{drop-cons, getD-take, length-take-le}
 use borrow.Author.Tests.{leb-true, eqb-true}
-use Rattle.graph.specs.Basic.{sumBelow}
-use Rattle.graph.specs.State.{State, nodeCount}
-use Rattle.graph.specs.Sound.{entriesOf, entries}
+use Rattle.graph.specs.State.{nodeCount}
 use Rattle.graph.specs.Rows.{offset}
 use Rattle.graph.specs.Laws.{and-left, and-right}
-use Rattle.graph.specs.Layout.{vOf, eOf, nOf, lOf, countOf, rowsOf, row, fitsAt, packedFrom, packed, stateOf}
-use Rattle.graph.specs.Form.{startsFrom, totalFrom, PackedRows, LaidOut, Laid, Listed}
+use Rattle.graph.specs.Layout.{nOf, lOf, countOf, rowsOf, row, fitsAt, packedFrom, packed, stateOf}
+use Rattle.graph.specs.Form.{startsFrom, totalFrom, PackedRows, Laid}
 use Rattle.graph.specs.RowLaws.{header-get, rows-length}
-use Rattle.graph.specs.ListLaws.{startWord, blenWord, olenWord, Lists, lists-of}
+use Rattle.graph.specs.ListLaws.{startWord, blenWord, olenWord}
 
 -- ---- one node
 
+-- the test `fitsAt` as facts
 pub record FitsAt (a l s k o : ℕ) : Type 0 where
   pub start : s ≡ a
   pub boundary : k ≤ l
@@ -124,39 +123,3 @@ module _ (b : List ℤ) (q : Laid b) where
   pub packing-all : (n a : ℕ) → Packing b n a → nodeCount (stateOf b) ≤ n → true ≡ packed b
   unfolding packedFrom
   packing-all n a p h = let e : drop n (nodeRow b 15) ≡ [] = drop-of-length-le (nodeRow b 15) {i = n} (rw length-starts h) in (rw e at (p .same))
-
--- ---- all entries are within L
-
-sum-first : (f : ℕ → ℕ) (n : ℕ) → sumBelow f (suc n) ≡ f 0 + sumBelow (λ i. f (suc i)) n
-unfolding sumBelow
-sum-first f zero = omega arith
-sum-first f (suc n) = let ih : sumBelow f n + f n ≡ f 0 + sumBelow (λ i. f (suc i)) n = sum-first f n in omega arith
-
-sum-same : (f g : ℕ → ℕ) (n : ℕ) → ((i : ℕ) → i < n → f i ≡ g i) → sumBelow f n ≡ sumBelow g n
-unfolding sumBelow
-sum-same f g zero h = refl
-sum-same f g (suc n) h = let ih : sumBelow f n ≡ sumBelow g n = sum-same f g n (λ i k. h i (omega arith)) in let e : f n ≡ g n = h n (omega arith) in omega arith
-
-total-sum : (a : ℕ) (bs os : List ℕ) → length bs ≡ length os → totalFrom a bs os ≡ a + sumBelow (λ i. getD bs i 0 + getD os i 0) (length bs)
-unfolding totalFrom sumBelow
-total-sum a [] os h = omega arith
-total-sum a (b ∷ bs) [] h = absurd (omega arith)
-total-sum a (b ∷ bs) (o ∷ os) h =
-    let ih = total-sum (a + b + o) bs os (omega arith) in
-    let f = sum-first (λ i. getD (b ∷ bs) i 0 + getD (o ∷ os) i 0) (length bs) in
-    omega (arith, ih, f)
-
-pub entries-total : (b : List ℤ) → Laid b → Listed b → entries (stateOf b) ≡ totalFrom 0 (nodeRow b 16) (nodeRow b 17)
-unfolding entries entriesOf
-entries-total b q p =
-    let bs : List ℕ = nodeRow b 16 in
-    let os : List ℕ = nodeRow b 17 in
-    let s = sum-same (entriesOf (stateOf b)) (λ i. getD bs i 0 + getD os i 0) (nodeCount (stateOf b)) (λ n h. let l : Lists b n = lists-of b n q p h in omega (arith, l .boundary-length, l .overgrown-length, cut-at b q 16 n h, cut-at b q 17 n h)) in
-    let t = total-sum 0 bs os (length-blens b q ∙ sym (length-olens b q)) in
-    s ∙ sym (t ∙ rw (length-blens b q) (omega arith))
-
-pub entries-within : (b : List ℤ) → Laid b → Listed b → entries (stateOf b) ≤ stateOf b .storeLimit
-unfolding Laid Listed
-entries-within b q p =
-    let c : getD (row (rowsOf b) 0) 4 0 ≡ countOf b = header-get b 4 (omega arith) in
-    omega (arith, entries-total b q p, rw c at (p .total), header-get b 3 (omega arith), q .counted .store-limit)

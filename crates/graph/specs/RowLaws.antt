@@ -181,7 +181,7 @@ rowed-put b k i p x q s =
       len = length-set b p (pos x);
     }
 
-state-of-rows : (b : List ℤ) (r : List (List ℕ)) → rowsOf b ≡ r → stateOf b ≡ stateFrom r
+pub state-of-rows : (b : List ℤ) (r : List (List ℕ)) → rowsOf b ≡ r → stateOf b ≡ stateFrom r
 unfolding stateOf
 state-of-rows b r e = rw e
 

@@ -1,28 +1,31 @@
 -- What every scan of the soundness test does: one more passes, one fails, all passed.
-use Prim.Native.Nat.{ℕ, zero, suc, _+_, _-_, _*_, _/_, _%_, _≤_, _<_}
+use Prim.Native.Nat.{ℕ, zero, suc, _+_, _-_, _*_, _/_, _≤_, _<_}
 use native.Mathlib.Omega.{arith}
 use native.Mathlib.Numerals.{add-one}
 use native.Mathlib.Decide.{ℕ-discrete as decEq}
-use mathlib.Core.Path.{_≡_, refl, sym, ap, _∙_}
+use mathlib.Core.Path.{_≡_, refl, sym, _∙_}
+use mathlib.Core.Logic.{_≢_}
 use mathlib.Core.Bool.{Bool, true, false, _&&_, _||_, not}
-use mathlib.Core.List.{List, [], _∷_, _++_, map}
+use mathlib.Core.List.{List, [], _∷_, map}
 use lib.IntN.{ℤ}
 use lib.Dec.{eqb, leb, ltb}
-use lib.ListN.{length, getD, take, drop, List·getD-map}
+use lib.ListN.{length, getD, take}
 use lib.Seq.{take-suc, take-all, getD-take}
-use borrow.Author.Tests.{leb-true, lt-ltb}
+use borrow.Author.Tests.{leb-true, lt-ltb, eq-eqb, ne-eqb}
 use Rattle.graph.specs.Basic.{if_then_else_, allBelow, all}
-use Rattle.graph.specs.State.{State, NodeClass, defectVertex, blossom, classOf, vertexCount, edgeCount, sideCount, nodeCount, endAt}
-use Rattle.graph.specs.Sound.{isDefect, edgeSound, vertexSound, classSound}
+use Rattle.graph.specs.State.{State, defectVertex, blossom, classOf, vertexCount, edgeCount, sideCount, nodeCount, endAt, parentOf, overgrownOf}
+use Rattle.graph.specs.Sound.{isDefect, edgeSound, vertexSound, classSound, overSound, ownLists, nodeSound}
 use Rattle.graph.specs.Laws.{and-left, and-right, by-parity}
 use Rattle.graph.specs.Members.{all-below-at, all-snoc}
 use Rattle.graph.specs.Shape.{SoundEdge, edge-facts}
-use Rattle.graph.specs.Opened.{getD-any}
-use Rattle.graph.specs.Layout.{vOf, nOf, countOf, rowsOf, row, classFrom, stateFrom, stateOf}
-use Rattle.graph.specs.Form.{LaidOut, Laid}
-use Rattle.graph.specs.RowLaws.{header-get, rows-length}
-use Rattle.graph.specs.Rows.{offset}
-use Rattle.graph.specs.Scans.{vertexNumbers, wiredAt}
+use Rattle.graph.specs.Layout.{rowsOf, row, classFrom, stateFrom, stateOf}
+use Rattle.graph.specs.Form.{Laid, sidesOk}
+use Rattle.graph.specs.RowLaws.{header-get}
+use Rattle.graph.specs.Scans.{vertexNumbers, nodeNumbers, wiredAt}
+
+pub and-false : (t : Bool) → t && false ≡ false
+and-false true = refl
+and-false false = refl
 
 -- ---- over the numbers below n
 
@@ -33,11 +36,7 @@ all-more p n h q = rw (add-one, h, q)
 pub all-fails : (p : ℕ → Bool) (n i : ℕ) → i < n → p i ≡ false → allBelow p n ≡ false
 unfolding allBelow
 all-fails p zero i l q = absurd (omega arith)
-all-fails p (suc n) i l q = elim (decEq i n) [ yes e ↦ (rw (← e, q) (no-right (allBelow p i))) | no e ↦ rw (all-fails p n i (omega arith) q) ]
-  where
-    no-right : (t : Bool) → t && false ≡ false
-    no-right true = refl
-    no-right false = refl
+all-fails p (suc n) i l q = elim (decEq i n) [ yes e ↦ (rw (← e, q) (and-false (allBelow p i))) | no e ↦ rw (all-fails p n i (omega arith) q) ]
 
 pub all-same : (p q : ℕ → Bool) (n : ℕ) → ((i : ℕ) → i < n → p i ≡ q i) → allBelow p n ≡ allBelow q n
 unfolding allBelow
@@ -67,11 +66,7 @@ module _ {A : Type 0} (p : A → Bool) where
   unfolding all
   list-fails [] i d h q = absurd (omega arith)
   list-fails (x ∷ l) zero d h q = rw q
-  list-fails (x ∷ l) (suc i) d h q = rw (list-fails l i d (omega arith) q) (no-right (p x))
-    where
-      no-right : (t : Bool) → t && false ≡ false
-      no-right true = refl
-      no-right false = refl
+  list-fails (x ∷ l) (suc i) d h q = rw (list-fails l i d (omega arith) q) (and-false (p x))
 
   pub list-done : (l : List A) (i : ℕ) → length l ≤ i → all p (take i l) ≡ true → true ≡ all p l
   list-done l i h a = sym (rw (take-all i l h) at a)
@@ -154,3 +149,31 @@ class-test b n q h = rw (class-get b n q h) (go (getD (row (rowsOf b) 11) n 0) (
 
 pub both-le : (x m : ℕ) → leb 1 x && leb x m ≡ true → (1 ≤ x) × (x ≤ m)
 both-le x m h = (leb-true 1 x (and-left (leb 1 x) (leb x m) h), leb-true x m (and-right (leb 1 x) (leb x m) h))
+
+-- a node is sound where its numbers and what its lists hold are in range, and its lists are its own if it is an outermost node
+abbrev pub nodeRange : State → ℕ → Bool
+nodeRange c n = nodeNumbers c n && sidesOk c n && all (overSound c) (overgrownOf c n)
+
+node-parts : (c : State) (n : ℕ) → nodeSound c n ≡ nodeRange c n && (not (eqb (parentOf c n) 0) || ownLists c n)
+unfolding nodeSound nodeNumbers sidesOk
+node-parts c n = refl
+
+pub node-fails : (c : State) (n : ℕ) → nodeRange c n ≡ false → false ≡ nodeSound c n
+node-fails c n h = rw (node-parts c n, h)
+
+pub node-inner : (c : State) (n : ℕ) → nodeRange c n ≡ true → parentOf c n ≢ 0 → true ≡ nodeSound c n
+node-inner c n h p = rw (node-parts c n, h, ne-eqb (parentOf c n) 0 p)
+
+pub node-outermost : (c : State) (n : ℕ) → nodeRange c n ≡ true → parentOf c n ≡ 0 → ownLists c n ≡ nodeSound c n
+node-outermost c n h p = rw (node-parts c n, h, eq-eqb (parentOf c n) 0 p)
+
+pub range-sides : (c : State) (n : ℕ) → nodeRange c n ≡ true → sidesOk c n ≡ true
+range-sides c n h = and-right (nodeNumbers c n) (sidesOk c n) (and-left (nodeNumbers c n && sidesOk c n) (all (overSound c) (overgrownOf c n)) h)
+
+pub range-overgrown : (c : State) (n : ℕ) → nodeRange c n ≡ true → all (overSound c) (overgrownOf c n) ≡ true
+range-overgrown c n h = and-right (nodeNumbers c n && sidesOk c n) (all (overSound c) (overgrownOf c n)) h
+
+-- the parent of node n, as it is stored
+pub parent-get : (b : List ℤ) (n : ℕ) → Laid b → n < nodeCount (stateOf b) → parentOf (stateOf b) n ≡ getD (row (rowsOf b) 13) n 0
+unfolding stateOf stateFrom
+parent-get b n q h = node-get b 13 n q h

@@ -1,12 +1,12 @@
 -- The parts of the soundness test that one scan each finds out. What they join to stands in Sound and Layout.
 use Prim.Native.Nat.{ℕ, _+_, _≤_}
-use mathlib.Core.Bool.{Bool, true, false, _&&_, _||_, not}
+use mathlib.Core.Bool.{Bool, _&&_, not}
 use mathlib.Core.List.{List, map}
 use lib.IntN.{ℤ}
 use lib.Dec.{eqb, leb, ltb}
 use lib.ListN.{length, getD}
 use Rattle.graph.specs.Basic.{all, distinct, same}
-use Rattle.graph.specs.State.{State, Overgrown, sidesAt, virtualAt, defectAt, holderAt, vertexHolderAt, vertexGrandsonAt, classOf, growStateOf, parentOf, dualOf, overgrownOf}
+use Rattle.graph.specs.State.{State, Overgrown, vertexCount, sideCount, sidesAt, virtualAt, defectAt, holderAt, vertexHolderAt, vertexGrandsonAt, classOf, growStateOf, dualOf, overgrownOf}
 use Rattle.graph.specs.Open.{dualLimit, sidesOf}
 use Rattle.graph.specs.Sound.{nodeOrNone, classSound, parentSound}
 use Rattle.graph.specs.SideLaws.{firstWord, lastWord}
@@ -53,3 +53,10 @@ onceAll p l = distinct l && all p l
 -- no number of the array is above k
 abbrev pub AtMost : List ℕ → ℕ → Type 0
 AtMost m k = (x : ℕ) → getD m x 0 ≤ k
+
+-- two arrays of stamps, one over the sides and one over the vertices, with no stamp above n
+pub record Stamps (c : State) (n : ℕ) (sides vertices : List ℕ) : Type 0 where
+  pub sides-room : sideCount c ≤ length sides
+  pub vertices-room : vertexCount c ≤ length vertices
+  pub sides-most : AtMost sides n
+  pub vertices-most : AtMost vertices n

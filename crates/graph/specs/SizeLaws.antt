@@ -1,7 +1,7 @@
 -- The sizes in range, and the length of a block: what the tests `sizesOk` and `sized` show.
-use Prim.Native.Nat.{ℕ, _+_, _*_, _≤_}
+use Prim.Native.Nat.{ℕ, _≤_}
 use mathlib.Core.Path.{_≡_}
-use mathlib.Core.Bool.{Bool, true, _&&_}
+use mathlib.Core.Bool.{true, _&&_}
 use mathlib.Core.List.{List}
 use lib.IntN.{ℤ}
 use lib.Dec.{leb, eqb}

@@ -8,18 +8,19 @@ use mathlib.Core.Path.{_≡_, refl, sym, ap, _∙_}
 use mathlib.Core.Bool.{Bool, true, false, _&&_, _||_, not}
 use mathlib.Core.List.{List, [], _∷_, _++_, map}
 use lib.Dec.{eqb, ltb, leb}
-use lib.ListN.{length, getD, set, take, length-set, length-map, List·getD-map}
+use lib.ListN.{length, getD, set, take, replicate, length-set, length-replicate, length-map, List·getD-map}
 use lib.Seq.{take-suc, take-all, getD-set-same, getD-set-other}
 use borrow.Author.Tests.{eq-eqb, ne-eqb, not-true, not-false, ltb-true}
 use Rattle.graph.specs.Basic.{all, any, member, distinct}
 use Rattle.graph.specs.Laws.{and-left, and-right}
 use Rattle.graph.specs.Members.{both, member-nil, member-cons, member-at, distinct-snoc, all-snoc}
-use Rattle.graph.specs.State.{State, Overgrown, vertexCount, boundaryOf, overgrownOf}
+use Rattle.graph.specs.State.{State, Overgrown, vertexCount, sideCount, boundaryOf, overgrownOf}
 use Rattle.graph.specs.Open.{dualLimit}
 use Rattle.graph.specs.Sound.{overSound, ownLists}
+use Rattle.graph.specs.Opened.{getD-zeros}
 use Rattle.graph.specs.Layout.{overgrownFrom}
-use Rattle.graph.specs.Scans.{sideHeld, vertexHeld, overgrownVertices, onceAll, AtMost}
-use Rattle.graph.specs.ScanLaws.{list-at, list-fails}
+use Rattle.graph.specs.Scans.{sideHeld, vertexHeld, overgrownVertices, onceAll, AtMost, Stamps}
+use Rattle.graph.specs.ScanLaws.{and-false, list-at, list-fails}
 
 -- ---- lists
 
@@ -35,10 +36,6 @@ member-snoc x (z ∷ l) y = rw (member-snoc x l y) (assoc (eqb x z) (member x l)
     assoc : (a b d : Bool) → a || (b || d) ≡ (a || b) || d
     assoc true b d = refl
     assoc false b d = refl
-
-no-right : (t : Bool) → t && false ≡ false
-no-right true = refl
-no-right false = refl
 
 or-none : (t : Bool) → t ≡ t || false
 or-none true = refl
@@ -56,7 +53,7 @@ twice (x ∷ l) zero h m = member-nil x m
 twice (x ∷ l) (suc i) h m =
     member-cons (getD l i 0) x (take i l) m
     (λ e. let r : member x l ≡ true = rw (← e) (member-at l i 0 (omega arith)) in rw r)
-    (λ e. rw (twice l i (omega arith) e) (no-right (not (member x l))))
+    (λ e. rw (twice l i (omega arith) e) (and-false (not (member x l))))
 
 -- ---- the loop over one list
 
@@ -114,7 +111,7 @@ module _ (k : ℕ) (p : ℕ → Bool) (l : List ℕ) (i : ℕ) (m : List ℕ) (s
       where
         go : (t : Bool) → p y ≡ t → t && not (eqb (getD m y 0) k) ≡ false → distinct l && all p l ≡ false
         go true a b = rw (twice l i h (rw (← e) (sym (s .marks y small) ∙ not-false (eqb (getD m y 0) k) b)))
-        go false a b = rw (list-fails p l i 0 h (rw (← e) a)) (no-right (distinct l))
+        go false a b = rw (list-fails p l i 0 h (rw (← e) a)) (and-false (distinct l))
 
 -- ---- the lists of one node
 
@@ -149,3 +146,18 @@ overgrown-vertex c n i = List·getD-map (λ (o : Overgrown). o .vertex) (overgro
 
 pub overgrown-count : (c : State) (n : ℕ) → length (overgrownVertices c n) ≡ length (overgrownOf c n)
 overgrown-count c n = length-map (overgrownOf c n) (λ (o : Overgrown). o .vertex)
+
+-- ---- the stamps of all nodes
+
+-- at first there is none
+pub stamps-none : (c : State) (m k : ℕ) → sideCount c ≤ m → vertexCount c ≤ k → Stamps c 0 (replicate m 0) (replicate k 0)
+stamps-none c m k h j = record {
+  sides-room = rw (length-replicate {A = ℕ} m 0) h;
+  vertices-room = rw (length-replicate {A = ℕ} k 0) j;
+  sides-most = λ x. omega (arith, getD-zeros m x);
+  vertices-most = λ x. omega (arith, getD-zeros k x);
+}
+
+-- a node that stamps nothing
+pub stamps-still : (c : State) (n : ℕ) (sides vertices : List ℕ) → Stamps c n sides vertices → Stamps c (n + 1) sides vertices
+stamps-still c n sides vertices s = record { sides-room = s .sides-room; vertices-room = s .vertices-room; sides-most = λ x. omega (arith, s .sides-most x); vertices-most = λ x. omega (arith, s .vertices-most x) }

@@ -17,10 +17,10 @@ use Rattle.graph.specs.Open.{sidesOf}
 use Rattle.graph.specs.Shape.{same-eq, same-refl}
 use Rattle.graph.specs.Rows.{offset}
 use Rattle.graph.specs.Laws.{and-left, and-right}
-use Rattle.graph.specs.Layout.{vOf, eOf, rowsOf, row, risingTo, stateOf}
+use Rattle.graph.specs.Layout.{eOf, rowsOf, row, risingTo, stateOf}
 use Rattle.graph.specs.Form.{Laid}
 use Rattle.graph.specs.RowLaws.{rows-length}
-use Rattle.graph.specs.SideLaws.{firstWord, lastWord, last-is}
+use Rattle.graph.specs.SideLaws.{firstWord, last-is}
 use Rattle.graph.specs.Scans.{risesAt, wiredAt, standsAt, countedAt}
 use Rattle.graph.specs.ScanLaws.{all-fails, all-same, all-front}
 use Rattle.graph.specs.WalkLaws.{met, Walked, walked-more, walked-fails, walked-full, walked-all, walked-short}
@@ -55,6 +55,7 @@ walk-none c n = record {
   list = λ v h. rw (getD-replicate {A = ℕ} n v 0 0 (rw (length-replicate {A = ℕ} n 0) at h));
 }
 
+-- the test `standsAt` as facts
 pub record StandsAt (c : State) (v i s : ℕ) : Type 0 where
   pub place : i < length (sidesAt c v)
   pub side : getD (sidesAt c v) i 0 ≡ s

@@ -7,6 +7,8 @@ pub mod opened; // the words of an opened block
 pub mod open; // opening a graph: the refusals and the call
 pub mod sides; // the sides at a vertex
 pub mod lists; // the lists of a node
+pub mod store; // replacing the lists of a node
 pub mod sound_graph; // the soundness test of the graph, the vertices and the sides
 pub mod sound_lists; // the soundness test of the nodes' lists
 pub mod sound_nodes; // the soundness test of the nodes
+pub mod sound; // the soundness test of a block

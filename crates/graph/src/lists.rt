@@ -6,6 +6,7 @@ ghost use mathlib.Core.List.{map};
 ghost use Prim.Native.Nat.{_<_, _≤_};
 ghost use lib.ListN.{length, getD};
 ghost use Rattle.graph.specs.State.{sideCount, nodeCount, boundaryOf, overgrownOf};
+ghost use Rattle.graph.specs.Sound.{entries};
 ghost use Rattle.graph.specs.Word.{toNat};
 ghost use Rattle.graph.specs.Layout.{overgrownFrom, stateOf};
 ghost use Rattle.graph.specs.Form.{Laid, Listed, sidesOk};
@@ -92,4 +93,21 @@ pub fn overgrown_amount(b: &[i64], n: usize, i: usize) -> usize
     ensures { λ r. ⌜ (r ≡ getD (overgrownOf (stateOf (now (b .entry))) n) i (overgrownFrom 0) .amount) × (r < 9007199254740992) ⌝ }
 {
     overgrown_word(b, n, i) / 1024
+}
+
+// ---- all lists
+
+// How many entries the lists of all nodes have.
+pub fn entry_count(b: &[i64]) -> usize
+    requires { ⌜ Laid (now b) × Listed (now b) ⌝ }
+    ensures { λ r. ⌜ (r ≡ entries (stateOf (now (b .entry)))) × (r ≤ stateOf (now (b .entry)) .storeLimit) ⌝ }
+{
+    let c = rows::node_count(b);
+    if c == 0 {
+        return 0;
+    }
+    let a = start(b, c - 1);
+    let k = boundary_len(b, c - 1);
+    let o = overgrown_len(b, c - 1);
+    a + k + o
 }

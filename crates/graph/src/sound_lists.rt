@@ -6,10 +6,10 @@ ghost use Prim.Native.Nat.{_+_, _<_, _≤_};
 ghost use lib.ListN.{length, getD};
 ghost use Rattle.graph.specs.Basic.{all};
 ghost use Rattle.graph.specs.State.{vertexCount, sideCount, nodeCount, boundaryOf, overgrownOf};
-ghost use Rattle.graph.specs.Sound.{overSound};
+ghost use Rattle.graph.specs.Sound.{overSound, ownLists};
 ghost use Rattle.graph.specs.Layout.{stateOf, fitsAt, packed};
 ghost use Rattle.graph.specs.Form.{Laid, Listed, sidesOk};
-ghost use Rattle.graph.specs.Scans.{sideHeld, vertexHeld, overgrownVertices, onceAll, AtMost};
+ghost use Rattle.graph.specs.Scans.{sideHeld, vertexHeld, overgrownVertices, onceAll, AtMost, Stamps};
 use crate::lists;
 use crate::rows;
 
@@ -53,7 +53,7 @@ pub fn packed(b: &[i64]) -> bool
 // ---- what they hold
 
 // Whether the boundary of node n holds sides.
-fn boundary_sound(b: &[i64], n: usize) -> bool
+pub fn boundary_sound(b: &[i64], n: usize) -> bool
     requires { ⌜ Laid (now b) × Listed (now b) × (n < nodeCount (stateOf (now b))) ⌝ }
     ensures { λ r. ⌜ r ≡ sidesOk (stateOf (now (b .entry))) n ⌝ }
 {
@@ -71,7 +71,7 @@ fn boundary_sound(b: &[i64], n: usize) -> bool
 }
 
 // Whether the overgrown stack of node n holds vertices and amounts.
-fn overgrown_sound(b: &[i64], n: usize) -> bool
+pub fn overgrown_sound(b: &[i64], n: usize) -> bool
     requires { ⌜ Laid (now b) × Listed (now b) × (n < nodeCount (stateOf (now b))) ⌝ }
     ensures { λ r. ⌜ r ≡ all (overSound (stateOf (now (b .entry)))) (overgrownOf (stateOf (now (b .entry))) n) ⌝ }
 {
@@ -138,4 +138,14 @@ fn overgrown_own(b: &[i64], n: usize, marks: &mut [usize]) -> bool
         }
     }
     true
+}
+
+// Whether the lists of node n hold nothing twice, and only what the node holds.
+pub fn own_lists(b: &[i64], n: usize, sides: &mut [usize], vertices: &mut [usize]) -> bool
+    requires { ⌜ Laid (now b) × Listed (now b) × (n < nodeCount (stateOf (now b))) × (sidesOk (stateOf (now b)) n ≡ true) × (all (overSound (stateOf (now b))) (overgrownOf (stateOf (now b)) n) ≡ true) × Stamps (stateOf (now b)) n (now sides) (now vertices) ⌝ }
+    ensures { λ r. ⌜ (r ≡ ownLists (stateOf (now (b .entry))) n) × Stamps (stateOf (now (b .entry))) (n + 1) (now (sides .exit)) (now (vertices .exit)) ⌝ }
+{
+    let x = boundary_own(b, n, sides);
+    let y = overgrown_own(b, n, vertices);
+    x & y
 }

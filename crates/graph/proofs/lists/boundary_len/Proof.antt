@@ -1,7 +1,6 @@
-use borrow.Author.Needs.{needs}
 use native.Mathlib.Omega.{arith}
 use mathlib.Core.Path.{sym, _∙_}
-use Rattle.graph.specs.ListLaws.{lists-of, node-below, store-max}
+use Rattle.graph.specs.ListLaws.{lists-of, nodes-within, store-max}
 use Rattle.graph.proofs.lists.boundary_len.Statement.{statement}
 use Rattle.graph.proofs.lists.boundary_len.Tie as tie
 use Rattle.graph.proofs.lists.boundary_len.Reads as reads
@@ -9,7 +8,7 @@ use Rattle.graph.proofs.lists.boundary_len.Lts as lts
 use Rattle.graph.proofs.rows.node_word.Reads as node-word-reads
 
 node-word-requires : tie.Need-node-word-requires
-node-word-requires c κs = (c .pre .0, omega arith, node-below (c .args .b .now) (c .args .n) (c .pre .0) (c .pre .2))
+node-word-requires c κs = (c .pre .0, omega arith, omega (arith, nodes-within (c .args .b .now) (c .pre .0)))
 
 returns : tie.Need-returns
 returns c = let s = c .before in let q = lists-of (s .args .b .now) (s .args .n) (s .pre .0) (s .pre .1) (s .pre .2) in let m = store-max (s .args .b .now) (s .pre .0) in (c .node-word .ensures .0 ∙ sym (q .boundary-length), omega arith)

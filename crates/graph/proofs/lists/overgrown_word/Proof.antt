@@ -1,5 +1,5 @@
 use native.Mathlib.Omega.{arith}
-use mathlib.Core.Path.{_∙_, _≡_}
+use mathlib.Core.Path.{_≡_}
 use Rattle.graph.specs.ListLaws.{lists-of, overgrown-entry, blenWord, olenWord}
 use borrow.Author.Needs.{needs}
 use Rattle.graph.proofs.lists.overgrown_word.Statement.{statement}

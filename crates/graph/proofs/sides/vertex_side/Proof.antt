@@ -1,4 +1,3 @@
-use borrow.Author.Needs.{needs}
 use Rattle.graph.specs.SideLaws.{rising-of, vertex-side-below}
 use Rattle.graph.proofs.sides.vertex_side.Statement.{statement}
 use Rattle.graph.proofs.sides.vertex_side.Tie as tie

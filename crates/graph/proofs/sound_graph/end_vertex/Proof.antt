@@ -1,5 +1,3 @@
-use mathlib.Core.Path.{_≡_, sym, _∙_}
-use Rattle.graph.specs.State.{endAt}
 use Rattle.graph.specs.Layout.{stateOf, stateFrom}
 use Rattle.graph.specs.ScanLaws.{ends-of}
 use borrow.Author.Needs.{needs}

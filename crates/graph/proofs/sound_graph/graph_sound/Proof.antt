@@ -1,4 +1,4 @@
-use mathlib.Core.Path.{_≡_, sym, _∙_}
+use mathlib.Core.Path.{sym, _∙_}
 use Rattle.graph.specs.State.{vertexCount}
 use Rattle.graph.specs.Layout.{stateOf}
 use Rattle.graph.specs.ScanLaws.{vertices-both}

@@ -1,6 +1,6 @@
 use Rattle.graph.specs.Form.{Laid}
 use native.Mathlib.Omega.{arith}
-use mathlib.Core.Path.{_≡_, refl, sym, _∙_}
+use mathlib.Core.Path.{_≡_, refl}
 use mathlib.Core.Bool.{true, false}
 use lib.ListN.{length, length-set}
 use Rattle.graph.specs.State.{boundaryOf}
@@ -8,11 +8,7 @@ use Rattle.graph.specs.Layout.{stateOf, stateFrom}
 use Rattle.graph.specs.Scans.{sideHeld}
 use Rattle.graph.specs.StampLaws.{Stamped, fresh, stamped-none, stamped-more, stamped-fails, stamped-all}
 use borrow.Author.Needs.{needs}
-use mathlib.Core.Path.{_≡_}
 use Prim.Native.Nat.{_+_, _-_}
-use lib.ListN.{length}
-use Rattle.graph.specs.Layout.{stateOf}
-use Rattle.graph.specs.StampLaws.{Stamped}
 use Rattle.graph.proofs.sound_lists.boundary_own.Statement.{statement}
 use Rattle.graph.proofs.sound_lists.boundary_own.Tie as tie
 use Rattle.graph.proofs.sound_lists.boundary_own.Reads as reads

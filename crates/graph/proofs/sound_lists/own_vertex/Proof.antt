@@ -1,4 +1,4 @@
-use mathlib.Core.Path.{_≡_, sym, _∙_}
+use mathlib.Core.Path.{sym, _∙_}
 use Rattle.graph.specs.Layout.{overgrownFrom, stateOf}
 use Rattle.graph.specs.StampLaws.{overgrown-below, overgrown-vertex}
 use borrow.Author.Needs.{needs}

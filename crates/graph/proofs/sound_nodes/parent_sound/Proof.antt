@@ -1,4 +1,3 @@
-use Rattle.graph.specs.Form.{Laid}
 use Rattle.graph.specs.Sound.{parentSound, nodeOrNone}
 use Rattle.graph.specs.Layout.{stateOf, stateFrom}
 use Rattle.graph.specs.ScanLaws.{node-get}

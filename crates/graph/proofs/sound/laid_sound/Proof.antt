@@ -1,0 +1,30 @@
+use mathlib.Core.Path.{sym, _∙_}
+use Rattle.graph.specs.Laws.{and-left, and-right}
+use Rattle.graph.specs.BlockLaws.{listed-of}
+use borrow.Author.Needs.{needs}
+use Rattle.graph.proofs.sound.laid_sound.Statement.{statement}
+use Rattle.graph.proofs.sound.laid_sound.Tie as tie
+use Rattle.graph.proofs.sound.laid_sound.Reads as reads
+use Rattle.graph.proofs.sound.laid_sound.Lts as lts
+use Rattle.graph.proofs.sound.state_sound.Reads as state-sound-reads
+use Rattle.graph.proofs.sound_graph.rising.Reads as rising-reads
+use Rattle.graph.proofs.sound_lists.packed.Reads as packed-reads
+
+packed-requires : tie.Need-packed-requires
+packed-requires c κs = search needs
+
+rising-requires : tie.Need-rising-requires
+rising-requires c κs = search needs
+
+state-sound-requires : tie.Need-state-sound-requires
+state-sound-requires c κs = let s = c .before .before .before in let x = c .before .before .packed in let y = c .before .rising in (s .pre, listed-of (s .args .b .now) (s .pre) (sym (x .ensures) ∙ and-left (x .result) (y .result) (c .if1 .taken)), sym (y .ensures) ∙ and-right (x .result) (y .result) (c .if1 .taken))
+
+returns : tie.Need-returns
+returns c = rw (← c .before .before .before .packed .ensures, ← c .before .before .rising .ensures, c .before .if1 .taken, ← c .state-sound .ensures)
+
+returns-2 : tie.Need-returns-2
+returns-2 c = rw (← c .before .before .packed .ensures, ← c .before .rising .ensures, c .if1 .left)
+
+pub laid-sound-spec : {M : Type 1} → statement M
+laid-sound-spec =
+    tie.close (tie.spec packed-requires rising-requires state-sound-requires returns returns-2)

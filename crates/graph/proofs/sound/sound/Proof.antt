@@ -1,0 +1,33 @@
+use borrow.Author.Needs.{needs}
+use native.Mathlib.Omega.{arith}
+use borrow.Author.Tests.{le-leb, lt-leb}
+use Rattle.graph.specs.Layout.{nOf, countOf, blockSound}
+use Rattle.graph.specs.RowLaws.{laid-of}
+use Rattle.graph.specs.SizeLaws.{sized-of}
+use Rattle.graph.proofs.sound.sound.Statement.{statement}
+use Rattle.graph.proofs.sound.sound.Tie as tie
+use Rattle.graph.proofs.sound.sound.Reads as reads
+use Rattle.graph.proofs.sound.sound.Lts as lts
+use Rattle.graph.proofs.sound.laid_sound.Reads as laid-sound-reads
+use Rattle.graph.proofs.words.word.Reads as word-reads
+
+word-requires : tie.Need-word-requires
+word-requires c κs = let z = sized-of (c .args .b .now) (c .pre) in omega arith
+
+word-requires-2 : tie.Need-word-requires-2
+word-requires-2 c κs = let z = sized-of (c .before .args .b .now) (c .before .pre) in omega arith
+
+laid-sound-requires : tie.Need-laid-sound-requires
+laid-sound-requires c κs = let s = c .before .before .before in laid-of (s .args .b .now) (sized-of (s .args .b .now) (s .pre)) (omega arith)
+
+returns : tie.Need-returns
+unfolding blockSound
+returns c = let b = c .before .before .before .before .args .b .now in rw (le-leb (countOf b) (nOf b) (omega arith)) (c .laid-sound .ensures)
+
+returns-2 : tie.Need-returns-2
+unfolding blockSound
+returns-2 c = let b = c .before .before .before .args .b .now in rw (lt-leb (countOf b) (nOf b) (omega arith))
+
+pub sound-spec : {M : Type 1} → statement M
+sound-spec =
+    tie.close (tie.spec word-requires word-requires-2 laid-sound-requires returns returns-2)

@@ -1,0 +1,25 @@
+use Rattle.graph.specs.BlockLaws.{sound-parts}
+use borrow.Author.Needs.{needs}
+use Rattle.graph.proofs.sound.state_sound.Statement.{statement}
+use Rattle.graph.proofs.sound.state_sound.Tie as tie
+use Rattle.graph.proofs.sound.state_sound.Reads as reads
+use Rattle.graph.proofs.sound.state_sound.Lts as lts
+use Rattle.graph.proofs.sound_graph.graph_sound.Reads as graph-sound-reads
+use Rattle.graph.proofs.sound_graph.sides_sound.Reads as sides-sound-reads
+use Rattle.graph.proofs.sound_nodes.nodes_sound.Reads as nodes-sound-reads
+
+graph-sound-requires : tie.Need-graph-sound-requires
+graph-sound-requires c κs = search needs
+
+sides-sound-requires : tie.Need-sides-sound-requires
+sides-sound-requires c κs = search needs
+
+nodes-sound-requires : tie.Need-nodes-sound-requires
+nodes-sound-requires c κs = search needs
+
+returns : tie.Need-returns
+returns c = let s = c .before .before .before in rw (sound-parts (s .args .b .now) (s .pre .0) (s .pre .1), ← c .before .before .graph-sound .ensures, ← c .before .sides-sound .ensures, ← c .nodes-sound .ensures)
+
+pub state-sound-spec : {M : Type 1} → statement M
+state-sound-spec =
+    tie.close (tie.spec graph-sound-requires sides-sound-requires nodes-sound-requires returns)

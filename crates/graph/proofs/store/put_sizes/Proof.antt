@@ -1,0 +1,41 @@
+use Rattle.graph.specs.StoreLaws.{resized}
+use borrow.Author.Needs.{needs}
+use Rattle.graph.proofs.store.put_sizes.Statement.{statement}
+use Rattle.graph.proofs.store.put_sizes.Tie as tie
+use Rattle.graph.proofs.store.put_sizes.Reads as reads
+use Rattle.graph.proofs.store.put_sizes.Lts as lts
+use Rattle.graph.proofs.rows.put_node.Reads as put-node-reads
+use Rattle.graph.proofs.store.shift_starts.Reads as shift-starts-reads
+
+add-shift-starts : tie.Need-add-shift-starts
+add-shift-starts c = search needs
+
+add-shift-starts-2 : tie.Need-add-shift-starts-2
+add-shift-starts-2 c = search needs
+
+shift-starts-requires : tie.Need-shift-starts-requires
+shift-starts-requires c κs = search needs
+
+put-node-requires : tie.Need-put-node-requires
+put-node-requires c κs = search needs
+
+put-node-requires-2 : tie.Need-put-node-requires-2
+put-node-requires-2 c κs = search needs
+
+same-length : tie.Need-same-length
+same-length c = search needs
+
+returns : tie.Need-returns
+returns c = let s = c .before .before .before .before .before .before .before .before .before in resized _ _ _ _ (s .args .n) (s .args .c) (s .args .k) (s .args .o) (s .args .y) (c .before .before .before .before .before .before .before .shift-starts .ensures) (c .before .before .before .before .put-node .ensures) (c .before .put-node2 .ensures)
+
+pub put-sizes-spec : {M : Type 1} → statement M
+put-sizes-spec =
+    tie.close
+    (tie.spec
+    add-shift-starts
+    add-shift-starts-2
+    shift-starts-requires
+    put-node-requires
+    put-node-requires-2
+    same-length
+    returns)
