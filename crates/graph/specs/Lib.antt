@@ -28,10 +28,21 @@ pub mod StoreLaws
 pub mod UsedLaws
 pub mod ReplaceLaws
 pub mod SizeLaws
+pub mod Opening
+pub mod OpenLaws
+pub mod CountLaws
+pub mod PlaceLaws
+pub mod TableLaws
+pub mod BlankLaws
+pub mod WriteLaws
 pub mod ScanLaws
 pub mod PackLaws
 pub mod WalkLaws
 pub mod WiringLaws
 pub mod StampLaws
+pub mod JoinLaws
+pub mod OpenedBlock
+pub mod OpenSteps
 pub mod BlockLaws
 pub mod Example
+

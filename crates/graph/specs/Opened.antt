@@ -169,7 +169,7 @@ accepted v e n l edges virtuals fits h =
       ends = p₄ .0;
     }
 
-flag-le : (l : List ℕ) (x : ℕ) → flagIn l x ≤ 1
+pub flag-le : (l : List ℕ) (x : ℕ) → flagIn l x ≤ 1
 unfolding flagIn
 flag-le l x = by-test (member x l) (λ e. rw e (omega arith)) (λ e. rw e (omega arith))
 

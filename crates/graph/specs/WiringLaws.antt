@@ -27,7 +27,7 @@ use Rattle.graph.specs.WalkLaws.{met, Walked, walked-more, walked-fails,
 
 -- ---- the firsts
 
-rising-all : (m : ℕ) (fs : List ℕ) → allBelow (λ v. leb (getD fs v 0) (getD fs (suc v) m)) (length fs) ≡ risingTo fs m
+pub rising-all : (m : ℕ) (fs : List ℕ) → allBelow (λ v. leb (getD fs v 0) (getD fs (suc v) m)) (length fs) ≡ risingTo fs m
 unfolding risingTo allBelow
 rising-all m [] = refl
 rising-all m (f ∷ fs) = all-front (λ v. leb (getD (f ∷ fs) v 0) (getD (f ∷ fs) (suc v) m)) (length fs) ∙ ap (λ t. leb f (getD fs 0 m) && t) (rising-all m fs)

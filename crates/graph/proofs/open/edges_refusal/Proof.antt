@@ -1,0 +1,24 @@
+use mathlib.Core.Path.{sym, _∙_}
+use native.Mathlib.Omega.{arith}
+use Rattle.graph.specs.OpenLaws.{refusalOfEdges}
+use Rattle.graph.specs.SizeLaws.{sizes-in}
+use borrow.Author.Needs.{needs}
+use Rattle.graph.proofs.open.edges_refusal.Statement.{statement}
+use Rattle.graph.proofs.open.edges_refusal.Tie as tie
+use Rattle.graph.proofs.open.edges_refusal.Reads as reads
+use Rattle.graph.proofs.open.edges_refusal.Lts as lts
+use Rattle.graph.proofs.open.edges_ok.Reads as edges-ok-reads
+
+edges-ok-requires : tie.Need-edges-ok-requires
+edges-ok-requires c κs = search needs
+
+returns : tie.Need-returns
+unfolding refusalOfEdges
+returns c = rw (sym (c .before .edges-ok .ensures) ∙ c .if1 .taken)
+
+returns-2 : tie.Need-returns-2
+unfolding refusalOfEdges
+returns-2 c = rw (sym (c .before .edges-ok .ensures) ∙ c .if1 .left)
+
+pub edges-refusal-spec : {M : Type 1} → statement M
+edges-refusal-spec = tie.close (tie.spec edges-ok-requires returns returns-2)

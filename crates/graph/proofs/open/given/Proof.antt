@@ -1,0 +1,21 @@
+use mathlib.Core.Path.{_∙_}
+use native.Mathlib.Omega.{arith}
+use Rattle.graph.specs.OpenLaws.{given-word, given-none}
+use borrow.Author.Needs.{needs}
+use Rattle.graph.proofs.open.given.Statement.{statement}
+use Rattle.graph.proofs.open.given.Tie as tie
+use Rattle.graph.proofs.open.given.Reads as reads
+use Rattle.graph.proofs.open.given.Lts as lts
+use Rattle.graph.proofs.words.word.Reads as word-reads
+
+word-requires : tie.Need-word-requires
+word-requires c κs = search needs
+
+returns : tie.Need-returns
+returns c = (c .word .ensures .0 ∙ given-word _ _ (c .before .if1 .taken), search needs)
+
+returns-2 : tie.Need-returns-2
+returns-2 c = (given-none _ _ (c .if1 .left), search needs)
+
+pub given-spec : {M : Type 1} → statement M
+given-spec = tie.close (tie.spec word-requires returns returns-2)
