@@ -136,3 +136,13 @@ packed b =
 -- 2 unless: no more nodes than N, the stretches of the lists in order, and the state that they give sound
 unfoldable pub blockSound : List ℤ → Bool
 blockSound b = leb (countOf b) (nOf b) && packed b && risingTo (row (rowsOf b) 4) (2 * eOf b) && sound (stateOf b)
+
+-- ---- what every call but open asks of lent memory
+
+-- block and scratch have their exact lengths, and the sizes are in range
+unfoldable pub memoryFits : List ℤ → List ℤ → Bool
+memoryFits b t = sized b && eqb (length t) (scratchLength (eOf b))
+
+-- 0, or the refusal
+unfoldable pub memoryRefusal : List ℤ → List ℤ → ℕ
+memoryRefusal b t = if memoryFits b t then (if blockSound b then 0 else 2) else 1

@@ -17,3 +17,4 @@ pub mod sound_graph; // the soundness test of the graph, the vertices and the si
 pub mod sound_lists; // the soundness test of the nodes' lists
 pub mod sound_nodes; // the soundness test of the nodes
 pub mod sound; // the soundness test of a block
+pub mod memory; // what a call asks of lent memory
