@@ -45,4 +45,3 @@ pub mod OpenedBlock
 pub mod OpenSteps
 pub mod BlockLaws
 pub mod Example
-

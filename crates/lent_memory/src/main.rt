@@ -1,17 +1,66 @@
 // What wrong lent memory gets. A sound block of 2 vertices, 1 edge, 1 of 2 nodes and a store of 4 words is spoiled in one way at a time; each
 // line says how and which refusal that is: 1 for a wrong length or size, 2 for a block that is not sound, 0 for none.
 
-ghost use Prim.Native.Nat.{_<_};
+ghost use mathlib.Core.Path.{_≡_};
+ghost use Prim.Native.Nat.{_<_, _≤_};
+ghost use lib.ListN.{length};
 
 // The sound block (crates/graph/specs/Example.antt has the state that it holds).
 fn sample() -> [i64; 53] {
     [
-        2, 1, 2, 4, 1, 0, 0, 0, 0, 0, 0, 0, 0, 0, 0, 0, // header: V, E, N, L, nodes
-        2, 1, 1, 0, 1, 0, 0, 1, // flags, holder, grandson, first of each vertex
-        0, 1, 3, 0, 1, 0, 1, 0, 0, 1, // end, growth, holder, grandson of each side; the sides by vertex
+        2,
+        1,
+        2,
+        4,
+        1,
+        0,
+        0,
+        0,
+        0,
+        0,
+        0,
+        0,
+        0,
+        0,
+        0,
+        0, // header: V, E, N, L, nodes
+        2,
+        1,
+        1,
+        0,
+        1,
+        0,
+        0,
+        1, // flags, holder, grandson, first of each vertex
+        0,
+        1,
+        3,
+        0,
+        1,
+        0,
+        1,
+        0,
+        0,
+        1, // end, growth, holder, grandson of each side; the sides by vertex
         4, // weight
-        0, 0, 1, 0, 0, 0, 3, 0, 0, 0, 1, 0, 1, 0, // class, grow state, parent, dual, start, lengths of each node
-        0, 2048, 7, 9, // the store: side 0, overgrown vertex 0 with amount 2, two free words
+        0,
+        0,
+        1,
+        0,
+        0,
+        0,
+        3,
+        0,
+        0,
+        0,
+        1,
+        0,
+        1,
+        0, // class, grow state, parent, dual, start, lengths of each node
+        0,
+        2048,
+        7,
+        9, // the store: side 0, overgrown vertex 0 with amount 2, two free words
     ]
 }
 
@@ -36,20 +85,28 @@ fn lengths() {
     let b = sample();
     let t = [0i64; 7];
     tell(b"a sound block", graph::memory::refusal(&b, &t[0..6]));
-    tell(b"the block a word short", graph::memory::refusal(&b[0..52], &t[0..6]));
-    tell(b"the scratch a word short", graph::memory::refusal(&b, &t[0..5]));
+    tell(
+        b"the block a word short",
+        graph::memory::refusal(&b[0..52], &t[0..6]),
+    );
+    tell(
+        b"the scratch a word short",
+        graph::memory::refusal(&b, &t[0..5]),
+    );
     tell(b"the scratch a word long", graph::memory::refusal(&b, &t));
-    tell(b"no block at all", graph::memory::refusal(&b[0..0], &t[0..6]));
+    tell(
+        b"no block at all",
+        graph::memory::refusal(&b[0..0], &t[0..6]),
+    );
 }
 
+// The sizes of the sound block in the header of one that has a word more.
 fn longer() {
     let mut b = [0i64; 54];
-    let s = sample();
-    let mut i = 0;
-    while i < 53 {
-        b[i] = s[i];
-        i += 1;
-    }
+    b[0] = 2;
+    b[1] = 1;
+    b[2] = 2;
+    b[3] = 4;
     let t = [0i64; 6];
     tell(b"the block a word long", graph::memory::refusal(&b, &t));
 }
@@ -138,29 +195,38 @@ fn pair(name: &[u8], x: i64, y: i64) {
     tell(name, graph::memory::refusal(&b, &t));
 }
 
-// Whether b is the sound block still: 1 or 0.
-fn unchanged(b: &[i64]) -> usize {
+// How many words of b are not those of the sound block.
+fn changes(b: &[i64]) -> usize
+    requires { ⌜ length (now b) ≡ 53 ⌝ }
+{
     let s = sample();
-    if b.len() != 53 {
-        return 0;
-    }
+    let mut n = 0;
     let mut i = 0;
     while i < 53 {
-        if b[i] != s[i] {
-            return 0;
-        }
+        n += changed(b, &s, i);
         i += 1;
     }
-    1
+    n
 }
 
-// An opening of 2 vertices over the sound block, with the given sizes and edge: its refusal, and whether the block is unchanged.
+// 1 if word i of b is not that of s, 0 else.
+fn changed(b: &[i64], s: &[i64], i: usize) -> usize
+    requires { ⌜ (i < length (now b)) × (i < length (now s)) ⌝ }
+    ensures { λ r. ⌜ r ≤ 1 ⌝ }
+{
+    if b[i] == s[i] { 0 } else { 1 }
+}
+
+// An opening of 2 vertices over the sound block, with the given sizes and edge: its refusal, and how many words changed.
 fn opening(name: &[u8], v: usize, e: usize, left: i64, weight: i64, virtuals: &[i64]) {
     let mut b = sample();
     let t = [0i64; 6];
     let edge = [left, 1, weight];
-    tell(name, graph::open::open(&mut b, &t, v, e, 2, 4, &edge, virtuals));
-    tell(b"  the block is unchanged", unchanged(&b));
+    tell(
+        name,
+        graph::open::open(&mut b, &t, v, e, 2, 4, &edge, virtuals),
+    );
+    tell(b"  words of the block that changed", changes(&b));
 }
 
 fn openings() {
@@ -168,7 +234,14 @@ fn openings() {
     let two = [2i64; 1];
     opening(b"open with V 0", 0, 1, 0, 4, &one);
     opening(b"open with E 2 and one edge", 2, 2, 0, 4, &one);
-    opening(b"open with V 3, for which the block is too short", 3, 1, 0, 4, &one);
+    opening(
+        b"open with V 3, for which the block is too short",
+        3,
+        1,
+        0,
+        4,
+        &one,
+    );
     opening(b"open with virtual vertex 2 of 2", 2, 1, 0, 4, &two);
     opening(b"open with an edge from 1 to 1", 2, 1, 1, 4, &one);
     opening(b"open with a negative weight", 2, 1, 0, -4, &one);
