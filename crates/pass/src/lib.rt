@@ -1,1 +1,3 @@
-// The definitions are in specs/.
+// One pass of preparation. The definitions are in specs/.
+
+pub mod scratch; // the scratch of a pass
