@@ -129,7 +129,7 @@ pub record Taken (n m k : ℕ) (c : State) (w : Work) : Type 0 where
   pub own : OwnSides n m (w .state) (w .kept)
   pub over : OwnOver n k (w .state) (w .over)
 
-own-take-side : (n m g : ℕ) (w : Work) (t : ℕ) → length (w .state .sides .holder) ≡ m → ltb t m ≡ true → OwnSides n m (w .state) (w .kept) → OwnSides n m (takeSide n g w t .state) (takeSide n g w t .kept)
+pub own-take-side : (n m g : ℕ) (w : Work) (t : ℕ) → length (w .state .sides .holder) ≡ m → ltb t m ≡ true → OwnSides n m (w .state) (w .kept) → OwnSides n m (takeSide n g w t .state) (takeSide n g w t .kept)
 unfolding takeSide callAnother keep onState
 own-take-side n m g w t len b o =
     let lt : t < m = ltb-true t m b in
@@ -138,10 +138,10 @@ own-take-side n m g w t len b o =
     (λ e. o)
 
 -- the vertices and the stack, which the sides of a taken vertex leave alone
-abbrev Still : Vertices → List Overgrown → Work → Type 0
+abbrev pub Still : Vertices → List Overgrown → Work → Type 0
 Still x o w = (w .state .vertices ≡ x) × (w .over ≡ o)
 
-still-take-side : (x : Vertices) (o : List Overgrown) (n g : ℕ) (w : Work) (t : ℕ) → Still x o w → Still x o (takeSide n g w t)
+pub still-take-side : (x : Vertices) (o : List Overgrown) (n g : ℕ) (w : Work) (t : ℕ) → Still x o w → Still x o (takeSide n g w t)
 unfolding takeSide callAnother keep onState heldSide withGrandson withHolder withSides
 still-take-side x o n g w t p = if-both (Still x o) (eqb (holderAt (w .state) t) 0) p p
 
@@ -150,7 +150,7 @@ pub record Siding (n m : ℕ) (c : State) (w : Work) : Type 0 where
   pub keeps : Keeps c w
   pub own : OwnSides n m (w .state) (w .kept)
 
-siding-step : (n m g : ℕ) (c : State) → length (c .sides .holder) ≡ m → (w : Work) (t : ℕ) → ltb t m ≡ true → Siding n m c w → Siding n m c (takeSide n g w t)
+pub siding-step : (n m g : ℕ) (c : State) → length (c .sides .holder) ≡ m → (w : Work) (t : ℕ) → ltb t m ≡ true → Siding n m c w → Siding n m c (takeSide n g w t)
 siding-step n m g c len w t b p = record { keeps = keeps-take-side c n g w t (p .keeps); own = own-take-side n m g w t (p .keeps .holder ∙ len) b (p .own) }
 
 -- a vertex is held, before its sides are

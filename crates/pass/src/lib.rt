@@ -1,1 +1,4 @@
-// The definitions are in specs/.
+// One pass of preparation. The definitions are in specs/.
+
+pub mod scratch; // the scratch of a pass
+pub mod take; // a growing pass: the noted vertices are taken
