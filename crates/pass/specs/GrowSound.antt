@@ -247,11 +247,11 @@ sound-grown c z f = record {
     out : (t : ℕ) → (t < sideCount c → ⊥) → length (c .sides .holder) ≤ t
     out t b = omega (arith, z .holder)
 
-finish-boundary : (w : Work) (n : ℕ) → n < length (w .state .nodes .boundary) → boundaryOf (finishPass w n) n ≡ w .kept
+pub finish-boundary : (w : Work) (n : ℕ) → n < length (w .state .nodes .boundary) → boundaryOf (finishPass w n) n ≡ w .kept
 unfolding finishPass withOvergrown withBoundary withNodes
 finish-boundary w n b = getD-set-same (w .state .nodes .boundary) n (w .kept) [] b
 
-finish-overgrown : (w : Work) (n : ℕ) → n < length (w .state .nodes .overgrown) → overgrownOf (finishPass w n) n ≡ w .over
+pub finish-overgrown : (w : Work) (n : ℕ) → n < length (w .state .nodes .overgrown) → overgrownOf (finishPass w n) n ≡ w .over
 unfolding finishPass withOvergrown withBoundary withNodes
 finish-overgrown w n b = getD-set-same (w .state .nodes .overgrown) n (w .over) [] b
 

@@ -1,13 +1,14 @@
 -- What a pass asks of memory and state, and what it leaves.
 use Prim.Native.Nat.{ℕ, _+_, _*_, _≤_, _<_}
 use mathlib.Core.Path.{_≡_}
+use mathlib.Core.Logic.{_≢_}
 use mathlib.Core.Bool.{Bool, true}
 use mathlib.Core.List.{List}
 use lib.IntN.{ℤ}
 use lib.Dec.{ltb}
 use lib.ListN.{length}
 use Rattle.graph.specs.Basic.{all, distinct}
-use Rattle.graph.specs.State.{State, Overgrown, vertexCount, sideCount, nodeCount, parentOf, boundaryOf, overgrownOf}
+use Rattle.graph.specs.State.{State, Overgrown, up, vertexCount, sideCount, nodeCount, parentOf, boundaryOf, overgrownOf}
 use Rattle.graph.specs.Sound.{sound, entries, entriesOf}
 use Rattle.graph.specs.Layout.{stateOf}
 use Rattle.graph.specs.Form.{Formed, Becomes, sidesOk}
@@ -33,6 +34,11 @@ pub record Shrinkable (c : State) (n : ℕ) : Type 0 where
   pub once : distinct (boundaryOf c n) ≡ true
   pub stack : all (λ (o : Overgrown). ltb (o .vertex) (vertexCount c)) (overgrownOf c n) ≡ true
   pub size : length (overgrownOf c n) ≤ vertexCount c
+
+-- what a pass in direction d asks of the state
+pub record Preparable (c : State) (n d : ℕ) : Type 0 where
+  pub grows : d ≡ up → Growable c n
+  pub shrinks : d ≢ up → Shrinkable c n
 
 -- after b₀ and t₀: the block holds what the pass w over node n finishes with, the scratch is as it was, and r says whether another pass is called for
 pub record AfterPass (b₀ b t₀ t : List ℤ) (n : ℕ) (w : Work) (r : Bool) : Type 0 where
