@@ -42,4 +42,4 @@ pub mod OpenedBlock
 pub mod OpenSteps
 pub mod BlockLaws
 pub mod Example
-
+pub mod ClearLaws

@@ -5,6 +5,7 @@ pub mod rows; // the arrays of a block
 pub mod sizes; // the sizes in range, and the lengths that they fix
 pub mod opened; // the words of an opened block
 pub mod open; // opening a graph: the refusals and the call
+pub mod clear; // clearing a block
 pub mod sides; // the sides at a vertex
 pub mod lists; // the lists of a node
 pub mod store; // replacing the lists of a node

@@ -4,7 +4,6 @@ ghost use mathlib.Core.Path.{_≡_};
 ghost use mathlib.Core.Bool.{true};
 ghost use Prim.Native.Nat.{_+_, _*_, _<_, _≤_};
 ghost use lib.Dec.{ltb};
-ghost use lib.ListN.{length};
 ghost use Rattle.graph.specs.Basic.{all};
 ghost use Rattle.graph.specs.Open.{sizesOk, edgeOk, openRefusal};
 ghost use Rattle.graph.specs.Opening.{givenAt, edgeAt, edgesIn, edgesFrom, virtualsFrom, fits, openedBlock};

@@ -1,11 +1,9 @@
 use borrow.Author.Needs.{needs}
 use Prim.Native.Nat.{_≤_, _-_}
-use mathlib.Core.Path.{_≡_, refl, sym, ap, _∙_}
-use mathlib.Core.Bool.{true, false}
+use mathlib.Core.Path.{refl, sym, _∙_}
 use native.Mathlib.Omega.{arith}
-use lib.ListN.{length, getD}
 use Rattle.graph.specs.Open.{edgeOk}
-use Rattle.graph.specs.Opening.{edgeAt, edgesFrom, edgesIn}
+use Rattle.graph.specs.Opening.{edgesFrom}
 use Rattle.graph.specs.OpenLaws.{Rest, rest-all, edges-more, edges-fails, edges-count}
 use Rattle.graph.proofs.open.edges_ok.Statement.{statement}
 use Rattle.graph.proofs.open.edges_ok.Tie as tie

@@ -1,7 +1,5 @@
 use mathlib.Core.Path.{sym, _∙_}
-use native.Mathlib.Omega.{arith}
 use Rattle.graph.specs.OpenLaws.{refusalOfEdges}
-use Rattle.graph.specs.SizeLaws.{sizes-in}
 use borrow.Author.Needs.{needs}
 use Rattle.graph.proofs.open.edges_refusal.Statement.{statement}
 use Rattle.graph.proofs.open.edges_refusal.Tie as tie

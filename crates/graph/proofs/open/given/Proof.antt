@@ -1,5 +1,4 @@
 use mathlib.Core.Path.{_∙_}
-use native.Mathlib.Omega.{arith}
 use Rattle.graph.specs.OpenLaws.{given-word, given-none}
 use borrow.Author.Needs.{needs}
 use Rattle.graph.proofs.open.given.Statement.{statement}
