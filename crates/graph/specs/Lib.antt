@@ -43,3 +43,4 @@ pub mod OpenSteps
 pub mod BlockLaws
 pub mod Example
 pub mod ClearLaws
+pub mod OpenExample

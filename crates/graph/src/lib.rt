@@ -3,6 +3,7 @@
 pub mod words; // the only place that sees a signed number
 pub mod rows; // the arrays of a block
 pub mod sizes; // the sizes in range, and the lengths that they fix
+pub mod given; // the words that the host gives with a graph
 pub mod opened; // the words of an opened block
 pub mod open; // opening a graph: the refusals and the call
 pub mod clear; // clearing a block
