@@ -1,17 +1,17 @@
 -- A block of given sizes with all else zero, and the rows that it holds while the graph is written.
-use Prim.Native.Nat.{ℕ, zero, suc, _+_, _-_, _*_, _≤_, _<_}
+use Prim.Native.Nat.{ℕ, zero, suc, _+_, _-_, _*_, _≤_}
 use native.Mathlib.Omega.{arith}
 use mathlib.Core.Path.{_≡_, refl, sym, ap, _∙_}
-use mathlib.Core.Bool.{Bool, true}
+use mathlib.Core.Bool.{true}
 use mathlib.Core.List.{List, [], _∷_, _++_, map}
 use lib.IntN.{ℤ, pos}
-use lib.ListN.{length, getD, set, take, drop, replicate, length-set, length-replicate, replicate-append-replicate}
+use lib.ListN.{length, set, take, drop, replicate, length-replicate, replicate-append-replicate}
 use Rattle.graph.specs.State.{vertexCount, edgeCount, sideCount}
 use Rattle.graph.specs.Open.{sizesOk}
 use Rattle.graph.specs.Word.{toNat, wordAt}
 use Rattle.graph.specs.Rows.{rows}
-use Rattle.graph.specs.Layout.{vOf, eOf, nOf, lOf, countOf, sizes, blockLength, rowsOf, row, stateOf}
-use Rattle.graph.specs.Form.{Sized, LaidOut, Laid, Rowed}
+use Rattle.graph.specs.Layout.{sizes, blockLength, rowsOf, stateOf}
+use Rattle.graph.specs.Form.{Sized, Laid, Rowed}
 use Rattle.graph.specs.RowLaws.{laid-of}
 use Rattle.graph.specs.SizeLaws.{SizesIn, sizes-in}
 use Rattle.graph.specs.Opening.{zeros}

@@ -45,3 +45,5 @@ pub mod OpenedBlock
 pub mod OpenSteps
 pub mod BlockLaws
 pub mod Example
+pub mod ClearLaws
+pub mod OpenExample

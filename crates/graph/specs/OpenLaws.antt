@@ -1,12 +1,11 @@
 -- The refusals of an opening: the chain link by link, and the tests of all edges and of all virtual vertices.
-use Prim.Native.Nat.{ℕ, zero, suc, _+_, _*_, _/_, _≤_, _<_}
-use native.Mathlib.Omega.{arith}
+use Prim.Native.Nat.{ℕ, _+_, _≤_, _<_}
 use native.Mathlib.Numerals.{add-one}
 use mathlib.Core.Path.{_≡_, refl, sym, ap, _∙_}
 use mathlib.Core.Bool.{Bool, true, false, _&&_, not}
-use mathlib.Core.List.{List, [], _∷_, _++_, map}
+use mathlib.Core.List.{List}
 use lib.IntN.{ℤ, pos, negsuc}
-use lib.Dec.{leb, ltb, eqb}
+use lib.Dec.{ltb, eqb}
 use lib.ListN.{length, getD, drop, length-map, drop-of-length-le, List·getD-eq-default}
 use lib.Seq.{drop-cons}
 use borrow.Author.Tests.{lt-ltb, le-ltb, ltb-true, eqb-true}
@@ -14,7 +13,7 @@ use Rattle.graph.specs.Basic.{if_then_else_, all, below}
 use Rattle.graph.specs.Laws.{and-left, and-right}
 use Rattle.graph.specs.Members.{length-below, all-member, member-at}
 use Rattle.graph.specs.Word.{toNat, wordAt}
-use Rattle.graph.specs.Open.{Edge, weightLimit, sizesOk, edgeOk, openRefusal}
+use Rattle.graph.specs.Open.{Edge, sizesOk, edgeOk, openRefusal}
 use Rattle.graph.specs.Opened.{getD-any, getD-tabled}
 use Rattle.graph.specs.RowLaws.{numbers-get}
 use Rattle.graph.specs.Opening.{givenAt, edgeAt, edgesIn, edgesFrom, virtualsFrom}

@@ -1,14 +1,17 @@
--- Opening a graph in a block: what the words that the host gives say, and every word of the opened block.
-use Prim.Native.Nat.{ℕ, zero, suc, _+_, _*_, _/_}
-use mathlib.Core.Bool.{Bool, true, false, _&&_}
+-- Opening a graph in a block: what the words that the host gives say, and every word of the opened block. Clearing a block.
+use Prim.Native.Nat.{ℕ, _+_, _*_, _/_, _%_}
+use mathlib.Core.Path.{_≡_}
+use mathlib.Core.Bool.{Bool, _&&_}
 use mathlib.Core.List.{List, [], _∷_, _++_, map}
 use lib.IntN.{ℤ, pos, negsuc}
 use lib.Dec.{eqb}
-use lib.ListN.{length, getD, replicate}
+use lib.ListN.{length, getD, set, replicate}
 use Rattle.graph.specs.Basic.{if_then_else_, below, sumBelow}
 use Rattle.graph.specs.Word.{toNat}
-use Rattle.graph.specs.Open.{Edge, endsOf, sidesOf, flagIn, openRefusal}
-use Rattle.graph.specs.Layout.{blockLength, scratchLength}
+use Rattle.graph.specs.State.{vertexCount, edgeCount, sideCount, nodeCount}
+use Rattle.graph.specs.Open.{Edge, endsOf, sidesOf, flagIn, cleared, openRefusal}
+use Rattle.graph.specs.Layout.{blockLength, scratchLength, rowsOf, row, stateOf}
+use Rattle.graph.specs.Form.{Laid, Formed}
 
 -- ---- what the host gives
 
@@ -65,3 +68,40 @@ openedWords v e n l edges virtuals = joined (openedRows v e n l edges virtuals)
 -- the block after a call: every word of it where the opening is accepted, and the block as it was where it is refused
 unfoldable pub openedBlock : ℕ → ℕ → ℕ → ℕ → List Edge → List ℕ → Bool → List ℤ → List ℤ
 openedBlock v e n l edges virtuals fit b = if eqb (openRefusal v e n l edges virtuals fit) 0 then map pos (openedWords v e n l edges virtuals) else b
+
+-- ---- the cleared block
+
+-- of the arrays: no node; of the flags the virtual ones; nothing held and nothing grown; all else as it was
+unfoldable pub clearedRows : List (List ℕ) → List (List ℕ)
+clearedRows r =
+    set (row r 0) 4 0
+    ∷ map (λ x. x % 2) (row r 1) ∷ zeros (length (row r 2)) ∷ zeros (length (row r 3)) ∷ row r 4
+    ∷ row r 5 ∷ zeros (length (row r 6)) ∷ zeros (length (row r 7)) ∷ zeros (length (row r 8)) ∷ row r 9
+    ∷ row r 10
+    ∷ row r 11 ∷ row r 12 ∷ row r 13 ∷ row r 14 ∷ row r 15 ∷ row r 16 ∷ row r 17
+    ∷ row r 18 ∷ []
+
+-- after b₀, the block b is in form and holds the cleared state, in the rows of b₀ cleared
+pub record Cleared (b₀ b : List ℤ) : Type 0 where
+  pub formed : Formed b
+  pub state : stateOf b ≡ cleared (stateOf b₀)
+  pub rows : rowsOf b ≡ clearedRows (rowsOf b₀)
+  pub vertices : vertexCount (stateOf b) ≡ vertexCount (stateOf b₀)
+  pub edges : edgeCount (stateOf b) ≡ edgeCount (stateOf b₀)
+  pub sides : sideCount (stateOf b) ≡ sideCount (stateOf b₀)
+  pub nodes : _≡_ {A = ℕ} (nodeCount (stateOf b)) 0
+  pub len : length b ≡ length b₀
+
+-- ---- the number of nodes
+
+-- after b₀, the block b has x nodes, and all else as it was
+pub record Recounted (b₀ b : List ℤ) (x : ℕ) : Type 0 where
+  pub laid : Laid b
+  pub rows : rowsOf b ≡ set (rowsOf b₀) 0 (set (row (rowsOf b₀) 0) 4 x)
+  pub vertices : vertexCount (stateOf b) ≡ vertexCount (stateOf b₀)
+  pub edges : edgeCount (stateOf b) ≡ edgeCount (stateOf b₀)
+  pub sides : sideCount (stateOf b) ≡ sideCount (stateOf b₀)
+  pub nodes : nodeCount (stateOf b) ≡ x
+  pub node-limit : stateOf b .nodeLimit ≡ stateOf b₀ .nodeLimit
+  pub store-limit : stateOf b .storeLimit ≡ stateOf b₀ .storeLimit
+  pub len : length b ≡ length b₀

@@ -1,16 +1,15 @@
 -- A row written place by place, from its first place on; and a row of flags.
-use Prim.Native.Nat.{ℕ, zero, suc, _+_, _-_, _*_, _≤_, _<_}
+use Prim.Native.Nat.{ℕ, zero, suc, _+_, _-_, _≤_, _<_}
 use native.Mathlib.Omega.{arith}
-use native.Mathlib.Numerals.{add-one}
 use native.Mathlib.Decide.{ℕ-discrete as decEq}
 use mathlib.Core.Path.{_≡_, refl, sym, ap, _∙_}
 use mathlib.Core.Logic.{_≢_}
-use mathlib.Core.Bool.{Bool, true, false, _||_}
+use mathlib.Core.Bool.{Bool, true, false}
 use mathlib.Core.List.{List, [], _∷_, _++_, map, append-nil}
 use lib.IntN.{ℤ}
 use lib.Dec.{eqb}
-use lib.ListN.{length, getD, set, take, drop, replicate, length-set, length-map, length-replicate, getD-replicate, drop-of-length-le}
-use lib.Seq.{drop-cons, set-at, append-snoc, getD-set-same, getD-set-other, ext-getD}
+use lib.ListN.{length, getD, set, take, drop, replicate, length-set, length-map, length-replicate, getD-replicate, drop-of-length-le, List·getD-map}
+use lib.Seq.{drop-cons, set-at, getD-at, append-snoc, getD-set-same, getD-set-other, ext-getD}
 use borrow.Author.Tests.{eq-eqb, ne-eqb}
 use Rattle.graph.specs.Basic.{if_then_else_, fold, any, member, below}
 use Rattle.graph.specs.Laws.{fold-more}
@@ -22,6 +21,7 @@ use Rattle.graph.specs.Layout.{rowsOf, row, stateOf}
 use Rattle.graph.specs.Form.{Laid, Rowed}
 use Rattle.graph.specs.Opened.{getD-tabled}
 use Rattle.graph.specs.RowLaws.{rowed-then, rowed-none, rowed-row, rows-length}
+use Rattle.graph.specs.Opening.{zeros}
 use Rattle.graph.specs.PlaceLaws.{map-append}
 
 -- ---- a list written from its first place on
@@ -75,23 +75,42 @@ tabled-more k b₀ b b' f i j t h r =
 pub tabled-all : (k : ℕ) (b₀ b : List ℤ) (f : ℕ → ℕ) (i : ℕ) → Tabled k b₀ b f i → length (row (rowsOf b₀) k) ≤ i → Rowed k b₀ b (map f (below i))
 tabled-all k b₀ b f i t h = rw (table-all f i (row (rowsOf b₀) k) h) at t
 
--- how long the rows are
-pub record RowLengths (b : List ℤ) : Type 0 where
-  pub flags : length (row (rowsOf b) 1) ≡ vertexCount (stateOf b)
-  pub firsts : length (row (rowsOf b) 4) ≡ vertexCount (stateOf b)
-  pub ends : length (row (rowsOf b) 5) ≡ sideCount (stateOf b)
-  pub sides : length (row (rowsOf b) 9) ≡ sideCount (stateOf b)
-  pub weights : length (row (rowsOf b) 10) ≡ edgeCount (stateOf b)
+-- a place that is not yet written
+pub tabled-rest : (k : ℕ) (b₀ b : List ℤ) (f : ℕ → ℕ) (i : ℕ) → k < 19 → Tabled k b₀ b f i → i < length (row (rowsOf b₀) k) → getD (row (rowsOf b) k) i 0 ≡ getD (row (rowsOf b₀) k) i 0
+tabled-rest k b₀ b f i j t h = rw (rowed-row j t, drop-cons (row (rowsOf b₀) k) i 0 h) (getD-at (map f (below i)) (getD (row (rowsOf b₀) k) i 0) (drop (suc i) (row (rowsOf b₀) k)) 0 i (length-table f i))
 
-pub row-lengths : (b : List ℤ) → Laid b → RowLengths b
+-- all zero
+pub tabled-zeros : (k : ℕ) (b₀ b : List ℤ) (i : ℕ) → Tabled k b₀ b (λ p. 0) i → length (row (rowsOf b₀) k) ≡ i → Rowed k b₀ b (zeros (length (row (rowsOf b₀) k)))
+tabled-zeros k b₀ b i t h = rw (h, ← table-same {A = ℕ} 0 i) (tabled-all k b₀ b (λ p. 0) i t (omega (arith, h)))
+
+-- a function of the entries of a list
+pub table-list : (f : ℕ → ℕ) (l : List ℕ) → map (λ i. f (getD l i 0)) (below (length l)) ≡ map f l
+table-list f l =
+    ext-getD (f 0) (map (λ i. f (getD l i 0)) (below (length l))) (map f l) (length-table (λ i. f (getD l i 0)) (length l) ∙ sym (length-map l f))
+    (λ i h. let k : i < length l = rw (length-table (λ i. f (getD l i 0)) (length l)) at h in getD-tabled (λ i. f (getD l i 0)) (length l) i (f 0) k ∙ sym (List·getD-map f l i 0))
+
+-- ---- how long the rows are
+
+pub vertex-row : (b : List ℤ) (k : ℕ) → Laid b → k < 4 → length (row (rowsOf b) (1 + k)) ≡ vertexCount (stateOf b)
 unfolding Laid offset
-row-lengths b q = record {
-  flags = rows-length b 1 (omega arith) ∙ sym (q .counted .vertices);
-  firsts = rows-length b 4 (omega arith) ∙ sym (q .counted .vertices);
-  ends = rows-length b 5 (omega arith) ∙ sym (q .counted .sides);
-  sides = rows-length b 9 (omega arith) ∙ sym (q .counted .sides);
-  weights = rows-length b 10 (omega arith) ∙ sym (q .counted .edges);
-}
+vertex-row b zero q h = rows-length b 1 (omega arith) ∙ sym (q .counted .vertices)
+vertex-row b (suc zero) q h = rows-length b 2 (omega arith) ∙ sym (q .counted .vertices)
+vertex-row b (suc (suc zero)) q h = rows-length b 3 (omega arith) ∙ sym (q .counted .vertices)
+vertex-row b (suc (suc (suc zero))) q h = rows-length b 4 (omega arith) ∙ sym (q .counted .vertices)
+vertex-row b (suc (suc (suc (suc k)))) q h = absurd (omega arith)
+
+pub side-row : (b : List ℤ) (k : ℕ) → Laid b → k < 5 → length (row (rowsOf b) (5 + k)) ≡ sideCount (stateOf b)
+unfolding Laid offset
+side-row b zero q h = rows-length b 5 (omega arith) ∙ sym (q .counted .sides)
+side-row b (suc zero) q h = rows-length b 6 (omega arith) ∙ sym (q .counted .sides)
+side-row b (suc (suc zero)) q h = rows-length b 7 (omega arith) ∙ sym (q .counted .sides)
+side-row b (suc (suc (suc zero))) q h = rows-length b 8 (omega arith) ∙ sym (q .counted .sides)
+side-row b (suc (suc (suc (suc zero)))) q h = rows-length b 9 (omega arith) ∙ sym (q .counted .sides)
+side-row b (suc (suc (suc (suc (suc k))))) q h = absurd (omega arith)
+
+pub edge-row : (b : List ℤ) → Laid b → length (row (rowsOf b) 10) ≡ edgeCount (stateOf b)
+unfolding Laid offset
+edge-row b q = rows-length b 10 (omega arith) ∙ sym (q .counted .edges)
 
 -- another row than the one written
 pub rowed-other : {k : ℕ} {b₀ b : List ℤ} {w : List ℕ} (j : ℕ) → j ≢ k → Rowed k b₀ b w → row (rowsOf b) j ≡ row (rowsOf b₀) j

@@ -8,8 +8,10 @@ pub mod edge; // fields of edges
 pub mod node; // fields of nodes
 pub mod dual_node; // a node as a value
 pub mod sizes; // the sizes in range, and the lengths that they fix
+pub mod given; // the words that the host gives with a graph
 pub mod opened; // the words of an opened block
 pub mod open; // opening a graph: the refusals and the call
+pub mod clear; // clearing a block
 pub mod sides; // the sides at a vertex
 pub mod lists; // the lists of a node
 pub mod store; // replacing the lists of a node

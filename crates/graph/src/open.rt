@@ -2,84 +2,20 @@
 
 ghost use mathlib.Core.Path.{_≡_};
 ghost use mathlib.Core.Bool.{true};
-ghost use Prim.Native.Nat.{_+_, _*_, _<_, _≤_};
-ghost use lib.Dec.{ltb};
-ghost use lib.ListN.{length};
-ghost use Rattle.graph.specs.Basic.{all};
-ghost use Rattle.graph.specs.Open.{sizesOk, edgeOk, openRefusal};
-ghost use Rattle.graph.specs.Opening.{givenAt, edgeAt, edgesIn, edgesFrom, virtualsFrom, fits, openedBlock};
+ghost use Prim.Native.Nat.{_≤_};
+ghost use Rattle.graph.specs.Open.{sizesOk, openRefusal};
+ghost use Rattle.graph.specs.Opening.{edgesIn, edgesFrom, virtualsFrom, fits, openedBlock};
 ghost use Rattle.graph.specs.OpenLaws.{refusalOfEdges, refusalOfVirtuals, refusalOfLengths};
+use crate::given;
 use crate::opened;
 use crate::sizes;
-use crate::words;
-
-// The number at place i, the greatest where there is none.
-pub fn given(words: &[i64], i: usize) -> usize
-    ensures { λ r. ⌜ (r ≡ givenAt (now (words .entry)) i) × (r < 9223372036854775808) ⌝ }
-{
-    if i < words.len() {
-        words::word(words, i)
-    } else {
-        9223372036854775807
-    }
-}
-
-// How many edges the words give.
-fn edges_in(words: &[i64]) -> usize
-    ensures { λ r. ⌜ r ≡ edgesIn (now (words .entry)) ⌝ }
-{
-    let k = words.len();
-    k / 3 + (k % 3 + 2) / 3
-}
-
-// Whether edge i has two ends that differ and a weight, all in range.
-fn edge_ok(v: usize, edges: &[i64], i: usize) -> bool
-    requires { ⌜ i < 4096 ⌝ }
-    ensures { λ r. ⌜ r ≡ edgeOk v (edgeAt (now (edges .entry)) i) ⌝ }
-{
-    let x = given(edges, 3 * i);
-    let y = given(edges, 3 * i + 1);
-    let w = given(edges, 3 * i + 2);
-    (x < v) & (y < v) & (x != y) & (w <= 1000000)
-}
-
-// Whether every edge is so.
-fn edges_ok(v: usize, e: usize, edges: &[i64]) -> bool
-    requires { ⌜ (e ≤ 4096) × (edgesIn (now edges) ≡ e) ⌝ }
-    ensures { λ r. ⌜ r ≡ all (edgeOk v) (edgesFrom (now (edges .entry))) ⌝ }
-{
-    let mut i = 0;
-    while i < e {
-        if edge_ok(v, edges, i) {
-            i += 1;
-        } else {
-            return false;
-        }
-    }
-    true
-}
-
-// Whether every virtual vertex is a vertex.
-fn virtuals_ok(v: usize, virtuals: &[i64]) -> bool
-    ensures { λ r. ⌜ r ≡ all (λ x. ltb x v) (virtualsFrom (now (virtuals .entry))) ⌝ }
-{
-    let mut i = 0;
-    while i < virtuals.len() {
-        if words::word(virtuals, i) < v {
-            i += 1;
-        } else {
-            return false;
-        }
-    }
-    true
-}
 
 // The refusal of the edges alone.
 fn edges_refusal(v: usize, e: usize, edges: &[i64]) -> usize
     requires { ⌜ (e ≤ 4096) × (edgesIn (now edges) ≡ e) ⌝ }
     ensures { λ r. ⌜ r ≡ refusalOfEdges v (edgesFrom (now (edges .entry))) ⌝ }
 {
-    if edges_ok(v, e, edges) { 0 } else { 4 }
+    if given::edges_ok(v, e, edges) { 0 } else { 4 }
 }
 
 // The refusal of the virtual vertices, and behind it.
@@ -87,7 +23,7 @@ fn virtuals_refusal(v: usize, e: usize, edges: &[i64], virtuals: &[i64]) -> usiz
     requires { ⌜ (e ≤ 4096) × (edgesIn (now edges) ≡ e) ⌝ }
     ensures { λ r. ⌜ r ≡ refusalOfVirtuals v (edgesFrom (now (edges .entry))) (virtualsFrom (now (virtuals .entry))) ⌝ }
 {
-    if virtuals_ok(v, virtuals) {
+    if given::virtuals_ok(v, virtuals) {
         edges_refusal(v, e, edges)
     } else {
         3
@@ -136,7 +72,7 @@ fn refusal(
 ) -> usize
     ensures { λ r. ⌜ r ≡ openRefusal v e n l (edgesFrom (now (edges .entry))) (virtualsFrom (now (virtuals .entry))) (fits (now (b .entry)) (now (t .entry)) v e n l) ⌝ }
 {
-    if sizes::sizes_ok(v, e, n, l) & (edges_in(edges) == e) {
+    if sizes::sizes_ok(v, e, n, l) & (given::edges_in(edges) == e) {
         lengths_refusal(b, t, v, e, n, l, edges, virtuals)
     } else {
         4

@@ -1,4 +1,4 @@
-use mathlib.Core.Path.{_≡_, sym, _∙_}
+use mathlib.Core.Path.{sym, _∙_}
 use Rattle.graph.specs.Opening.{edgesFrom, virtualsFrom, fits}
 use Rattle.graph.specs.OpenedBlock.{open-accepted, opened-block, refused-block}
 use borrow.Author.Needs.{needs}

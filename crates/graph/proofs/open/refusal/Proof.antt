@@ -1,4 +1,4 @@
-use mathlib.Core.Path.{_≡_, sym, _∙_}
+use mathlib.Core.Path.{_≡_}
 use mathlib.Core.Bool.{true, false, _&&_}
 use lib.Dec.{eqb}
 use Rattle.graph.specs.Open.{sizesOk}
@@ -9,7 +9,7 @@ use Rattle.graph.proofs.open.refusal.Statement.{statement}
 use Rattle.graph.proofs.open.refusal.Tie as tie
 use Rattle.graph.proofs.open.refusal.Reads as reads
 use Rattle.graph.proofs.open.refusal.Lts as lts
-use Rattle.graph.proofs.open.edges_in.Reads as edges-in-reads
+use Rattle.graph.proofs.given.edges_in.Reads as edges-in-reads
 use Rattle.graph.proofs.open.lengths_refusal.Reads as lengths-refusal-reads
 use Rattle.graph.proofs.sizes.sizes_ok.Reads as sizes-ok-reads
 

@@ -1,11 +1,10 @@
 use mathlib.Core.Path.{_∙_}
-use native.Mathlib.Omega.{arith}
 use Rattle.graph.specs.OpenLaws.{given-word, given-none}
 use borrow.Author.Needs.{needs}
-use Rattle.graph.proofs.open.given.Statement.{statement}
-use Rattle.graph.proofs.open.given.Tie as tie
-use Rattle.graph.proofs.open.given.Reads as reads
-use Rattle.graph.proofs.open.given.Lts as lts
+use Rattle.graph.proofs.given.given.Statement.{statement}
+use Rattle.graph.proofs.given.given.Tie as tie
+use Rattle.graph.proofs.given.given.Reads as reads
+use Rattle.graph.proofs.given.given.Lts as lts
 use Rattle.graph.proofs.words.word.Reads as word-reads
 
 word-requires : tie.Need-word-requires

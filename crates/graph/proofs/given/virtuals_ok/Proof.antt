@@ -1,17 +1,15 @@
 use borrow.Author.Needs.{needs}
-use Prim.Native.Nat.{_≤_, _-_}
-use mathlib.Core.Path.{_≡_, refl, sym, ap, _∙_}
-use mathlib.Core.Bool.{true, false}
+use Prim.Native.Nat.{_-_}
+use mathlib.Core.Path.{refl}
 use native.Mathlib.Omega.{arith}
 use lib.Dec.{ltb}
-use lib.ListN.{length, getD}
-use borrow.Author.Tests.{lt-ltb, le-ltb}
+use lib.ListN.{length}
 use Rattle.graph.specs.Opening.{virtualsFrom}
 use Rattle.graph.specs.OpenLaws.{Rest, rest-all, virtuals-more, virtuals-fails, virtuals-count}
-use Rattle.graph.proofs.open.virtuals_ok.Statement.{statement}
-use Rattle.graph.proofs.open.virtuals_ok.Tie as tie
-use Rattle.graph.proofs.open.virtuals_ok.Reads as reads
-use Rattle.graph.proofs.open.virtuals_ok.Lts as lts
+use Rattle.graph.proofs.given.virtuals_ok.Statement.{statement}
+use Rattle.graph.proofs.given.virtuals_ok.Tie as tie
+use Rattle.graph.proofs.given.virtuals_ok.Reads as reads
+use Rattle.graph.proofs.given.virtuals_ok.Lts as lts
 use Rattle.graph.proofs.words.word.Reads as word-reads
 
 abbrev Inv-loop : tie.InvT-loop

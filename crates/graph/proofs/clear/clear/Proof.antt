@@ -1,0 +1,34 @@
+use Rattle.graph.specs.ClearLaws.{cleared-of}
+use borrow.Author.Needs.{needs}
+use Rattle.graph.proofs.clear.clear.Statement.{statement}
+use Rattle.graph.proofs.clear.clear.Tie as tie
+use Rattle.graph.proofs.clear.clear.Reads as reads
+use Rattle.graph.proofs.clear.clear.Lts as lts
+use Rattle.graph.proofs.clear.clear_sides.Reads as clear-sides-reads
+use Rattle.graph.proofs.clear.clear_vertices.Reads as clear-vertices-reads
+use Rattle.graph.proofs.clear.put_node_count.Reads as put-node-count-reads
+
+put-node-count-requires : tie.Need-put-node-count-requires
+put-node-count-requires c κs = search needs
+
+clear-vertices-requires : tie.Need-clear-vertices-requires
+clear-vertices-requires c κs = search needs
+
+clear-sides-requires : tie.Need-clear-sides-requires
+clear-sides-requires c κs = search needs
+
+same-length : tie.Need-same-length
+same-length c = search needs
+
+returns : tie.Need-returns
+returns c = cleared-of _ _ _ _ (c .before .before .before .before .before .before .before .before .before .pre) (c .before .before .before .before .before .before .before .put-node-count .ensures) (c .before .before .before .before .clear-vertices .ensures) (c .before .clear-sides .ensures)
+
+pub clear-spec : {M : Type 1} → statement M
+clear-spec =
+    tie.close
+    (tie.spec
+    put-node-count-requires
+    clear-vertices-requires
+    clear-sides-requires
+    same-length
+    returns)

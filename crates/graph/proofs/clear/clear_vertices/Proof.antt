@@ -1,0 +1,33 @@
+use Rattle.graph.specs.ClearLaws.{vertices-rewritten}
+use borrow.Author.Needs.{needs}
+use Rattle.graph.proofs.clear.clear_vertices.Statement.{statement}
+use Rattle.graph.proofs.clear.clear_vertices.Tie as tie
+use Rattle.graph.proofs.clear.clear_vertices.Reads as reads
+use Rattle.graph.proofs.clear.clear_vertices.Lts as lts
+use Rattle.graph.proofs.clear.drop_defects.Reads as drop-defects-reads
+use Rattle.graph.proofs.clear.zero_vertices.Reads as zero-vertices-reads
+
+drop-defects-requires : tie.Need-drop-defects-requires
+drop-defects-requires c κs = search needs
+
+zero-vertices-requires : tie.Need-zero-vertices-requires
+zero-vertices-requires c κs = search needs
+
+zero-vertices-requires-2 : tie.Need-zero-vertices-requires-2
+zero-vertices-requires-2 c κs = search needs
+
+same-length : tie.Need-same-length
+same-length c = search needs
+
+returns : tie.Need-returns
+returns c = vertices-rewritten _ _ _ _ (c .before .before .before .before .before .before .before .drop-defects .ensures) (c .before .before .before .before .zero-vertices .ensures) (c .before .zero-vertices2 .ensures)
+
+pub clear-vertices-spec : {M : Type 1} → statement M
+clear-vertices-spec =
+    tie.close
+    (tie.spec
+    drop-defects-requires
+    zero-vertices-requires
+    zero-vertices-requires-2
+    same-length
+    returns)

@@ -1,0 +1,22 @@
+use native.Mathlib.Omega.{arith}
+use Rattle.graph.specs.Form.{Laid}
+use Rattle.graph.specs.ClearLaws.{recounted}
+use borrow.Author.Needs.{needs}
+use Rattle.graph.proofs.clear.put_node_count.Statement.{statement}
+use Rattle.graph.proofs.clear.put_node_count.Tie as tie
+use Rattle.graph.proofs.clear.put_node_count.Reads as reads
+use Rattle.graph.proofs.clear.put_node_count.Lts as lts
+use Rattle.graph.proofs.words.put.Reads as put-reads
+
+put-requires : tie.Need-put-requires
+unfolding Laid
+put-requires c κs = omega arith
+
+same-length : tie.Need-same-length
+same-length c = search needs
+
+returns : tie.Need-returns
+returns c = let a = c .before .before .before in rw (c .before .put .ensures) (recounted (a .args .b .now) (a .args .x) (a .pre .0) (a .pre .1))
+
+pub put-node-count-spec : {M : Type 1} → statement M
+put-node-count-spec = tie.close (tie.spec put-requires same-length returns)
