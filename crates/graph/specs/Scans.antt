@@ -9,7 +9,7 @@ use Rattle.graph.specs.Basic.{all, distinct, same}
 use Rattle.graph.specs.State.{State, Overgrown, vertexCount, sideCount, sidesAt, virtualAt, defectAt, holderAt, vertexHolderAt, vertexGrandsonAt, classOf, growStateOf, dualOf, overgrownOf}
 use Rattle.graph.specs.Open.{dualLimit, sidesOf}
 use Rattle.graph.specs.Sound.{nodeOrNone, classSound, parentSound}
-use Rattle.graph.specs.SideLaws.{firstWord, lastWord}
+use Rattle.graph.specs.laws.SidesAt.{firstWord, lastWord}
 
 -- the numbers of vertex v
 unfoldable pub vertexNumbers : State → ℕ → Bool

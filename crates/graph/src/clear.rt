@@ -6,7 +6,7 @@ ghost use lib.ListN.{length};
 ghost use Rattle.graph.specs.Layout.{rowsOf, row, stateOf};
 ghost use Rattle.graph.specs.Form.{Laid, Formed, Rowed};
 ghost use Rattle.graph.specs.Opening.{zeros, Recounted, Cleared};
-ghost use Rattle.graph.specs.ClearLaws.{Rewritten, clearedVertices, clearedSides};
+ghost use Rattle.graph.specs.laws.Clear.{Rewritten, clearedVertices, clearedSides};
 use crate::rows;
 use crate::words;
 

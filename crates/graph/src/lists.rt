@@ -10,7 +10,7 @@ ghost use Rattle.graph.specs.Sound.{entries};
 ghost use Rattle.graph.specs.Word.{toNat};
 ghost use Rattle.graph.specs.Layout.{overgrownFrom, stateOf};
 ghost use Rattle.graph.specs.Form.{Laid, Listed, sidesOk};
-ghost use Rattle.graph.specs.ListLaws.{startWord};
+ghost use Rattle.graph.specs.laws.List.{startWord};
 use crate::rows;
 
 // Where the lists of node n begin in the store.

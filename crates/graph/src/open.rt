@@ -5,7 +5,7 @@ ghost use mathlib.Core.Bool.{true};
 ghost use Prim.Native.Nat.{_≤_};
 ghost use Rattle.graph.specs.Open.{sizesOk, openRefusal};
 ghost use Rattle.graph.specs.Opening.{edgesIn, edgesFrom, virtualsFrom, fits, openedBlock};
-ghost use Rattle.graph.specs.OpenLaws.{refusalOfEdges, refusalOfVirtuals, refusalOfLengths};
+ghost use Rattle.graph.specs.laws.Open.{refusalOfEdges, refusalOfVirtuals, refusalOfLengths};
 use crate::given;
 use crate::opened;
 use crate::sizes;

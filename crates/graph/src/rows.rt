@@ -6,7 +6,7 @@ ghost use lib.ListN.{length, getD, set};
 ghost use Rattle.graph.specs.State.{vertexCount, edgeCount, sideCount, nodeCount};
 ghost use Rattle.graph.specs.Layout.{rowsOf, row, stateOf};
 ghost use Rattle.graph.specs.Form.{Laid, Rowed};
-ghost use Rattle.graph.specs.RowLaws.{Found};
+ghost use Rattle.graph.specs.laws.Row.{Found};
 use crate::words;
 
 // ---- counts

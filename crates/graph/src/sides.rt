@@ -6,7 +6,7 @@ ghost use lib.ListN.{length, getD};
 ghost use Rattle.graph.specs.State.{vertexCount, sideCount, sidesAt};
 ghost use Rattle.graph.specs.Layout.{stateOf};
 ghost use Rattle.graph.specs.Form.{Laid, Formed};
-ghost use Rattle.graph.specs.SideLaws.{Rising, firstWord, lastWord};
+ghost use Rattle.graph.specs.laws.SidesAt.{Rising, firstWord, lastWord};
 use crate::rows;
 
 // ---- of a block that is not yet known to be sound

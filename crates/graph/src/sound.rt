@@ -6,7 +6,7 @@ ghost use Prim.Native.Nat.{_*_};
 ghost use Rattle.graph.specs.Sound.{sound};
 ghost use Rattle.graph.specs.Layout.{eOf, rowsOf, row, risingTo, packed, stateOf, sized, blockSound};
 ghost use Rattle.graph.specs.Form.{Laid, Listed};
-ghost use Rattle.graph.specs.SideLaws.{Rising};
+ghost use Rattle.graph.specs.laws.SidesAt.{Rising};
 use crate::sound_graph;
 use crate::sound_lists;
 use crate::sound_nodes;

@@ -9,7 +9,7 @@ ghost use Rattle.graph.specs.State.{vertexCount, edgeCount, sideCount, e
 ghost use Rattle.graph.specs.Sound.{storedDefect, sideSound, edgeSound, vertexSound};
 ghost use Rattle.graph.specs.Layout.{eOf, rowsOf, row, risingTo, stateOf};
 ghost use Rattle.graph.specs.Form.{Laid};
-ghost use Rattle.graph.specs.SideLaws.{Rising};
+ghost use Rattle.graph.specs.laws.SidesAt.{Rising};
 ghost use Rattle.graph.specs.Scans.{vertexNumbers, risesAt, wiredAt, standsAt, countedAt};
 use crate::rows;
 use crate::sides;

@@ -9,7 +9,7 @@ use Rattle.graph.specs.Layout.{stackFrom, stateOf}
 use Rattle.graph.specs.Form.{Formed, Becomes}
 use Rattle.pass.specs.Work.{Work}
 use Rattle.pass.specs.Scratch.{Holding}
-use Rattle.pass.specs.Fits.{OwnSides}
+use Rattle.pass.specs.laws.Fits.{OwnSides}
 use Rattle.pass.specs.declared.take.Progress.{Progress}
 
 -- the work of a pass over node n that block b and scratch t have: m is the number of sides, and p how many entries each section has

@@ -3,10 +3,6 @@ use native.Mathlib.Omega.{arith}
 use Prim.Native.Nat.{_-_, _≤_}
 use Rattle.lent_memory.proofs.changes.Statement.{statement}
 use Rattle.lent_memory.proofs.changes.Tie as tie
-use Rattle.lent_memory.proofs.changes.Reads as reads
-use Rattle.lent_memory.proofs.changes.Lts as lts
-use Rattle.lent_memory.proofs.changed.Reads as changed-reads
-use Rattle.lent_memory.proofs.sample.Reads as sample-reads
 
 abbrev Inv-loop : tie.InvT-loop
 Inv-loop b s n₀ i₀ n i = (n ≤ i) × (i ≤ 53)

@@ -1,12 +1,7 @@
-use Rattle.graph.specs.ClearLaws.{cleared-of}
+use Rattle.graph.specs.laws.Clear.{cleared-of}
 use borrow.Author.Needs.{needs}
 use Rattle.graph.proofs.clear.clear.Statement.{statement}
 use Rattle.graph.proofs.clear.clear.Tie as tie
-use Rattle.graph.proofs.clear.clear.Reads as reads
-use Rattle.graph.proofs.clear.clear.Lts as lts
-use Rattle.graph.proofs.clear.clear_sides.Reads as clear-sides-reads
-use Rattle.graph.proofs.clear.clear_vertices.Reads as clear-vertices-reads
-use Rattle.graph.proofs.clear.put_node_count.Reads as put-node-count-reads
 
 put-node-count-requires : tie.Need-put-node-count-requires
 put-node-count-requires c κs = search needs

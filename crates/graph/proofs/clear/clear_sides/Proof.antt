@@ -1,10 +1,7 @@
-use Rattle.graph.specs.ClearLaws.{sides-rewritten}
+use Rattle.graph.specs.laws.Clear.{sides-rewritten}
 use borrow.Author.Needs.{needs}
 use Rattle.graph.proofs.clear.clear_sides.Statement.{statement}
 use Rattle.graph.proofs.clear.clear_sides.Tie as tie
-use Rattle.graph.proofs.clear.clear_sides.Reads as reads
-use Rattle.graph.proofs.clear.clear_sides.Lts as lts
-use Rattle.graph.proofs.clear.zero_sides.Reads as zero-sides-reads
 
 zero-sides-requires : tie.Need-zero-sides-requires
 zero-sides-requires c κs = search needs

@@ -1,11 +1,7 @@
-use Rattle.graph.specs.ClearLaws.{vertices-rewritten}
+use Rattle.graph.specs.laws.Clear.{vertices-rewritten}
 use borrow.Author.Needs.{needs}
 use Rattle.graph.proofs.clear.clear_vertices.Statement.{statement}
 use Rattle.graph.proofs.clear.clear_vertices.Tie as tie
-use Rattle.graph.proofs.clear.clear_vertices.Reads as reads
-use Rattle.graph.proofs.clear.clear_vertices.Lts as lts
-use Rattle.graph.proofs.clear.drop_defects.Reads as drop-defects-reads
-use Rattle.graph.proofs.clear.zero_vertices.Reads as zero-vertices-reads
 
 drop-defects-requires : tie.Need-drop-defects-requires
 drop-defects-requires c κs = search needs

@@ -4,16 +4,11 @@ use mathlib.Core.Path.{_≡_, _∙_}
 use native.Mathlib.Omega.{arith}
 use lib.ListN.{getD, length}
 use Rattle.graph.specs.Layout.{rowsOf, row}
-use Rattle.graph.specs.TableLaws.{Tabled, tabled-none, tabled-more, tabled-all, tabled-rest, table-list, vertex-row}
+use Rattle.graph.specs.laws.Table.{Tabled, tabled-none, tabled-more, tabled-all, tabled-rest, table-list, vertex-row}
 use mathlib.Core.List.{List}
 use Prim.Native.Nat.{ℕ}
 use Rattle.graph.proofs.clear.drop_defects.Statement.{statement}
 use Rattle.graph.proofs.clear.drop_defects.Tie as tie
-use Rattle.graph.proofs.clear.drop_defects.Reads as reads
-use Rattle.graph.proofs.clear.drop_defects.Lts as lts
-use Rattle.graph.proofs.rows.put_vertex.Reads as put-vertex-reads
-use Rattle.graph.proofs.rows.vertex_count.Reads as vertex-count-reads
-use Rattle.graph.proofs.rows.vertex_word.Reads as vertex-word-reads
 
 abbrev Inv-loop : tie.InvT-loop
 Inv-loop b₀ m v₀ b v = (v ≤ m) × Tabled 1 b₀ b (λ i. getD (row (rowsOf b₀) 1) i 0 % 2) v

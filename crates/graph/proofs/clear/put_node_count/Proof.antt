@@ -1,12 +1,9 @@
 use native.Mathlib.Omega.{arith}
 use Rattle.graph.specs.Form.{Laid}
-use Rattle.graph.specs.ClearLaws.{recounted}
+use Rattle.graph.specs.laws.Clear.{recounted}
 use borrow.Author.Needs.{needs}
 use Rattle.graph.proofs.clear.put_node_count.Statement.{statement}
 use Rattle.graph.proofs.clear.put_node_count.Tie as tie
-use Rattle.graph.proofs.clear.put_node_count.Reads as reads
-use Rattle.graph.proofs.clear.put_node_count.Lts as lts
-use Rattle.graph.proofs.words.put.Reads as put-reads
 
 put-requires : tie.Need-put-requires
 unfolding Laid

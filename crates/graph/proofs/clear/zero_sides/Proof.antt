@@ -1,13 +1,9 @@
 use borrow.Author.Needs.{needs}
 use Prim.Native.Nat.{_≤_, _-_, _+_}
 use native.Mathlib.Omega.{arith}
-use Rattle.graph.specs.TableLaws.{Tabled, tabled-none, tabled-more, tabled-zeros, side-row}
+use Rattle.graph.specs.laws.Table.{Tabled, tabled-none, tabled-more, tabled-zeros, side-row}
 use Rattle.graph.proofs.clear.zero_sides.Statement.{statement}
 use Rattle.graph.proofs.clear.zero_sides.Tie as tie
-use Rattle.graph.proofs.clear.zero_sides.Reads as reads
-use Rattle.graph.proofs.clear.zero_sides.Lts as lts
-use Rattle.graph.proofs.rows.put_side.Reads as put-side-reads
-use Rattle.graph.proofs.rows.side_count.Reads as side-count-reads
 
 abbrev Inv-loop : tie.InvT-loop
 Inv-loop b₀ k m s₀ b s = (s ≤ m) × Tabled (5 + k) b₀ b (λ p. 0) s

@@ -1,13 +1,9 @@
 use borrow.Author.Needs.{needs}
 use Prim.Native.Nat.{_≤_, _-_, _+_}
 use native.Mathlib.Omega.{arith}
-use Rattle.graph.specs.TableLaws.{Tabled, tabled-none, tabled-more, tabled-zeros, vertex-row}
+use Rattle.graph.specs.laws.Table.{Tabled, tabled-none, tabled-more, tabled-zeros, vertex-row}
 use Rattle.graph.proofs.clear.zero_vertices.Statement.{statement}
 use Rattle.graph.proofs.clear.zero_vertices.Tie as tie
-use Rattle.graph.proofs.clear.zero_vertices.Reads as reads
-use Rattle.graph.proofs.clear.zero_vertices.Lts as lts
-use Rattle.graph.proofs.rows.put_vertex.Reads as put-vertex-reads
-use Rattle.graph.proofs.rows.vertex_count.Reads as vertex-count-reads
 
 abbrev Inv-loop : tie.InvT-loop
 Inv-loop b₀ k m v₀ b v = (v ≤ m) × Tabled (1 + k) b₀ b (λ p. 0) v

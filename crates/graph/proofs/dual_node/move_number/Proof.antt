@@ -4,8 +4,6 @@ use borrow.Author.Tests.{eq-eqb, ne-eqb}
 use Rattle.graph.specs.Node.{moved}
 use Rattle.graph.proofs.dual_node.move_number.Statement.{statement}
 use Rattle.graph.proofs.dual_node.move_number.Tie as tie
-use Rattle.graph.proofs.dual_node.move_number.Reads as reads
-use Rattle.graph.proofs.dual_node.move_number.Lts as lts
 
 add-result : tie.Need-add-result
 add-result c = omega (arith, c .before .pre .rises (c .if1 .taken))

@@ -3,9 +3,6 @@ use borrow.Author.Tests.{eq-eqb, ne-eqb}
 use Rattle.graph.specs.Node.{movedTop}
 use Rattle.graph.proofs.dual_node.move_top.Statement.{statement}
 use Rattle.graph.proofs.dual_node.move_top.Tie as tie
-use Rattle.graph.proofs.dual_node.move_top.Reads as reads
-use Rattle.graph.proofs.dual_node.move_top.Lts as lts
-use Rattle.graph.proofs.dual_node.move_number.Reads as move-number-reads
 
 move-number-requires : tie.Need-move-number-requires
 move-number-requires c κs = c .before .pre (c .if1 .left)

@@ -1,12 +1,9 @@
 use mathlib.Core.Path.{refl}
 use Rattle.graph.specs.Layout.{stateOf, stateFrom}
-use Rattle.graph.specs.FieldLaws.{weight-below}
+use Rattle.graph.specs.laws.Field.{weight-below}
 use borrow.Author.Needs.{needs}
 use Rattle.graph.proofs.edge.weight.Statement.{statement}
 use Rattle.graph.proofs.edge.weight.Tie as tie
-use Rattle.graph.proofs.edge.weight.Reads as reads
-use Rattle.graph.proofs.edge.weight.Lts as lts
-use Rattle.graph.proofs.rows.edge_word.Reads as edge-word-reads
 
 edge-word-requires : tie.Need-edge-word-requires
 edge-word-requires c κs = search needs

@@ -3,9 +3,6 @@ use Rattle.graph.specs.Opening.{edgeAt}
 use borrow.Author.Needs.{needs}
 use Rattle.graph.proofs.given.edge_ok.Statement.{statement}
 use Rattle.graph.proofs.given.edge_ok.Tie as tie
-use Rattle.graph.proofs.given.edge_ok.Reads as reads
-use Rattle.graph.proofs.given.edge_ok.Lts as lts
-use Rattle.graph.proofs.given.given.Reads as given-reads
 
 mul-given : tie.Need-mul-given
 mul-given c = search needs

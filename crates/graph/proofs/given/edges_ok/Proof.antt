@@ -4,12 +4,9 @@ use mathlib.Core.Path.{refl, sym, _∙_}
 use native.Mathlib.Omega.{arith}
 use Rattle.graph.specs.Open.{edgeOk}
 use Rattle.graph.specs.Opening.{edgesFrom}
-use Rattle.graph.specs.OpenLaws.{Rest, rest-all, edges-more, edges-fails, edges-count}
+use Rattle.graph.specs.laws.Open.{Rest, rest-all, edges-more, edges-fails, edges-count}
 use Rattle.graph.proofs.given.edges_ok.Statement.{statement}
 use Rattle.graph.proofs.given.edges_ok.Tie as tie
-use Rattle.graph.proofs.given.edges_ok.Reads as reads
-use Rattle.graph.proofs.given.edges_ok.Lts as lts
-use Rattle.graph.proofs.given.edge_ok.Reads as edge-ok-reads
 
 abbrev Inv-loop : tie.InvT-loop
 Inv-loop v e edges i₀ i = (i ≤ e) × Rest (edgeOk v) (edgesFrom edges) i

@@ -1,11 +1,8 @@
 use mathlib.Core.Path.{_∙_}
-use Rattle.graph.specs.OpenLaws.{given-word, given-none}
+use Rattle.graph.specs.laws.Open.{given-word, given-none}
 use borrow.Author.Needs.{needs}
 use Rattle.graph.proofs.given.given.Statement.{statement}
 use Rattle.graph.proofs.given.given.Tie as tie
-use Rattle.graph.proofs.given.given.Reads as reads
-use Rattle.graph.proofs.given.given.Lts as lts
-use Rattle.graph.proofs.words.word.Reads as word-reads
 
 word-requires : tie.Need-word-requires
 word-requires c κs = search needs

@@ -5,12 +5,9 @@ use native.Mathlib.Omega.{arith}
 use lib.Dec.{ltb}
 use lib.ListN.{length}
 use Rattle.graph.specs.Opening.{virtualsFrom}
-use Rattle.graph.specs.OpenLaws.{Rest, rest-all, virtuals-more, virtuals-fails, virtuals-count}
+use Rattle.graph.specs.laws.Open.{Rest, rest-all, virtuals-more, virtuals-fails, virtuals-count}
 use Rattle.graph.proofs.given.virtuals_ok.Statement.{statement}
 use Rattle.graph.proofs.given.virtuals_ok.Tie as tie
-use Rattle.graph.proofs.given.virtuals_ok.Reads as reads
-use Rattle.graph.proofs.given.virtuals_ok.Lts as lts
-use Rattle.graph.proofs.words.word.Reads as word-reads
 
 abbrev Inv-loop : tie.InvT-loop
 Inv-loop v virtuals i₀ i = Rest (λ x. ltb x v) (virtualsFrom virtuals) i

@@ -1,13 +1,8 @@
 use native.Mathlib.Omega.{arith}
-use Rattle.graph.specs.ListLaws.{lists-of, store-fits, boundary-part}
+use Rattle.graph.specs.laws.List.{lists-of, store-fits, boundary-part}
 use borrow.Author.Needs.{needs}
 use Rattle.graph.proofs.lists.boundary.Statement.{statement}
 use Rattle.graph.proofs.lists.boundary.Tie as tie
-use Rattle.graph.proofs.lists.boundary.Reads as reads
-use Rattle.graph.proofs.lists.boundary.Lts as lts
-use Rattle.graph.proofs.lists.boundary_len.Reads as boundary-len-reads
-use Rattle.graph.proofs.lists.start.Reads as start-reads
-use Rattle.graph.proofs.rows.store_limit.Reads as store-limit-reads
 
 store-limit-requires : tie.Need-store-limit-requires
 store-limit-requires c κs = search needs

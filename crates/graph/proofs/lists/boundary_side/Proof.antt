@@ -1,11 +1,8 @@
 use Rattle.graph.specs.Layout.{stateOf}
-use Rattle.graph.specs.ListLaws.{side-below}
+use Rattle.graph.specs.laws.List.{side-below}
 use borrow.Author.Needs.{needs}
 use Rattle.graph.proofs.lists.boundary_side.Statement.{statement}
 use Rattle.graph.proofs.lists.boundary_side.Tie as tie
-use Rattle.graph.proofs.lists.boundary_side.Reads as reads
-use Rattle.graph.proofs.lists.boundary_side.Lts as lts
-use Rattle.graph.proofs.lists.boundary_word.Reads as boundary-word-reads
 
 boundary-word-requires : tie.Need-boundary-word-requires
 boundary-word-requires c κs = search needs

@@ -1,13 +1,9 @@
 use native.Mathlib.Omega.{arith}
 use mathlib.Core.Path.{_∙_}
-use Rattle.graph.specs.ListLaws.{lists-of, boundary-entry, store-max}
+use Rattle.graph.specs.laws.List.{lists-of, boundary-entry, store-max}
 use borrow.Author.Needs.{needs}
 use Rattle.graph.proofs.lists.boundary_word.Statement.{statement}
 use Rattle.graph.proofs.lists.boundary_word.Tie as tie
-use Rattle.graph.proofs.lists.boundary_word.Reads as reads
-use Rattle.graph.proofs.lists.boundary_word.Lts as lts
-use Rattle.graph.proofs.lists.start.Reads as start-reads
-use Rattle.graph.proofs.rows.store_word.Reads as store-word-reads
 
 start-requires : tie.Need-start-requires
 start-requires c κs = search needs

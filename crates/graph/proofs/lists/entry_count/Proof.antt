@@ -2,17 +2,11 @@ use Prim.Native.Nat.{_-_}
 use mathlib.Core.Path.{sym, _∙_}
 use Rattle.graph.specs.Layout.{stateOf}
 use native.Mathlib.Omega.{arith}
-use Rattle.graph.specs.ListLaws.{lists-of}
-use Rattle.graph.specs.UsedLaws.{entries-none, entries-last, entries-within}
+use Rattle.graph.specs.laws.List.{lists-of}
+use Rattle.graph.specs.laws.Used.{entries-none, entries-last, entries-within}
 use borrow.Author.Needs.{needs}
 use Rattle.graph.proofs.lists.entry_count.Statement.{statement}
 use Rattle.graph.proofs.lists.entry_count.Tie as tie
-use Rattle.graph.proofs.lists.entry_count.Reads as reads
-use Rattle.graph.proofs.lists.entry_count.Lts as lts
-use Rattle.graph.proofs.lists.boundary_len.Reads as boundary-len-reads
-use Rattle.graph.proofs.lists.overgrown_len.Reads as overgrown-len-reads
-use Rattle.graph.proofs.lists.start.Reads as start-reads
-use Rattle.graph.proofs.rows.node_count.Reads as node-count-reads
 
 node-count-requires : tie.Need-node-count-requires
 node-count-requires c κs = search needs

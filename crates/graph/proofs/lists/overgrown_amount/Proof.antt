@@ -5,9 +5,6 @@ use Rattle.graph.specs.Layout.{overgrownFrom}
 use borrow.Author.Needs.{needs}
 use Rattle.graph.proofs.lists.overgrown_amount.Statement.{statement}
 use Rattle.graph.proofs.lists.overgrown_amount.Tie as tie
-use Rattle.graph.proofs.lists.overgrown_amount.Reads as reads
-use Rattle.graph.proofs.lists.overgrown_amount.Lts as lts
-use Rattle.graph.proofs.lists.overgrown_word.Reads as overgrown-word-reads
 
 overgrown-word-requires : tie.Need-overgrown-word-requires
 overgrown-word-requires c κs = search needs

@@ -1,15 +1,9 @@
 use native.Mathlib.Omega.{arith}
 use mathlib.Core.Path.{_≡_}
-use Rattle.graph.specs.ListLaws.{lists-of, overgrown-entry, blenWord, olenWord}
+use Rattle.graph.specs.laws.List.{lists-of, overgrown-entry, blenWord, olenWord}
 use borrow.Author.Needs.{needs}
 use Rattle.graph.proofs.lists.overgrown_word.Statement.{statement}
 use Rattle.graph.proofs.lists.overgrown_word.Tie as tie
-use Rattle.graph.proofs.lists.overgrown_word.Reads as reads
-use Rattle.graph.proofs.lists.overgrown_word.Lts as lts
-use Rattle.graph.proofs.lists.boundary_len.Reads as boundary-len-reads
-use Rattle.graph.proofs.lists.overgrown_len.Reads as overgrown-len-reads
-use Rattle.graph.proofs.lists.start.Reads as start-reads
-use Rattle.graph.proofs.rows.store_word.Reads as store-word-reads
 
 start-requires : tie.Need-start-requires
 start-requires c κs = search needs

@@ -1,10 +1,7 @@
 use native.Mathlib.Omega.{arith}
-use Rattle.graph.specs.ListLaws.{lists-of, nodes-within, store-max}
+use Rattle.graph.specs.laws.List.{lists-of, nodes-within, store-max}
 use Rattle.graph.proofs.lists.start.Statement.{statement}
 use Rattle.graph.proofs.lists.start.Tie as tie
-use Rattle.graph.proofs.lists.start.Reads as reads
-use Rattle.graph.proofs.lists.start.Lts as lts
-use Rattle.graph.proofs.rows.node_word.Reads as node-word-reads
 
 node-word-requires : tie.Need-node-word-requires
 node-word-requires c κs = (c .pre .0, omega arith, omega (arith, nodes-within (c .args .b .now) (c .pre .0)))

@@ -2,15 +2,10 @@ use native.Mathlib.Omega.{arith}
 use mathlib.Core.Path.{sym, _∙_}
 use Rattle.graph.specs.Layout.{memoryFits}
 use Rattle.graph.specs.Form.{Sized}
-use Rattle.graph.specs.SizeLaws.{sized-of}
+use Rattle.graph.specs.laws.Size.{sized-of}
 use borrow.Author.Needs.{needs}
 use Rattle.graph.proofs.memory.measured.Statement.{statement}
 use Rattle.graph.proofs.memory.measured.Tie as tie
-use Rattle.graph.proofs.memory.measured.Reads as reads
-use Rattle.graph.proofs.memory.measured.Lts as lts
-use Rattle.graph.proofs.sizes.scratch_length.Reads as scratch-length-reads
-use Rattle.graph.proofs.sizes.sized.Reads as sized-reads
-use Rattle.graph.proofs.words.word.Reads as word-reads
 
 sizes : (c : tie.Then1) → Sized (c .before .before .args .b .now)
 sizes c = sized-of (c .before .before .args .b .now) (sym (c .before .sized .ensures) ∙ c .if1 .taken)

@@ -3,14 +3,10 @@ use mathlib.Core.Bool.{true}
 use Rattle.graph.specs.Layout.{memoryFits, memoryRefusal, sized, eOf, scratchLength}
 use lib.Dec.{eqb}
 use lib.ListN.{length}
-use Rattle.graph.specs.Laws.{and-left}
+use Rattle.graph.specs.laws.State.{and-left}
 use borrow.Author.Needs.{needs}
 use Rattle.graph.proofs.memory.refusal.Statement.{statement}
 use Rattle.graph.proofs.memory.refusal.Tie as tie
-use Rattle.graph.proofs.memory.refusal.Reads as reads
-use Rattle.graph.proofs.memory.refusal.Lts as lts
-use Rattle.graph.proofs.memory.measured.Reads as measured-reads
-use Rattle.graph.proofs.sound.sound.Reads as sound-reads
 
 fitting : (c : tie.Then1) → sized (c .before .before .args .b .now) ≡ true
 unfolding memoryFits

@@ -1,12 +1,9 @@
 use borrow.Author.Needs.{needs}
 use native.Mathlib.Omega.{arith}
 use Rattle.graph.specs.Form.{Laid}
-use Rattle.graph.specs.FieldLaws.{parent-read}
+use Rattle.graph.specs.laws.Field.{parent-read}
 use Rattle.graph.proofs.node.parent.Statement.{statement}
 use Rattle.graph.proofs.node.parent.Tie as tie
-use Rattle.graph.proofs.node.parent.Reads as reads
-use Rattle.graph.proofs.node.parent.Lts as lts
-use Rattle.graph.proofs.rows.node_word.Reads as node-word-reads
 
 node-word-requires : tie.Need-node-word-requires
 unfolding Laid

@@ -1,12 +1,9 @@
 use native.Mathlib.Omega.{arith}
 use Rattle.graph.specs.Form.{Laid}
-use Rattle.graph.specs.FieldLaws.{parent-put}
+use Rattle.graph.specs.laws.Field.{parent-put}
 use borrow.Author.Needs.{needs}
 use Rattle.graph.proofs.node.set_parent.Statement.{statement}
 use Rattle.graph.proofs.node.set_parent.Tie as tie
-use Rattle.graph.proofs.node.set_parent.Reads as reads
-use Rattle.graph.proofs.node.set_parent.Lts as lts
-use Rattle.graph.proofs.rows.put_node.Reads as put-node-reads
 
 put-node-requires : tie.Need-put-node-requires
 unfolding Laid

@@ -1,11 +1,8 @@
 use mathlib.Core.Path.{sym, _∙_}
-use Rattle.graph.specs.OpenLaws.{refusalOfEdges}
+use Rattle.graph.specs.laws.Open.{refusalOfEdges}
 use borrow.Author.Needs.{needs}
 use Rattle.graph.proofs.open.edges_refusal.Statement.{statement}
 use Rattle.graph.proofs.open.edges_refusal.Tie as tie
-use Rattle.graph.proofs.open.edges_refusal.Reads as reads
-use Rattle.graph.proofs.open.edges_refusal.Lts as lts
-use Rattle.graph.proofs.given.edges_ok.Reads as edges-ok-reads
 
 edges-ok-requires : tie.Need-edges-ok-requires
 edges-ok-requires c κs = search needs

@@ -1,13 +1,9 @@
 use native.Mathlib.Omega.{arith}
 use Rattle.graph.specs.Opening.{fits}
-use Rattle.graph.specs.SizeLaws.{sizes-in}
+use Rattle.graph.specs.laws.Size.{sizes-in}
 use borrow.Author.Needs.{needs}
 use Rattle.graph.proofs.open.lengths_fit.Statement.{statement}
 use Rattle.graph.proofs.open.lengths_fit.Tie as tie
-use Rattle.graph.proofs.open.lengths_fit.Reads as reads
-use Rattle.graph.proofs.open.lengths_fit.Lts as lts
-use Rattle.graph.proofs.sizes.block_length.Reads as block-length-reads
-use Rattle.graph.proofs.sizes.scratch_length.Reads as scratch-length-reads
 
 block-length-requires : tie.Need-block-length-requires
 block-length-requires c κs = search needs

@@ -1,14 +1,10 @@
 use mathlib.Core.Path.{sym, _∙_}
 use native.Mathlib.Omega.{arith}
-use Rattle.graph.specs.OpenLaws.{refusalOfLengths}
-use Rattle.graph.specs.SizeLaws.{sizes-in}
+use Rattle.graph.specs.laws.Open.{refusalOfLengths}
+use Rattle.graph.specs.laws.Size.{sizes-in}
 use borrow.Author.Needs.{needs}
 use Rattle.graph.proofs.open.lengths_refusal.Statement.{statement}
 use Rattle.graph.proofs.open.lengths_refusal.Tie as tie
-use Rattle.graph.proofs.open.lengths_refusal.Reads as reads
-use Rattle.graph.proofs.open.lengths_refusal.Lts as lts
-use Rattle.graph.proofs.open.lengths_fit.Reads as lengths-fit-reads
-use Rattle.graph.proofs.open.virtuals_refusal.Reads as virtuals-refusal-reads
 
 lengths-fit-requires : tie.Need-lengths-fit-requires
 lengths-fit-requires c κs = search needs

@@ -1,13 +1,9 @@
 use mathlib.Core.Path.{sym, _∙_}
 use Rattle.graph.specs.Opening.{edgesFrom, virtualsFrom, fits}
-use Rattle.graph.specs.OpenedBlock.{open-accepted, opened-block, refused-block}
+use Rattle.graph.specs.laws.OpenedBlock.{open-accepted, opened-block, refused-block}
 use borrow.Author.Needs.{needs}
 use Rattle.graph.proofs.open.open.Statement.{statement}
 use Rattle.graph.proofs.open.open.Tie as tie
-use Rattle.graph.proofs.open.open.Reads as reads
-use Rattle.graph.proofs.open.open.Lts as lts
-use Rattle.graph.proofs.open.refusal.Reads as refusal-reads
-use Rattle.graph.proofs.opened.write.Reads as write-reads
 
 refusal-requires : tie.Need-refusal-requires
 refusal-requires c κs = search needs

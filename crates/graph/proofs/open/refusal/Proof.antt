@@ -3,15 +3,10 @@ use mathlib.Core.Bool.{true, false, _&&_}
 use lib.Dec.{eqb}
 use Rattle.graph.specs.Open.{sizesOk}
 use Rattle.graph.specs.Opening.{edgesIn}
-use Rattle.graph.specs.OpenLaws.{first-passed, first-refusal}
+use Rattle.graph.specs.laws.Open.{first-passed, first-refusal}
 use borrow.Author.Needs.{needs}
 use Rattle.graph.proofs.open.refusal.Statement.{statement}
 use Rattle.graph.proofs.open.refusal.Tie as tie
-use Rattle.graph.proofs.open.refusal.Reads as reads
-use Rattle.graph.proofs.open.refusal.Lts as lts
-use Rattle.graph.proofs.given.edges_in.Reads as edges-in-reads
-use Rattle.graph.proofs.open.lengths_refusal.Reads as lengths-refusal-reads
-use Rattle.graph.proofs.sizes.sizes_ok.Reads as sizes-ok-reads
 
 sizes-ok-requires : tie.Need-sizes-ok-requires
 sizes-ok-requires c κs = search needs

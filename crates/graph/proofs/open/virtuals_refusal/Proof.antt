@@ -1,12 +1,8 @@
 use mathlib.Core.Path.{sym, _∙_}
-use Rattle.graph.specs.OpenLaws.{refusalOfVirtuals}
+use Rattle.graph.specs.laws.Open.{refusalOfVirtuals}
 use borrow.Author.Needs.{needs}
 use Rattle.graph.proofs.open.virtuals_refusal.Statement.{statement}
 use Rattle.graph.proofs.open.virtuals_refusal.Tie as tie
-use Rattle.graph.proofs.open.virtuals_refusal.Reads as reads
-use Rattle.graph.proofs.open.virtuals_refusal.Lts as lts
-use Rattle.graph.proofs.open.edges_refusal.Reads as edges-refusal-reads
-use Rattle.graph.proofs.given.virtuals_ok.Reads as virtuals-ok-reads
 
 virtuals-ok-requires : tie.Need-virtuals-ok-requires
 virtuals-ok-requires c κs = search needs

@@ -1,12 +1,8 @@
 use mathlib.Core.Path.{_∙_}
-use Rattle.graph.specs.RowLaws.{rows-get}
+use Rattle.graph.specs.laws.Row.{rows-get}
 use borrow.Author.Needs.{needs}
 use Rattle.graph.proofs.rows.edge_word.Statement.{statement}
 use Rattle.graph.proofs.rows.edge_word.Tie as tie
-use Rattle.graph.proofs.rows.edge_word.Reads as reads
-use Rattle.graph.proofs.rows.edge_word.Lts as lts
-use Rattle.graph.proofs.rows.edge_place.Reads as edge-place-reads
-use Rattle.graph.proofs.words.word.Reads as word-reads
 
 edge-place-requires : tie.Need-edge-place-requires
 edge-place-requires c κs = search needs

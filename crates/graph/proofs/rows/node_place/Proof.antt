@@ -2,12 +2,9 @@ use borrow.Author.Needs.{needs}
 use native.Mathlib.Omega.{arith}
 use Prim.Native.Nat.{_*_, _≤_}
 use Rattle.graph.specs.Form.{Laid}
-use Rattle.graph.specs.RowLaws.{times-below, node-found}
+use Rattle.graph.specs.laws.Row.{times-below, node-found}
 use Rattle.graph.proofs.rows.node_place.Statement.{statement}
 use Rattle.graph.proofs.rows.node_place.Tie as tie
-use Rattle.graph.proofs.rows.node_place.Reads as reads
-use Rattle.graph.proofs.rows.node_place.Lts as lts
-use Rattle.graph.proofs.words.word.Reads as word-reads
 
 product : (c : tie.After-word3) → c .before .before .before .args .k * c .word3 .result ≤ 6 * c .word3 .result
 product c = times-below (c .before .before .before .args .k) (c .word3 .result) (omega arith)

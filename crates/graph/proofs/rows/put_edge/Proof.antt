@@ -1,11 +1,7 @@
-use Rattle.graph.specs.RowLaws.{rowed-put}
+use Rattle.graph.specs.laws.Row.{rowed-put}
 use borrow.Author.Needs.{needs}
 use Rattle.graph.proofs.rows.put_edge.Statement.{statement}
 use Rattle.graph.proofs.rows.put_edge.Tie as tie
-use Rattle.graph.proofs.rows.put_edge.Reads as reads
-use Rattle.graph.proofs.rows.put_edge.Lts as lts
-use Rattle.graph.proofs.rows.edge_place.Reads as edge-place-reads
-use Rattle.graph.proofs.words.put.Reads as put-reads
 
 edge-place-requires : tie.Need-edge-place-requires
 edge-place-requires c κs = search needs

@@ -1,12 +1,8 @@
 use Prim.Native.Nat.{_+_}
-use Rattle.graph.specs.RowLaws.{rowed-put}
+use Rattle.graph.specs.laws.Row.{rowed-put}
 use borrow.Author.Needs.{needs}
 use Rattle.graph.proofs.rows.put_node.Statement.{statement}
 use Rattle.graph.proofs.rows.put_node.Tie as tie
-use Rattle.graph.proofs.rows.put_node.Reads as reads
-use Rattle.graph.proofs.rows.put_node.Lts as lts
-use Rattle.graph.proofs.rows.node_place.Reads as node-place-reads
-use Rattle.graph.proofs.words.put.Reads as put-reads
 
 node-place-requires : tie.Need-node-place-requires
 node-place-requires c κs = search needs

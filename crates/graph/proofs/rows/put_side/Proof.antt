@@ -1,12 +1,8 @@
 use Prim.Native.Nat.{_+_}
-use Rattle.graph.specs.RowLaws.{rowed-put}
+use Rattle.graph.specs.laws.Row.{rowed-put}
 use borrow.Author.Needs.{needs}
 use Rattle.graph.proofs.rows.put_side.Statement.{statement}
 use Rattle.graph.proofs.rows.put_side.Tie as tie
-use Rattle.graph.proofs.rows.put_side.Reads as reads
-use Rattle.graph.proofs.rows.put_side.Lts as lts
-use Rattle.graph.proofs.rows.side_place.Reads as side-place-reads
-use Rattle.graph.proofs.words.put.Reads as put-reads
 
 side-place-requires : tie.Need-side-place-requires
 side-place-requires c κs = search needs

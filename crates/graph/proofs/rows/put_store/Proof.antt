@@ -1,11 +1,7 @@
-use Rattle.graph.specs.RowLaws.{rowed-put}
+use Rattle.graph.specs.laws.Row.{rowed-put}
 use borrow.Author.Needs.{needs}
 use Rattle.graph.proofs.rows.put_store.Statement.{statement}
 use Rattle.graph.proofs.rows.put_store.Tie as tie
-use Rattle.graph.proofs.rows.put_store.Reads as reads
-use Rattle.graph.proofs.rows.put_store.Lts as lts
-use Rattle.graph.proofs.rows.store_place.Reads as store-place-reads
-use Rattle.graph.proofs.words.put.Reads as put-reads
 
 store-place-requires : tie.Need-store-place-requires
 store-place-requires c κs = search needs

@@ -1,12 +1,8 @@
 use Prim.Native.Nat.{_+_}
-use Rattle.graph.specs.RowLaws.{rowed-put}
+use Rattle.graph.specs.laws.Row.{rowed-put}
 use borrow.Author.Needs.{needs}
 use Rattle.graph.proofs.rows.put_vertex.Statement.{statement}
 use Rattle.graph.proofs.rows.put_vertex.Tie as tie
-use Rattle.graph.proofs.rows.put_vertex.Reads as reads
-use Rattle.graph.proofs.rows.put_vertex.Lts as lts
-use Rattle.graph.proofs.rows.vertex_place.Reads as vertex-place-reads
-use Rattle.graph.proofs.words.put.Reads as put-reads
 
 vertex-place-requires : tie.Need-vertex-place-requires
 vertex-place-requires c κs = search needs

@@ -3,9 +3,6 @@ use Rattle.graph.specs.Form.{Laid}
 use borrow.Author.Needs.{needs}
 use Rattle.graph.proofs.rows.side_count.Statement.{statement}
 use Rattle.graph.proofs.rows.side_count.Tie as tie
-use Rattle.graph.proofs.rows.side_count.Reads as reads
-use Rattle.graph.proofs.rows.side_count.Lts as lts
-use Rattle.graph.proofs.words.word.Reads as word-reads
 
 word-requires : tie.Need-word-requires
 unfolding Laid

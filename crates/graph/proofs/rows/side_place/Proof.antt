@@ -1,13 +1,10 @@
 use native.Mathlib.Omega.{arith}
 use Prim.Native.Nat.{_*_, _≤_}
 use Rattle.graph.specs.Form.{Laid}
-use Rattle.graph.specs.RowLaws.{times-below, side-found}
+use Rattle.graph.specs.laws.Row.{times-below, side-found}
 use borrow.Author.Needs.{needs}
 use Rattle.graph.proofs.rows.side_place.Statement.{statement}
 use Rattle.graph.proofs.rows.side_place.Tie as tie
-use Rattle.graph.proofs.rows.side_place.Reads as reads
-use Rattle.graph.proofs.rows.side_place.Lts as lts
-use Rattle.graph.proofs.words.word.Reads as word-reads
 
 product : (c : tie.After-word2) → c .before .before .args .k * (2 * c .word2 .result) ≤ 6 * (2 * c .word2 .result)
 product c = times-below (c .before .before .args .k) (2 * c .word2 .result) (omega arith)

@@ -1,13 +1,9 @@
 use Prim.Native.Nat.{_+_}
 use mathlib.Core.Path.{_∙_}
-use Rattle.graph.specs.RowLaws.{rows-get}
+use Rattle.graph.specs.laws.Row.{rows-get}
 use borrow.Author.Needs.{needs}
 use Rattle.graph.proofs.rows.side_word.Statement.{statement}
 use Rattle.graph.proofs.rows.side_word.Tie as tie
-use Rattle.graph.proofs.rows.side_word.Reads as reads
-use Rattle.graph.proofs.rows.side_word.Lts as lts
-use Rattle.graph.proofs.rows.side_place.Reads as side-place-reads
-use Rattle.graph.proofs.words.word.Reads as word-reads
 
 side-place-requires : tie.Need-side-place-requires
 side-place-requires c κs = search needs

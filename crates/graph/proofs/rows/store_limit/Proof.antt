@@ -3,9 +3,6 @@ use native.Mathlib.Omega.{arith}
 use Rattle.graph.specs.Form.{Laid}
 use Rattle.graph.proofs.rows.store_limit.Statement.{statement}
 use Rattle.graph.proofs.rows.store_limit.Tie as tie
-use Rattle.graph.proofs.rows.store_limit.Reads as reads
-use Rattle.graph.proofs.rows.store_limit.Lts as lts
-use Rattle.graph.proofs.words.word.Reads as word-reads
 
 word-requires : tie.Need-word-requires
 unfolding Laid

@@ -1,12 +1,9 @@
 use borrow.Author.Needs.{needs}
 use native.Mathlib.Omega.{arith}
 use Rattle.graph.specs.Form.{Laid}
-use Rattle.graph.specs.RowLaws.{store-found}
+use Rattle.graph.specs.laws.Row.{store-found}
 use Rattle.graph.proofs.rows.store_place.Statement.{statement}
 use Rattle.graph.proofs.rows.store_place.Tie as tie
-use Rattle.graph.proofs.rows.store_place.Reads as reads
-use Rattle.graph.proofs.rows.store_place.Lts as lts
-use Rattle.graph.proofs.words.word.Reads as word-reads
 
 word-requires : tie.Need-word-requires
 unfolding Laid

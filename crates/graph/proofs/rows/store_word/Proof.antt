@@ -1,12 +1,8 @@
 use mathlib.Core.Path.{_∙_}
-use Rattle.graph.specs.RowLaws.{rows-get}
+use Rattle.graph.specs.laws.Row.{rows-get}
 use borrow.Author.Needs.{needs}
 use Rattle.graph.proofs.rows.store_word.Statement.{statement}
 use Rattle.graph.proofs.rows.store_word.Tie as tie
-use Rattle.graph.proofs.rows.store_word.Reads as reads
-use Rattle.graph.proofs.rows.store_word.Lts as lts
-use Rattle.graph.proofs.rows.store_place.Reads as store-place-reads
-use Rattle.graph.proofs.words.word.Reads as word-reads
 
 store-place-requires : tie.Need-store-place-requires
 store-place-requires c κs = search needs

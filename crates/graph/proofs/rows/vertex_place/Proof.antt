@@ -2,12 +2,9 @@ use Prim.Native.Nat.{_*_, _≤_}
 use borrow.Author.Needs.{needs}
 use native.Mathlib.Omega.{arith}
 use Rattle.graph.specs.Form.{Laid}
-use Rattle.graph.specs.RowLaws.{times-below, vertex-found}
+use Rattle.graph.specs.laws.Row.{times-below, vertex-found}
 use Rattle.graph.proofs.rows.vertex_place.Statement.{statement}
 use Rattle.graph.proofs.rows.vertex_place.Tie as tie
-use Rattle.graph.proofs.rows.vertex_place.Reads as reads
-use Rattle.graph.proofs.rows.vertex_place.Lts as lts
-use Rattle.graph.proofs.words.word.Reads as word-reads
 
 product : (c : tie.After-word) → c .before .args .k * c .word .result ≤ 6 * c .word .result
 product c = times-below (c .before .args .k) (c .word .result) (omega arith)

@@ -1,13 +1,9 @@
 use Prim.Native.Nat.{_+_}
 use mathlib.Core.Path.{_∙_}
-use Rattle.graph.specs.RowLaws.{rows-get}
+use Rattle.graph.specs.laws.Row.{rows-get}
 use borrow.Author.Needs.{needs}
 use Rattle.graph.proofs.rows.vertex_word.Statement.{statement}
 use Rattle.graph.proofs.rows.vertex_word.Tie as tie
-use Rattle.graph.proofs.rows.vertex_word.Reads as reads
-use Rattle.graph.proofs.rows.vertex_word.Lts as lts
-use Rattle.graph.proofs.rows.vertex_place.Reads as vertex-place-reads
-use Rattle.graph.proofs.words.word.Reads as word-reads
 
 vertex-place-requires : tie.Need-vertex-place-requires
 vertex-place-requires c κs = search needs

@@ -1,13 +1,10 @@
 use native.Mathlib.Omega.{arith}
 use Rattle.graph.specs.Layout.{stateOf, stateFrom}
-use Rattle.graph.specs.FieldLaws.{end-below}
+use Rattle.graph.specs.laws.Field.{end-below}
 use mathlib.Core.Path.{refl}
 use borrow.Author.Needs.{needs}
 use Rattle.graph.proofs.side.end.Statement.{statement}
 use Rattle.graph.proofs.side.end.Tie as tie
-use Rattle.graph.proofs.side.end.Reads as reads
-use Rattle.graph.proofs.side.end.Lts as lts
-use Rattle.graph.proofs.rows.side_word.Reads as side-word-reads
 
 side-word-requires : tie.Need-side-word-requires
 side-word-requires c κs = search needs

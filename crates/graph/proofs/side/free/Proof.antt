@@ -1,12 +1,8 @@
 use Rattle.graph.specs.State.{freeSide}
-use Rattle.graph.specs.RowLaws.{becomes-then}
+use Rattle.graph.specs.laws.Row.{becomes-then}
 use borrow.Author.Needs.{needs}
 use Rattle.graph.proofs.side.free.Statement.{statement}
 use Rattle.graph.proofs.side.free.Tie as tie
-use Rattle.graph.proofs.side.free.Reads as reads
-use Rattle.graph.proofs.side.free.Lts as lts
-use Rattle.graph.proofs.side.set_grandson.Reads as set-grandson-reads
-use Rattle.graph.proofs.side.set_holder.Reads as set-holder-reads
 
 set-holder-requires : tie.Need-set-holder-requires
 set-holder-requires c κs = search needs

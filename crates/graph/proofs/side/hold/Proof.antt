@@ -1,12 +1,8 @@
 use Rattle.graph.specs.State.{heldSide}
-use Rattle.graph.specs.RowLaws.{becomes-then}
+use Rattle.graph.specs.laws.Row.{becomes-then}
 use borrow.Author.Needs.{needs}
 use Rattle.graph.proofs.side.hold.Statement.{statement}
 use Rattle.graph.proofs.side.hold.Tie as tie
-use Rattle.graph.proofs.side.hold.Reads as reads
-use Rattle.graph.proofs.side.hold.Lts as lts
-use Rattle.graph.proofs.side.set_grandson.Reads as set-grandson-reads
-use Rattle.graph.proofs.side.set_holder.Reads as set-holder-reads
 
 add-set-holder : tie.Need-add-set-holder
 add-set-holder c = search needs

@@ -2,9 +2,6 @@ use Rattle.graph.specs.Layout.{stateOf, stateFrom}
 use borrow.Author.Needs.{needs}
 use Rattle.graph.proofs.side.holder.Statement.{statement}
 use Rattle.graph.proofs.side.holder.Tie as tie
-use Rattle.graph.proofs.side.holder.Reads as reads
-use Rattle.graph.proofs.side.holder.Lts as lts
-use Rattle.graph.proofs.rows.side_word.Reads as side-word-reads
 
 side-word-requires : tie.Need-side-word-requires
 side-word-requires c κs = search needs

@@ -1,11 +1,9 @@
 use native.Mathlib.Omega.{arith}
 use mathlib.Core.Path.{sym}
-use Rattle.graph.specs.Laws.{opposite-even, opposite-odd}
+use Rattle.graph.specs.laws.State.{opposite-even, opposite-odd}
 use borrow.Author.Needs.{needs}
 use Rattle.graph.proofs.side.opposite.Statement.{statement}
 use Rattle.graph.proofs.side.opposite.Tie as tie
-use Rattle.graph.proofs.side.opposite.Reads as reads
-use Rattle.graph.proofs.side.opposite.Lts as lts
 
 add-result : tie.Need-add-result
 add-result c = search needs

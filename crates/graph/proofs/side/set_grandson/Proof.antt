@@ -1,10 +1,7 @@
-use Rattle.graph.specs.FieldLaws.{grandson-put}
+use Rattle.graph.specs.laws.Field.{grandson-put}
 use borrow.Author.Needs.{needs}
 use Rattle.graph.proofs.side.set_grandson.Statement.{statement}
 use Rattle.graph.proofs.side.set_grandson.Tie as tie
-use Rattle.graph.proofs.side.set_grandson.Reads as reads
-use Rattle.graph.proofs.side.set_grandson.Lts as lts
-use Rattle.graph.proofs.rows.put_side.Reads as put-side-reads
 
 put-side-requires : tie.Need-put-side-requires
 put-side-requires c κs = search needs

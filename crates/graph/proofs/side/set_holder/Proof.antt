@@ -1,10 +1,7 @@
-use Rattle.graph.specs.FieldLaws.{holder-put}
+use Rattle.graph.specs.laws.Field.{holder-put}
 use borrow.Author.Needs.{needs}
 use Rattle.graph.proofs.side.set_holder.Statement.{statement}
 use Rattle.graph.proofs.side.set_holder.Tie as tie
-use Rattle.graph.proofs.side.set_holder.Reads as reads
-use Rattle.graph.proofs.side.set_holder.Lts as lts
-use Rattle.graph.proofs.rows.put_side.Reads as put-side-reads
 
 put-side-requires : tie.Need-put-side-requires
 put-side-requires c κs = search needs

@@ -1,13 +1,8 @@
 use borrow.Author.Tests.{lt-ltb, le-ltb}
-use Rattle.graph.specs.SideLaws.{lastWord}
+use Rattle.graph.specs.laws.SidesAt.{lastWord}
 use borrow.Author.Needs.{needs}
 use Rattle.graph.proofs.sides.last.Statement.{statement}
 use Rattle.graph.proofs.sides.last.Tie as tie
-use Rattle.graph.proofs.sides.last.Reads as reads
-use Rattle.graph.proofs.sides.last.Lts as lts
-use Rattle.graph.proofs.rows.side_count.Reads as side-count-reads
-use Rattle.graph.proofs.rows.vertex_count.Reads as vertex-count-reads
-use Rattle.graph.proofs.sides.first.Reads as first-reads
 
 vertex-count-requires : tie.Need-vertex-count-requires
 vertex-count-requires c κs = search needs

@@ -1,10 +1,7 @@
-use Rattle.graph.specs.SideLaws.{rising-of}
+use Rattle.graph.specs.laws.SidesAt.{rising-of}
 use borrow.Author.Needs.{needs}
 use Rattle.graph.proofs.sides.sides_len.Statement.{statement}
 use Rattle.graph.proofs.sides.sides_len.Tie as tie
-use Rattle.graph.proofs.sides.sides_len.Reads as reads
-use Rattle.graph.proofs.sides.sides_len.Lts as lts
-use Rattle.graph.proofs.sides.stretch_len.Reads as stretch-len-reads
 
 stretch-len-requires : tie.Need-stretch-len-requires
 stretch-len-requires c κs = (c .pre .0 .laid, rising-of (c .args .b .now) (c .pre .0 .wired), c .pre .1)

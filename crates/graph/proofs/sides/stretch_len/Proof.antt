@@ -1,12 +1,8 @@
 use native.Mathlib.Omega.{arith}
-use Rattle.graph.specs.SideLaws.{around-of, laid-sides}
+use Rattle.graph.specs.laws.SidesAt.{around-of, laid-sides}
 use borrow.Author.Needs.{needs}
 use Rattle.graph.proofs.sides.stretch_len.Statement.{statement}
 use Rattle.graph.proofs.sides.stretch_len.Tie as tie
-use Rattle.graph.proofs.sides.stretch_len.Reads as reads
-use Rattle.graph.proofs.sides.stretch_len.Lts as lts
-use Rattle.graph.proofs.sides.first.Reads as first-reads
-use Rattle.graph.proofs.sides.last.Reads as last-reads
 
 first-requires : tie.Need-first-requires
 first-requires c κs = search needs

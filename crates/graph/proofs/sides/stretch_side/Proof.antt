@@ -1,13 +1,9 @@
 use native.Mathlib.Omega.{arith}
 use mathlib.Core.Path.{_∙_}
-use Rattle.graph.specs.SideLaws.{around-of, laid-sides, side-entry}
+use Rattle.graph.specs.laws.SidesAt.{around-of, laid-sides, side-entry}
 use borrow.Author.Needs.{needs}
 use Rattle.graph.proofs.sides.stretch_side.Statement.{statement}
 use Rattle.graph.proofs.sides.stretch_side.Tie as tie
-use Rattle.graph.proofs.sides.stretch_side.Reads as reads
-use Rattle.graph.proofs.sides.stretch_side.Lts as lts
-use Rattle.graph.proofs.rows.side_word.Reads as side-word-reads
-use Rattle.graph.proofs.sides.first.Reads as first-reads
 
 first-requires : tie.Need-first-requires
 first-requires c κs = search needs

@@ -1,9 +1,6 @@
-use Rattle.graph.specs.SideLaws.{rising-of, vertex-side-below}
+use Rattle.graph.specs.laws.SidesAt.{rising-of, vertex-side-below}
 use Rattle.graph.proofs.sides.vertex_side.Statement.{statement}
 use Rattle.graph.proofs.sides.vertex_side.Tie as tie
-use Rattle.graph.proofs.sides.vertex_side.Reads as reads
-use Rattle.graph.proofs.sides.vertex_side.Lts as lts
-use Rattle.graph.proofs.sides.stretch_side.Reads as stretch-side-reads
 
 stretch-side-requires : tie.Need-stretch-side-requires
 stretch-side-requires c κs = (c .pre .0 .laid, rising-of (c .args .b .now) (c .pre .0 .wired), c .pre .1, c .pre .2)

@@ -1,10 +1,8 @@
 use native.Mathlib.Omega.{arith}
-use Rattle.graph.specs.SizeLaws.{sizes-in}
+use Rattle.graph.specs.laws.Size.{sizes-in}
 use borrow.Author.Needs.{needs}
 use Rattle.graph.proofs.sizes.block_length.Statement.{statement}
 use Rattle.graph.proofs.sizes.block_length.Tie as tie
-use Rattle.graph.proofs.sizes.block_length.Reads as reads
-use Rattle.graph.proofs.sizes.block_length.Lts as lts
 
 mul-result : tie.Need-mul-result
 mul-result c = let s = sizes-in _ _ _ _ (c .pre) in omega arith

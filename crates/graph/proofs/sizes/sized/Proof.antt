@@ -6,11 +6,6 @@ use Rattle.graph.specs.Layout.{vOf, eOf, nOf, lOf, sized}
 use borrow.Author.Needs.{needs}
 use Rattle.graph.proofs.sizes.sized.Statement.{statement}
 use Rattle.graph.proofs.sizes.sized.Tie as tie
-use Rattle.graph.proofs.sizes.sized.Reads as reads
-use Rattle.graph.proofs.sizes.sized.Lts as lts
-use Rattle.graph.proofs.sizes.block_length.Reads as block-length-reads
-use Rattle.graph.proofs.sizes.sizes_ok.Reads as sizes-ok-reads
-use Rattle.graph.proofs.words.word.Reads as word-reads
 
 returns : tie.Need-returns
 unfolding sized

@@ -3,8 +3,6 @@ use mathlib.Core.Path.{refl}
 use Rattle.graph.specs.Open.{sizesOk}
 use Rattle.graph.proofs.sizes.sizes_ok.Statement.{statement}
 use Rattle.graph.proofs.sizes.sizes_ok.Tie as tie
-use Rattle.graph.proofs.sizes.sizes_ok.Reads as reads
-use Rattle.graph.proofs.sizes.sizes_ok.Lts as lts
 
 returns : tie.Need-returns
 unfolding sizesOk

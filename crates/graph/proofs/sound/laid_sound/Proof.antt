@@ -1,14 +1,9 @@
 use mathlib.Core.Path.{sym, _∙_}
-use Rattle.graph.specs.Laws.{and-left, and-right}
-use Rattle.graph.specs.BlockLaws.{listed-of}
+use Rattle.graph.specs.laws.State.{and-left, and-right}
+use Rattle.graph.specs.laws.Block.{listed-of}
 use borrow.Author.Needs.{needs}
 use Rattle.graph.proofs.sound.laid_sound.Statement.{statement}
 use Rattle.graph.proofs.sound.laid_sound.Tie as tie
-use Rattle.graph.proofs.sound.laid_sound.Reads as reads
-use Rattle.graph.proofs.sound.laid_sound.Lts as lts
-use Rattle.graph.proofs.sound.state_sound.Reads as state-sound-reads
-use Rattle.graph.proofs.sound_graph.rising.Reads as rising-reads
-use Rattle.graph.proofs.sound_lists.packed.Reads as packed-reads
 
 packed-requires : tie.Need-packed-requires
 packed-requires c κs = search needs

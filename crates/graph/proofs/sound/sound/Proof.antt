@@ -2,14 +2,10 @@ use borrow.Author.Needs.{needs}
 use native.Mathlib.Omega.{arith}
 use borrow.Author.Tests.{le-leb, lt-leb}
 use Rattle.graph.specs.Layout.{nOf, countOf, blockSound}
-use Rattle.graph.specs.RowLaws.{laid-of}
-use Rattle.graph.specs.SizeLaws.{sized-of}
+use Rattle.graph.specs.laws.Row.{laid-of}
+use Rattle.graph.specs.laws.Size.{sized-of}
 use Rattle.graph.proofs.sound.sound.Statement.{statement}
 use Rattle.graph.proofs.sound.sound.Tie as tie
-use Rattle.graph.proofs.sound.sound.Reads as reads
-use Rattle.graph.proofs.sound.sound.Lts as lts
-use Rattle.graph.proofs.sound.laid_sound.Reads as laid-sound-reads
-use Rattle.graph.proofs.words.word.Reads as word-reads
 
 word-requires : tie.Need-word-requires
 word-requires c κs = let z = sized-of (c .args .b .now) (c .pre) in omega arith

@@ -1,12 +1,7 @@
-use Rattle.graph.specs.BlockLaws.{sound-parts}
+use Rattle.graph.specs.laws.Block.{sound-parts}
 use borrow.Author.Needs.{needs}
 use Rattle.graph.proofs.sound.state_sound.Statement.{statement}
 use Rattle.graph.proofs.sound.state_sound.Tie as tie
-use Rattle.graph.proofs.sound.state_sound.Reads as reads
-use Rattle.graph.proofs.sound.state_sound.Lts as lts
-use Rattle.graph.proofs.sound_graph.graph_sound.Reads as graph-sound-reads
-use Rattle.graph.proofs.sound_graph.sides_sound.Reads as sides-sound-reads
-use Rattle.graph.proofs.sound_nodes.nodes_sound.Reads as nodes-sound-reads
 
 graph-sound-requires : tie.Need-graph-sound-requires
 graph-sound-requires c κs = search needs

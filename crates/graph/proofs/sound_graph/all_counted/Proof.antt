@@ -8,13 +8,9 @@ use Rattle.graph.specs.Basic.{allBelow}
 use Rattle.graph.specs.State.{vertexCount}
 use Rattle.graph.specs.Layout.{stateOf}
 use Rattle.graph.specs.Scans.{countedAt}
-use Rattle.graph.specs.ScanLaws.{all-more, all-fails}
+use Rattle.graph.specs.laws.Scan.{all-more, all-fails}
 use Rattle.graph.proofs.sound_graph.all_counted.Statement.{statement}
 use Rattle.graph.proofs.sound_graph.all_counted.Tie as tie
-use Rattle.graph.proofs.sound_graph.all_counted.Reads as reads
-use Rattle.graph.proofs.sound_graph.all_counted.Lts as lts
-use Rattle.graph.proofs.rows.vertex_count.Reads as vertex-count-reads
-use Rattle.graph.proofs.sides.stretch_len.Reads as stretch-len-reads
 
 abbrev Inv-loop : tie.InvT-loop
 Inv-loop b next n v₀ v = (v ≤ n) × (allBelow (countedAt (stateOf b) next) v ≡ true)

@@ -4,11 +4,6 @@ use Rattle.graph.specs.Layout.{stateOf, stateFrom}
 use borrow.Author.Needs.{needs}
 use Rattle.graph.proofs.sound_graph.edge_sound.Statement.{statement}
 use Rattle.graph.proofs.sound_graph.edge_sound.Tie as tie
-use Rattle.graph.proofs.sound_graph.edge_sound.Reads as reads
-use Rattle.graph.proofs.sound_graph.edge_sound.Lts as lts
-use Rattle.graph.proofs.rows.edge_word.Reads as edge-word-reads
-use Rattle.graph.proofs.rows.side_word.Reads as side-word-reads
-use Rattle.graph.proofs.rows.vertex_count.Reads as vertex-count-reads
 
 vertex-count-requires : tie.Need-vertex-count-requires
 vertex-count-requires c κs = search needs

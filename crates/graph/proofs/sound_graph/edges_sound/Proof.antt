@@ -7,13 +7,9 @@ use Rattle.graph.specs.Basic.{allBelow}
 use Rattle.graph.specs.State.{edgeCount}
 use Rattle.graph.specs.Layout.{stateOf}
 use Rattle.graph.specs.Sound.{edgeSound}
-use Rattle.graph.specs.ScanLaws.{all-more, all-fails}
+use Rattle.graph.specs.laws.Scan.{all-more, all-fails}
 use Rattle.graph.proofs.sound_graph.edges_sound.Statement.{statement}
 use Rattle.graph.proofs.sound_graph.edges_sound.Tie as tie
-use Rattle.graph.proofs.sound_graph.edges_sound.Reads as reads
-use Rattle.graph.proofs.sound_graph.edges_sound.Lts as lts
-use Rattle.graph.proofs.rows.edge_count.Reads as edge-count-reads
-use Rattle.graph.proofs.sound_graph.edge_sound.Reads as edge-sound-reads
 
 abbrev Inv-loop : tie.InvT-loop
 Inv-loop b n i₀ i = (i ≤ n) × (allBelow (edgeSound (stateOf b)) i ≡ true)

@@ -1,11 +1,8 @@
 use Rattle.graph.specs.Layout.{stateOf, stateFrom}
-use Rattle.graph.specs.ScanLaws.{ends-of}
+use Rattle.graph.specs.laws.Scan.{ends-of}
 use borrow.Author.Needs.{needs}
 use Rattle.graph.proofs.sound_graph.end_vertex.Statement.{statement}
 use Rattle.graph.proofs.sound_graph.end_vertex.Tie as tie
-use Rattle.graph.proofs.sound_graph.end_vertex.Reads as reads
-use Rattle.graph.proofs.sound_graph.end_vertex.Lts as lts
-use Rattle.graph.proofs.rows.side_word.Reads as side-word-reads
 
 side-word-requires : tie.Need-side-word-requires
 side-word-requires c κs = search needs

@@ -1,15 +1,10 @@
 use mathlib.Core.Path.{sym, _∙_}
 use Rattle.graph.specs.State.{vertexCount}
 use Rattle.graph.specs.Layout.{stateOf}
-use Rattle.graph.specs.ScanLaws.{vertices-both}
+use Rattle.graph.specs.laws.Scan.{vertices-both}
 use borrow.Author.Needs.{needs}
 use Rattle.graph.proofs.sound_graph.graph_sound.Statement.{statement}
 use Rattle.graph.proofs.sound_graph.graph_sound.Tie as tie
-use Rattle.graph.proofs.sound_graph.graph_sound.Reads as reads
-use Rattle.graph.proofs.sound_graph.graph_sound.Lts as lts
-use Rattle.graph.proofs.sound_graph.edges_sound.Reads as edges-sound-reads
-use Rattle.graph.proofs.sound_graph.vertices_numbers.Reads as vertices-numbers-reads
-use Rattle.graph.proofs.sound_graph.wired.Reads as wired-reads
 
 edges-sound-requires : tie.Need-edges-sound-requires
 edges-sound-requires c κs = search needs

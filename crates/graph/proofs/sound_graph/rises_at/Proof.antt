@@ -2,10 +2,6 @@ use Rattle.graph.specs.Scans.{risesAt}
 use borrow.Author.Needs.{needs}
 use Rattle.graph.proofs.sound_graph.rises_at.Statement.{statement}
 use Rattle.graph.proofs.sound_graph.rises_at.Tie as tie
-use Rattle.graph.proofs.sound_graph.rises_at.Reads as reads
-use Rattle.graph.proofs.sound_graph.rises_at.Lts as lts
-use Rattle.graph.proofs.sides.first.Reads as first-reads
-use Rattle.graph.proofs.sides.last.Reads as last-reads
 
 first-requires : tie.Need-first-requires
 first-requires c κs = search needs

@@ -7,14 +7,10 @@ use Rattle.graph.specs.Basic.{allBelow}
 use Rattle.graph.specs.State.{vertexCount}
 use Rattle.graph.specs.Layout.{stateOf}
 use Rattle.graph.specs.Scans.{risesAt}
-use Rattle.graph.specs.ScanLaws.{all-more, all-fails}
-use Rattle.graph.specs.WiringLaws.{rises-rising}
+use Rattle.graph.specs.laws.Scan.{all-more, all-fails}
+use Rattle.graph.specs.laws.Wiring.{rises-rising}
 use Rattle.graph.proofs.sound_graph.rising.Statement.{statement}
 use Rattle.graph.proofs.sound_graph.rising.Tie as tie
-use Rattle.graph.proofs.sound_graph.rising.Reads as reads
-use Rattle.graph.proofs.sound_graph.rising.Lts as lts
-use Rattle.graph.proofs.rows.vertex_count.Reads as vertex-count-reads
-use Rattle.graph.proofs.sound_graph.rises_at.Reads as rises-at-reads
 
 abbrev Inv-loop : tie.InvT-loop
 Inv-loop b n v₀ v = (v ≤ n) × (allBelow (risesAt b) v ≡ true)

@@ -3,11 +3,6 @@ use Rattle.graph.specs.Layout.{stateOf, stateFrom}
 use borrow.Author.Needs.{needs}
 use Rattle.graph.proofs.sound_graph.side_sound.Statement.{statement}
 use Rattle.graph.proofs.sound_graph.side_sound.Tie as tie
-use Rattle.graph.proofs.sound_graph.side_sound.Reads as reads
-use Rattle.graph.proofs.sound_graph.side_sound.Lts as lts
-use Rattle.graph.proofs.rows.node_count.Reads as node-count-reads
-use Rattle.graph.proofs.rows.side_word.Reads as side-word-reads
-use Rattle.graph.proofs.sound_graph.stored_defect.Reads as stored-defect-reads
 
 node-count-requires : tie.Need-node-count-requires
 node-count-requires c κs = search needs

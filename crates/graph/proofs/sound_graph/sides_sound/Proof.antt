@@ -7,13 +7,9 @@ use Rattle.graph.specs.Basic.{allBelow}
 use Rattle.graph.specs.State.{sideCount}
 use Rattle.graph.specs.Layout.{stateOf}
 use Rattle.graph.specs.Sound.{sideSound}
-use Rattle.graph.specs.ScanLaws.{all-more, all-fails}
+use Rattle.graph.specs.laws.Scan.{all-more, all-fails}
 use Rattle.graph.proofs.sound_graph.sides_sound.Statement.{statement}
 use Rattle.graph.proofs.sound_graph.sides_sound.Tie as tie
-use Rattle.graph.proofs.sound_graph.sides_sound.Reads as reads
-use Rattle.graph.proofs.sound_graph.sides_sound.Lts as lts
-use Rattle.graph.proofs.rows.side_count.Reads as side-count-reads
-use Rattle.graph.proofs.sound_graph.side_sound.Reads as side-sound-reads
 
 abbrev Inv-loop : tie.InvT-loop
 Inv-loop b n s₀ s = (s ≤ n) × (allBelow (sideSound (stateOf b)) s ≡ true)

@@ -7,10 +7,6 @@ use Rattle.graph.specs.Scans.{standsAt}
 use borrow.Author.Needs.{needs}
 use Rattle.graph.proofs.sound_graph.stands_at.Statement.{statement}
 use Rattle.graph.proofs.sound_graph.stands_at.Tie as tie
-use Rattle.graph.proofs.sound_graph.stands_at.Reads as reads
-use Rattle.graph.proofs.sound_graph.stands_at.Lts as lts
-use Rattle.graph.proofs.sides.stretch_len.Reads as stretch-len-reads
-use Rattle.graph.proofs.sides.stretch_side.Reads as stretch-side-reads
 
 stretch-len-requires : tie.Need-stretch-len-requires
 stretch-len-requires c κs = search needs

@@ -6,15 +6,10 @@ use lib.Dec.{leb}
 use Rattle.graph.specs.State.{nodeCount}
 use Rattle.graph.specs.Sound.{storedDefect}
 use Rattle.graph.specs.Layout.{stateOf}
-use Rattle.graph.specs.ScanLaws.{both-le, defect-node}
+use Rattle.graph.specs.laws.Scan.{both-le, defect-node}
 use borrow.Author.Needs.{needs}
 use Rattle.graph.proofs.sound_graph.stored_defect.Statement.{statement}
 use Rattle.graph.proofs.sound_graph.stored_defect.Tie as tie
-use Rattle.graph.proofs.sound_graph.stored_defect.Reads as reads
-use Rattle.graph.proofs.sound_graph.stored_defect.Lts as lts
-use Rattle.graph.proofs.rows.node_count.Reads as node-count-reads
-use Rattle.graph.proofs.rows.node_word.Reads as node-word-reads
-use Rattle.graph.proofs.rows.vertex_count.Reads as vertex-count-reads
 
 node-count-requires : tie.Need-node-count-requires
 node-count-requires c κs = search needs

@@ -6,10 +6,6 @@ use Rattle.graph.specs.Scans.{vertexNumbers}
 use borrow.Author.Needs.{needs}
 use Rattle.graph.proofs.sound_graph.vertex_numbers.Statement.{statement}
 use Rattle.graph.proofs.sound_graph.vertex_numbers.Tie as tie
-use Rattle.graph.proofs.sound_graph.vertex_numbers.Reads as reads
-use Rattle.graph.proofs.sound_graph.vertex_numbers.Lts as lts
-use Rattle.graph.proofs.rows.node_count.Reads as node-count-reads
-use Rattle.graph.proofs.rows.vertex_word.Reads as vertex-word-reads
 
 node-count-requires : tie.Need-node-count-requires
 node-count-requires c κs = search needs

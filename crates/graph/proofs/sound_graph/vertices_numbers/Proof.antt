@@ -7,13 +7,9 @@ use Rattle.graph.specs.Basic.{allBelow}
 use Rattle.graph.specs.State.{vertexCount}
 use Rattle.graph.specs.Layout.{stateOf}
 use Rattle.graph.specs.Scans.{vertexNumbers}
-use Rattle.graph.specs.ScanLaws.{all-more, all-fails}
+use Rattle.graph.specs.laws.Scan.{all-more, all-fails}
 use Rattle.graph.proofs.sound_graph.vertices_numbers.Statement.{statement}
 use Rattle.graph.proofs.sound_graph.vertices_numbers.Tie as tie
-use Rattle.graph.proofs.sound_graph.vertices_numbers.Reads as reads
-use Rattle.graph.proofs.sound_graph.vertices_numbers.Lts as lts
-use Rattle.graph.proofs.rows.vertex_count.Reads as vertex-count-reads
-use Rattle.graph.proofs.sound_graph.vertex_numbers.Reads as vertex-numbers-reads
 
 abbrev Inv-loop : tie.InvT-loop
 Inv-loop b n v₀ v = (v ≤ n) × (allBelow (vertexNumbers (stateOf b)) v ≡ true)

@@ -6,17 +6,11 @@ use Prim.Native.Nat.{_-_, _≤_, _<_}
 use lib.ListN.{length, length-set}
 use Rattle.graph.specs.State.{vertexCount, sideCount}
 use Rattle.graph.specs.Layout.{stateOf}
-use Rattle.graph.specs.SideLaws.{around-of}
-use Rattle.graph.specs.ScanLaws.{ends-of}
-use Rattle.graph.specs.WiringLaws.{Walk, walk-none, walk-more, walk-fails, walk-tests, stands-of}
+use Rattle.graph.specs.laws.SidesAt.{around-of}
+use Rattle.graph.specs.laws.Scan.{ends-of}
+use Rattle.graph.specs.laws.Wiring.{Walk, walk-none, walk-more, walk-fails, walk-tests, stands-of}
 use Rattle.graph.proofs.sound_graph.wired.Statement.{statement}
 use Rattle.graph.proofs.sound_graph.wired.Tie as tie
-use Rattle.graph.proofs.sound_graph.wired.Reads as reads
-use Rattle.graph.proofs.sound_graph.wired.Lts as lts
-use Rattle.graph.proofs.rows.side_count.Reads as side-count-reads
-use Rattle.graph.proofs.sound_graph.all_counted.Reads as all-counted-reads
-use Rattle.graph.proofs.sound_graph.end_vertex.Reads as end-vertex-reads
-use Rattle.graph.proofs.sound_graph.stands_at.Reads as stands-at-reads
 
 abbrev Inv-loop : tie.InvT-loop
 Inv-loop b n next₀ s₀ next s = (s ≤ n) × (length next ≡ 1024) × Walk (stateOf b) s next

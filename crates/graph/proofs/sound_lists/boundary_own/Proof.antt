@@ -6,16 +6,11 @@ use lib.ListN.{length, length-set}
 use Rattle.graph.specs.State.{boundaryOf}
 use Rattle.graph.specs.Layout.{stateOf, stateFrom}
 use Rattle.graph.specs.Scans.{sideHeld}
-use Rattle.graph.specs.StampLaws.{Stamped, fresh, stamped-none, stamped-more, stamped-fails, stamped-all}
+use Rattle.graph.specs.laws.Stamp.{Stamped, fresh, stamped-none, stamped-more, stamped-fails, stamped-all}
 use borrow.Author.Needs.{needs}
 use Prim.Native.Nat.{_+_, _-_}
 use Rattle.graph.proofs.sound_lists.boundary_own.Statement.{statement}
 use Rattle.graph.proofs.sound_lists.boundary_own.Tie as tie
-use Rattle.graph.proofs.sound_lists.boundary_own.Reads as reads
-use Rattle.graph.proofs.sound_lists.boundary_own.Lts as lts
-use Rattle.graph.proofs.lists.boundary_len.Reads as boundary-len-reads
-use Rattle.graph.proofs.lists.boundary_side.Reads as boundary-side-reads
-use Rattle.graph.proofs.rows.side_word.Reads as side-word-reads
 
 abbrev Inv-loop : tie.InvT-loop
 Inv-loop b n marks₀ k i₀ marks i = Stamped (n + 1) (sideHeld (stateOf b) n) (boundaryOf (stateOf b) n) i marks × (length marks ≡ length marks₀)

@@ -10,14 +10,9 @@ use Rattle.graph.specs.Basic.{all}
 use Rattle.graph.specs.State.{sideCount, boundaryOf}
 use Rattle.graph.specs.Layout.{stateOf}
 use Rattle.graph.specs.Form.{sidesOk}
-use Rattle.graph.specs.ScanLaws.{list-more, list-fails, list-done}
+use Rattle.graph.specs.laws.Scan.{list-more, list-fails, list-done}
 use Rattle.graph.proofs.sound_lists.boundary_sound.Statement.{statement}
 use Rattle.graph.proofs.sound_lists.boundary_sound.Tie as tie
-use Rattle.graph.proofs.sound_lists.boundary_sound.Reads as reads
-use Rattle.graph.proofs.sound_lists.boundary_sound.Lts as lts
-use Rattle.graph.proofs.lists.boundary_len.Reads as boundary-len-reads
-use Rattle.graph.proofs.lists.boundary_word.Reads as boundary-word-reads
-use Rattle.graph.proofs.rows.side_count.Reads as side-count-reads
 
 abbrev Inv-loop : tie.InvT-loop
 Inv-loop b n k m i₀ i = (i ≤ k) × (all (λ s. ltb s (sideCount (stateOf b))) (take i (boundaryOf (stateOf b) n)) ≡ true)

@@ -1,11 +1,9 @@
 use borrow.Author.Needs.{needs}
 use native.Mathlib.Omega.{arith}
 use Rattle.graph.specs.Layout.{fitsAt}
-use Rattle.graph.specs.PackLaws.{three-of}
+use Rattle.graph.specs.laws.Pack.{three-of}
 use Rattle.graph.proofs.sound_lists.fits_at.Statement.{statement}
 use Rattle.graph.proofs.sound_lists.fits_at.Tie as tie
-use Rattle.graph.proofs.sound_lists.fits_at.Reads as reads
-use Rattle.graph.proofs.sound_lists.fits_at.Lts as lts
 
 add-result : tie.Need-add-result
 add-result c = let s = c .before .args in let q = three-of (s .a) (s .l) (s .s) (s .k) (s .o) (c .if1 .taken) in omega arith

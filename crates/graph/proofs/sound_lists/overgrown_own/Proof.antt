@@ -7,14 +7,9 @@ use lib.ListN.{length, length-set}
 use Rattle.graph.specs.Layout.{stateOf, stateFrom}
 use Rattle.graph.specs.Form.{Laid}
 use Rattle.graph.specs.Scans.{vertexHeld, overgrownVertices}
-use Rattle.graph.specs.StampLaws.{Stamped, fresh, stamped-none, stamped-more, stamped-fails, stamped-all, overgrown-count}
+use Rattle.graph.specs.laws.Stamp.{Stamped, fresh, stamped-none, stamped-more, stamped-fails, stamped-all, overgrown-count}
 use Rattle.graph.proofs.sound_lists.overgrown_own.Statement.{statement}
 use Rattle.graph.proofs.sound_lists.overgrown_own.Tie as tie
-use Rattle.graph.proofs.sound_lists.overgrown_own.Reads as reads
-use Rattle.graph.proofs.sound_lists.overgrown_own.Lts as lts
-use Rattle.graph.proofs.lists.overgrown_len.Reads as overgrown-len-reads
-use Rattle.graph.proofs.rows.vertex_word.Reads as vertex-word-reads
-use Rattle.graph.proofs.sound_lists.own_vertex.Reads as own-vertex-reads
 
 abbrev Inv-loop : tie.InvT-loop
 Inv-loop b n marks₀ k i₀ marks i = Stamped (n + 1) (vertexHeld (stateOf b) n) (overgrownVertices (stateOf b) n) i marks × (length marks ≡ length marks₀)

@@ -8,15 +8,9 @@ use Rattle.graph.specs.Basic.{all}
 use Rattle.graph.specs.State.{overgrownOf}
 use Rattle.graph.specs.Sound.{overSound}
 use Rattle.graph.specs.Layout.{overgrownFrom, stateOf}
-use Rattle.graph.specs.ScanLaws.{list-more, list-fails, list-done}
+use Rattle.graph.specs.laws.Scan.{list-more, list-fails, list-done}
 use Rattle.graph.proofs.sound_lists.overgrown_sound.Statement.{statement}
 use Rattle.graph.proofs.sound_lists.overgrown_sound.Tie as tie
-use Rattle.graph.proofs.sound_lists.overgrown_sound.Reads as reads
-use Rattle.graph.proofs.sound_lists.overgrown_sound.Lts as lts
-use Rattle.graph.proofs.lists.overgrown_amount.Reads as overgrown-amount-reads
-use Rattle.graph.proofs.lists.overgrown_len.Reads as overgrown-len-reads
-use Rattle.graph.proofs.lists.overgrown_vertex.Reads as overgrown-vertex-reads
-use Rattle.graph.proofs.rows.vertex_count.Reads as vertex-count-reads
 
 abbrev Inv-loop : tie.InvT-loop
 Inv-loop b n k m i₀ i = (i ≤ k) × (all (overSound (stateOf b)) (take i (overgrownOf (stateOf b) n)) ≡ true)

@@ -1,13 +1,9 @@
 use mathlib.Core.Path.{sym}
 use Rattle.graph.specs.Layout.{stateOf}
-use Rattle.graph.specs.StampLaws.{own-both}
+use Rattle.graph.specs.laws.Stamp.{own-both}
 use borrow.Author.Needs.{needs}
 use Rattle.graph.proofs.sound_lists.own_lists.Statement.{statement}
 use Rattle.graph.proofs.sound_lists.own_lists.Tie as tie
-use Rattle.graph.proofs.sound_lists.own_lists.Reads as reads
-use Rattle.graph.proofs.sound_lists.own_lists.Lts as lts
-use Rattle.graph.proofs.sound_lists.boundary_own.Reads as boundary-own-reads
-use Rattle.graph.proofs.sound_lists.overgrown_own.Reads as overgrown-own-reads
 
 boundary-own-requires : tie.Need-boundary-own-requires
 boundary-own-requires c κs = search needs

@@ -1,12 +1,9 @@
 use mathlib.Core.Path.{sym, _∙_}
 use Rattle.graph.specs.Layout.{overgrownFrom, stateOf}
-use Rattle.graph.specs.StampLaws.{overgrown-below, overgrown-vertex}
+use Rattle.graph.specs.laws.Stamp.{overgrown-below, overgrown-vertex}
 use borrow.Author.Needs.{needs}
 use Rattle.graph.proofs.sound_lists.own_vertex.Statement.{statement}
 use Rattle.graph.proofs.sound_lists.own_vertex.Tie as tie
-use Rattle.graph.proofs.sound_lists.own_vertex.Reads as reads
-use Rattle.graph.proofs.sound_lists.own_vertex.Lts as lts
-use Rattle.graph.proofs.lists.overgrown_vertex.Reads as overgrown-vertex-reads
 
 overgrown-vertex-requires : tie.Need-overgrown-vertex-requires
 overgrown-vertex-requires c κs = search needs

@@ -3,15 +3,9 @@ use Prim.Native.Nat.{_-_}
 use native.Mathlib.Omega.{arith}
 use mathlib.Core.Path.{_≡_, sym, _∙_}
 use mathlib.Core.Bool.{true, false}
-use Rattle.graph.specs.PackLaws.{fits-of, Packing, nodeFits, packing-none, packing-more, packing-fails, packing-all}
+use Rattle.graph.specs.laws.Pack.{fits-of, Packing, nodeFits, packing-none, packing-more, packing-fails, packing-all}
 use Rattle.graph.proofs.sound_lists.packed.Statement.{statement}
 use Rattle.graph.proofs.sound_lists.packed.Tie as tie
-use Rattle.graph.proofs.sound_lists.packed.Reads as reads
-use Rattle.graph.proofs.sound_lists.packed.Lts as lts
-use Rattle.graph.proofs.rows.node_count.Reads as node-count-reads
-use Rattle.graph.proofs.rows.node_word.Reads as node-word-reads
-use Rattle.graph.proofs.rows.store_limit.Reads as store-limit-reads
-use Rattle.graph.proofs.sound_lists.fits_at.Reads as fits-at-reads
 
 abbrev Inv-loop : tie.InvT-loop
 Inv-loop b c l n₀ a₀ n a = Packing b n a

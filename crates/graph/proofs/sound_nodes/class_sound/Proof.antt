@@ -1,13 +1,9 @@
 use borrow.Author.Tests.{lt-ltb, le-ltb}
 use Rattle.graph.specs.Form.{Laid}
-use Rattle.graph.specs.ScanLaws.{class-test}
+use Rattle.graph.specs.laws.Scan.{class-test}
 use borrow.Author.Needs.{needs}
 use Rattle.graph.proofs.sound_nodes.class_sound.Statement.{statement}
 use Rattle.graph.proofs.sound_nodes.class_sound.Tie as tie
-use Rattle.graph.proofs.sound_nodes.class_sound.Reads as reads
-use Rattle.graph.proofs.sound_nodes.class_sound.Lts as lts
-use Rattle.graph.proofs.rows.node_word.Reads as node-word-reads
-use Rattle.graph.proofs.rows.vertex_count.Reads as vertex-count-reads
 
 vertex-count-requires : tie.Need-vertex-count-requires
 vertex-count-requires c κs = search needs

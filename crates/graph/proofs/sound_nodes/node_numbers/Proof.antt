@@ -1,15 +1,10 @@
 use Rattle.graph.specs.Form.{Laid}
 use Rattle.graph.specs.Scans.{nodeNumbers}
 use Rattle.graph.specs.Layout.{stateOf, stateFrom}
-use Rattle.graph.specs.ScanLaws.{node-get}
+use Rattle.graph.specs.laws.Scan.{node-get}
 use borrow.Author.Needs.{needs}
 use Rattle.graph.proofs.sound_nodes.node_numbers.Statement.{statement}
 use Rattle.graph.proofs.sound_nodes.node_numbers.Tie as tie
-use Rattle.graph.proofs.sound_nodes.node_numbers.Reads as reads
-use Rattle.graph.proofs.sound_nodes.node_numbers.Lts as lts
-use Rattle.graph.proofs.rows.node_word.Reads as node-word-reads
-use Rattle.graph.proofs.sound_nodes.class_sound.Reads as class-sound-reads
-use Rattle.graph.proofs.sound_nodes.parent_sound.Reads as parent-sound-reads
 
 node-word-requires : tie.Need-node-word-requires
 unfolding Laid

@@ -2,18 +2,11 @@ use mathlib.Core.Path.{_≡_, sym, _∙_}
 use mathlib.Core.Bool.{true, false}
 use Rattle.graph.specs.Form.{Laid}
 use Rattle.graph.specs.Layout.{stateOf}
-use Rattle.graph.specs.ScanLaws.{nodeRange, node-fails, node-inner, node-outermost, range-sides, range-overgrown, parent-get}
-use Rattle.graph.specs.StampLaws.{stamps-still}
+use Rattle.graph.specs.laws.Scan.{nodeRange, node-fails, node-inner, node-outermost, range-sides, range-overgrown, parent-get}
+use Rattle.graph.specs.laws.Stamp.{stamps-still}
 use borrow.Author.Needs.{needs}
 use Rattle.graph.proofs.sound_nodes.node_sound.Statement.{statement}
 use Rattle.graph.proofs.sound_nodes.node_sound.Tie as tie
-use Rattle.graph.proofs.sound_nodes.node_sound.Reads as reads
-use Rattle.graph.proofs.sound_nodes.node_sound.Lts as lts
-use Rattle.graph.proofs.rows.node_word.Reads as node-word-reads
-use Rattle.graph.proofs.sound_lists.boundary_sound.Reads as boundary-sound-reads
-use Rattle.graph.proofs.sound_lists.overgrown_sound.Reads as overgrown-sound-reads
-use Rattle.graph.proofs.sound_lists.own_lists.Reads as own-lists-reads
-use Rattle.graph.proofs.sound_nodes.node_numbers.Reads as node-numbers-reads
 
 node-numbers-requires : tie.Need-node-numbers-requires
 node-numbers-requires c κs = search needs

@@ -10,14 +10,10 @@ use Rattle.graph.specs.Sound.{nodeSound}
 use Rattle.graph.specs.Layout.{stateOf}
 use Rattle.graph.specs.Form.{Laid}
 use Rattle.graph.specs.Scans.{Stamps}
-use Rattle.graph.specs.ScanLaws.{all-more, all-fails}
-use Rattle.graph.specs.StampLaws.{stamps-none}
+use Rattle.graph.specs.laws.Scan.{all-more, all-fails}
+use Rattle.graph.specs.laws.Stamp.{stamps-none}
 use Rattle.graph.proofs.sound_nodes.nodes_sound.Statement.{statement}
 use Rattle.graph.proofs.sound_nodes.nodes_sound.Tie as tie
-use Rattle.graph.proofs.sound_nodes.nodes_sound.Reads as reads
-use Rattle.graph.proofs.sound_nodes.nodes_sound.Lts as lts
-use Rattle.graph.proofs.rows.node_count.Reads as node-count-reads
-use Rattle.graph.proofs.sound_nodes.node_sound.Reads as node-sound-reads
 
 abbrev Inv-loop : tie.InvT-loop
 Inv-loop b c sides₀ vertices₀ n₀ sides vertices n = (n ≤ c) × (allBelow (nodeSound (stateOf b)) n ≡ true) × Stamps (stateOf b) n sides vertices × (length sides ≡ 8192) × (length vertices ≡ 1024)

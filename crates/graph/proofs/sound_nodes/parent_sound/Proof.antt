@@ -1,13 +1,9 @@
 use Rattle.graph.specs.Sound.{parentSound, nodeOrNone}
 use Rattle.graph.specs.Layout.{stateOf, stateFrom}
-use Rattle.graph.specs.ScanLaws.{node-get}
+use Rattle.graph.specs.laws.Scan.{node-get}
 use borrow.Author.Needs.{needs}
 use Rattle.graph.proofs.sound_nodes.parent_sound.Statement.{statement}
 use Rattle.graph.proofs.sound_nodes.parent_sound.Tie as tie
-use Rattle.graph.proofs.sound_nodes.parent_sound.Reads as reads
-use Rattle.graph.proofs.sound_nodes.parent_sound.Lts as lts
-use Rattle.graph.proofs.rows.node_count.Reads as node-count-reads
-use Rattle.graph.proofs.rows.node_word.Reads as node-word-reads
 
 node-count-requires : tie.Need-node-count-requires
 node-count-requires c κs = search needs

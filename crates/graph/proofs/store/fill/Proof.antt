@@ -3,14 +3,10 @@ use native.Mathlib.Omega.{arith}
 use Prim.Native.Nat.{_+_, _-_, _≤_}
 use mathlib.Core.Path.{_≡_}
 use Rattle.graph.specs.Layout.{stateOf}
-use Rattle.graph.specs.ListLaws.{store-max}
-use Rattle.graph.specs.MoveLaws.{Filled, wrote-none, fill-more}
+use Rattle.graph.specs.laws.List.{store-max}
+use Rattle.graph.specs.laws.Move.{Filled, wrote-none, fill-more}
 use Rattle.graph.proofs.store.fill.Statement.{statement}
 use Rattle.graph.proofs.store.fill.Tie as tie
-use Rattle.graph.proofs.store.fill.Reads as reads
-use Rattle.graph.proofs.store.fill.Lts as lts
-use Rattle.graph.proofs.rows.put_store.Reads as put-store-reads
-use Rattle.graph.proofs.words.word.Reads as word-reads
 
 abbrev Inv-loop : tie.InvT-loop
 Inv-loop b₀ t q at n i₀ b i = (i ≤ n) × (stateOf b₀ .storeLimit ≤ 65536) × Filled b₀ b t q at i

@@ -1,10 +1,7 @@
-use Rattle.graph.specs.StoreLaws.{moved-up, moved-down}
+use Rattle.graph.specs.laws.Store.{moved-up, moved-down}
 use borrow.Author.Needs.{needs}
 use Rattle.graph.proofs.store.make_room.Statement.{statement}
 use Rattle.graph.proofs.store.make_room.Tie as tie
-use Rattle.graph.proofs.store.make_room.Reads as reads
-use Rattle.graph.proofs.store.make_room.Lts as lts
-use Rattle.graph.proofs.store.move_words.Reads as move-words-reads
 
 add-move-words : tie.Need-add-move-words
 add-move-words c = search needs

@@ -3,14 +3,10 @@ use native.Mathlib.Omega.{arith}
 use Prim.Native.Nat.{_+_, _-_, _≤_}
 use mathlib.Core.Path.{_≡_}
 use Rattle.graph.specs.Layout.{stateOf}
-use Rattle.graph.specs.ListLaws.{store-max}
-use Rattle.graph.specs.MoveLaws.{Copied, wrote-none, move-down-more}
+use Rattle.graph.specs.laws.List.{store-max}
+use Rattle.graph.specs.laws.Move.{Copied, wrote-none, move-down-more}
 use Rattle.graph.proofs.store.move_down.Statement.{statement}
 use Rattle.graph.proofs.store.move_down.Tie as tie
-use Rattle.graph.proofs.store.move_down.Reads as reads
-use Rattle.graph.proofs.store.move_down.Lts as lts
-use Rattle.graph.proofs.rows.put_store.Reads as put-store-reads
-use Rattle.graph.proofs.rows.store_word.Reads as store-word-reads
 
 abbrev Inv-loop : tie.InvT-loop
 Inv-loop b₀ from to n i₀ b i = (i ≤ n) × (stateOf b₀ .storeLimit ≤ 65536) × Copied b₀ b from to i

@@ -4,14 +4,10 @@ use Prim.Native.Nat.{_+_, _-_, _≤_}
 use mathlib.Core.Path.{_≡_}
 use lib.ListN.{getD}
 use Rattle.graph.specs.Layout.{stateOf}
-use Rattle.graph.specs.ListLaws.{storeOf, store-max}
-use Rattle.graph.specs.MoveLaws.{Wrote, wrote-none, move-up-more}
+use Rattle.graph.specs.laws.List.{storeOf, store-max}
+use Rattle.graph.specs.laws.Move.{Wrote, wrote-none, move-up-more}
 use Rattle.graph.proofs.store.move_up.Statement.{statement}
 use Rattle.graph.proofs.store.move_up.Tie as tie
-use Rattle.graph.proofs.store.move_up.Reads as reads
-use Rattle.graph.proofs.store.move_up.Lts as lts
-use Rattle.graph.proofs.rows.put_store.Reads as put-store-reads
-use Rattle.graph.proofs.rows.store_word.Reads as store-word-reads
 
 abbrev Inv-loop : tie.InvT-loop
 Inv-loop b₀ from to n i₀ b i = (i ≤ n) × (stateOf b₀ .storeLimit ≤ 65536) × Wrote 18 b₀ b (to + i) (to + n) (λ p. getD (storeOf b₀) (from + (p - to)) 0)

@@ -1,12 +1,8 @@
 use native.Mathlib.Omega.{arith}
-use Rattle.graph.specs.MoveLaws.{moved-none}
+use Rattle.graph.specs.laws.Move.{moved-none}
 use borrow.Author.Needs.{needs}
 use Rattle.graph.proofs.store.move_words.Statement.{statement}
 use Rattle.graph.proofs.store.move_words.Tie as tie
-use Rattle.graph.proofs.store.move_words.Reads as reads
-use Rattle.graph.proofs.store.move_words.Lts as lts
-use Rattle.graph.proofs.store.move_down.Reads as move-down-reads
-use Rattle.graph.proofs.store.move_up.Reads as move-up-reads
 
 move-up-requires : tie.Need-move-up-requires
 move-up-requires c κs = search needs

@@ -1,11 +1,7 @@
-use Rattle.graph.specs.StoreLaws.{stored}
+use Rattle.graph.specs.laws.Store.{stored}
 use borrow.Author.Needs.{needs}
 use Rattle.graph.proofs.store.put_lists.Statement.{statement}
 use Rattle.graph.proofs.store.put_lists.Tie as tie
-use Rattle.graph.proofs.store.put_lists.Reads as reads
-use Rattle.graph.proofs.store.put_lists.Lts as lts
-use Rattle.graph.proofs.store.fill.Reads as fill-reads
-use Rattle.graph.proofs.store.make_room.Reads as make-room-reads
 
 add-make-room : tie.Need-add-make-room
 add-make-room c = search needs

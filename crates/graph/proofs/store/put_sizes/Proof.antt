@@ -1,11 +1,7 @@
-use Rattle.graph.specs.StoreLaws.{resized}
+use Rattle.graph.specs.laws.Store.{resized}
 use borrow.Author.Needs.{needs}
 use Rattle.graph.proofs.store.put_sizes.Statement.{statement}
 use Rattle.graph.proofs.store.put_sizes.Tie as tie
-use Rattle.graph.proofs.store.put_sizes.Reads as reads
-use Rattle.graph.proofs.store.put_sizes.Lts as lts
-use Rattle.graph.proofs.rows.put_node.Reads as put-node-reads
-use Rattle.graph.proofs.store.shift_starts.Reads as shift-starts-reads
 
 add-shift-starts : tie.Need-add-shift-starts
 add-shift-starts c = search needs

@@ -1,12 +1,7 @@
-use Rattle.graph.specs.ReplaceLaws.{asked-sizes, replaced}
+use Rattle.graph.specs.laws.Replace.{asked-sizes, replaced}
 use borrow.Author.Needs.{needs}
 use Rattle.graph.proofs.store.replace_at.Statement.{statement}
 use Rattle.graph.proofs.store.replace_at.Tie as tie
-use Rattle.graph.proofs.store.replace_at.Reads as reads
-use Rattle.graph.proofs.store.replace_at.Lts as lts
-use Rattle.graph.proofs.rows.node_count.Reads as node-count-reads
-use Rattle.graph.proofs.store.put_lists.Reads as put-lists-reads
-use Rattle.graph.proofs.store.put_sizes.Reads as put-sizes-reads
 
 node-count-requires : tie.Need-node-count-requires
 node-count-requires c κs = search needs

@@ -1,14 +1,7 @@
-use Rattle.graph.specs.ReplaceLaws.{asked-part, asked-of}
+use Rattle.graph.specs.laws.Replace.{asked-part, asked-of}
 use borrow.Author.Needs.{needs}
 use Rattle.graph.proofs.store.replace_lists.Statement.{statement}
 use Rattle.graph.proofs.store.replace_lists.Tie as tie
-use Rattle.graph.proofs.store.replace_lists.Reads as reads
-use Rattle.graph.proofs.store.replace_lists.Lts as lts
-use Rattle.graph.proofs.lists.boundary_len.Reads as boundary-len-reads
-use Rattle.graph.proofs.lists.entry_count.Reads as entry-count-reads
-use Rattle.graph.proofs.lists.overgrown_len.Reads as overgrown-len-reads
-use Rattle.graph.proofs.lists.start.Reads as start-reads
-use Rattle.graph.proofs.store.replace_at.Reads as replace-at-reads
 
 start-requires : tie.Need-start-requires
 start-requires c κs = search needs

@@ -2,13 +2,9 @@ use borrow.Author.Needs.{needs}
 use native.Mathlib.Omega.{arith}
 use Prim.Native.Nat.{_-_, _≤_}
 use mathlib.Core.Path.{_≡_}
-use Rattle.graph.specs.MoveLaws.{Shifted, wrote-none, shift-more}
+use Rattle.graph.specs.laws.Move.{Shifted, wrote-none, shift-more}
 use Rattle.graph.proofs.store.shift_each.Statement.{statement}
 use Rattle.graph.proofs.store.shift_each.Tie as tie
-use Rattle.graph.proofs.store.shift_each.Reads as reads
-use Rattle.graph.proofs.store.shift_each.Lts as lts
-use Rattle.graph.proofs.rows.node_word.Reads as node-word-reads
-use Rattle.graph.proofs.rows.put_node.Reads as put-node-reads
 
 abbrev Inv-loop : tie.InvT-loop
 Inv-loop b₀ lo hi add sub i₀ b i = (lo ≤ i) × (i ≤ hi) × Shifted b₀ b lo i add sub

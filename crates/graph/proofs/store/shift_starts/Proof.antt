@@ -1,11 +1,8 @@
 use borrow.Author.Needs.{needs}
 use native.Mathlib.Omega.{arith}
-use Rattle.graph.specs.MoveLaws.{shifted-none}
+use Rattle.graph.specs.laws.Move.{shifted-none}
 use Rattle.graph.proofs.store.shift_starts.Statement.{statement}
 use Rattle.graph.proofs.store.shift_starts.Tie as tie
-use Rattle.graph.proofs.store.shift_starts.Reads as reads
-use Rattle.graph.proofs.store.shift_starts.Lts as lts
-use Rattle.graph.proofs.store.shift_each.Reads as shift-each-reads
 
 shift-each-requires : tie.Need-shift-each-requires
 shift-each-requires c κs = let s = c .before .before in s .pre

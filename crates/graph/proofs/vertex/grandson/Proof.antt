@@ -2,9 +2,6 @@ use Rattle.graph.specs.Layout.{stateOf, stateFrom}
 use borrow.Author.Needs.{needs}
 use Rattle.graph.proofs.vertex.grandson.Statement.{statement}
 use Rattle.graph.proofs.vertex.grandson.Tie as tie
-use Rattle.graph.proofs.vertex.grandson.Reads as reads
-use Rattle.graph.proofs.vertex.grandson.Lts as lts
-use Rattle.graph.proofs.rows.vertex_word.Reads as vertex-word-reads
 
 vertex-word-requires : tie.Need-vertex-word-requires
 vertex-word-requires c κs = search needs

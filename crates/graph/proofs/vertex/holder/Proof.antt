@@ -2,9 +2,6 @@ use Rattle.graph.specs.Layout.{stateOf, stateFrom}
 use borrow.Author.Needs.{needs}
 use Rattle.graph.proofs.vertex.holder.Statement.{statement}
 use Rattle.graph.proofs.vertex.holder.Tie as tie
-use Rattle.graph.proofs.vertex.holder.Reads as reads
-use Rattle.graph.proofs.vertex.holder.Lts as lts
-use Rattle.graph.proofs.rows.vertex_word.Reads as vertex-word-reads
 
 vertex-word-requires : tie.Need-vertex-word-requires
 vertex-word-requires c κs = search needs

@@ -1,11 +1,7 @@
-use Rattle.graph.specs.FieldLaws.{defect-put}
+use Rattle.graph.specs.laws.Field.{defect-put}
 use borrow.Author.Needs.{needs}
 use Rattle.graph.proofs.vertex.set_defect.Statement.{statement}
 use Rattle.graph.proofs.vertex.set_defect.Tie as tie
-use Rattle.graph.proofs.vertex.set_defect.Reads as reads
-use Rattle.graph.proofs.vertex.set_defect.Lts as lts
-use Rattle.graph.proofs.rows.put_vertex.Reads as put-vertex-reads
-use Rattle.graph.proofs.rows.vertex_word.Reads as vertex-word-reads
 
 vertex-word-requires : tie.Need-vertex-word-requires
 vertex-word-requires c κs = search needs

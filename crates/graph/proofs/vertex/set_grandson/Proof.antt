@@ -1,10 +1,7 @@
-use Rattle.graph.specs.FieldLaws.{vertex-grandson-put}
+use Rattle.graph.specs.laws.Field.{vertex-grandson-put}
 use borrow.Author.Needs.{needs}
 use Rattle.graph.proofs.vertex.set_grandson.Statement.{statement}
 use Rattle.graph.proofs.vertex.set_grandson.Tie as tie
-use Rattle.graph.proofs.vertex.set_grandson.Reads as reads
-use Rattle.graph.proofs.vertex.set_grandson.Lts as lts
-use Rattle.graph.proofs.rows.put_vertex.Reads as put-vertex-reads
 
 put-vertex-requires : tie.Need-put-vertex-requires
 put-vertex-requires c κs = search needs

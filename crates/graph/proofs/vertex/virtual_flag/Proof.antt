@@ -1,11 +1,8 @@
 use native.Mathlib.Omega.{arith}
-use Rattle.graph.specs.FieldLaws.{virtual-read}
+use Rattle.graph.specs.laws.Field.{virtual-read}
 use borrow.Author.Needs.{needs}
 use Rattle.graph.proofs.vertex.virtual_flag.Statement.{statement}
 use Rattle.graph.proofs.vertex.virtual_flag.Tie as tie
-use Rattle.graph.proofs.vertex.virtual_flag.Reads as reads
-use Rattle.graph.proofs.vertex.virtual_flag.Lts as lts
-use Rattle.graph.proofs.rows.vertex_word.Reads as vertex-word-reads
 
 vertex-word-requires : tie.Need-vertex-word-requires
 vertex-word-requires c κs = search needs

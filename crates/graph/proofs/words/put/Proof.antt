@@ -4,9 +4,6 @@ use lib.ListN.{set}
 use mir.Facts.{toZ-ofZ}
 use Rattle.graph.proofs.words.put.Statement.{statement}
 use Rattle.graph.proofs.words.put.Tie as tie
-use Rattle.graph.proofs.words.put.Reads as reads
-use Rattle.graph.proofs.words.put.Lts as lts
-use Rattle.graph.proofs.words.to_word.Reads as to-word-reads
 
 to-word-requires : tie.Need-to-word-requires
 to-word-requires c κs = search needs

@@ -2,8 +2,6 @@ use borrow.Author.Needs.{needs}
 use Rattle.graph.proofs.Signed.{cast-asks, read-neg, read-nat, read-small}
 use Rattle.graph.proofs.words.to_nat.Statement.{statement}
 use Rattle.graph.proofs.words.to_nat.Tie as tie
-use Rattle.graph.proofs.words.to_nat.Reads as reads
-use Rattle.graph.proofs.words.to_nat.Lts as lts
 
 cast-result : tie.Need-cast-result
 cast-result c = cast-asks (c .before .args .x) (c .before .fits .x) (c .if1 .left)

@@ -3,8 +3,6 @@ use mir.Facts.{toZ-pos}
 use borrow.Author.Needs.{needs}
 use Rattle.graph.proofs.words.to_word.Statement.{statement}
 use Rattle.graph.proofs.words.to_word.Tie as tie
-use Rattle.graph.proofs.words.to_word.Reads as reads
-use Rattle.graph.proofs.words.to_word.Lts as lts
 
 cast-result : tie.Need-cast-result
 cast-result c = search needs

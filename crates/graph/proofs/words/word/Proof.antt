@@ -3,9 +3,6 @@ use Rattle.graph.specs.Word.{wordAt, toNat}
 use borrow.Author.Needs.{needs}
 use Rattle.graph.proofs.words.word.Statement.{statement}
 use Rattle.graph.proofs.words.word.Tie as tie
-use Rattle.graph.proofs.words.word.Reads as reads
-use Rattle.graph.proofs.words.word.Lts as lts
-use Rattle.graph.proofs.words.to_nat.Reads as to-nat-reads
 
 mul-to-nat : tie.Need-mul-to-nat
 mul-to-nat c = search needs

@@ -4,12 +4,9 @@ use native.Mathlib.Omega.{arith}
 use Prim.Native.Nat.{_+_, _-_, _≤_}
 use lib.ListN.{length}
 use Rattle.pass.specs.Scratch.{wiped}
-use Rattle.pass.specs.ScratchLaws.{wipe-none, wipe-more}
+use Rattle.pass.specs.laws.Scratch.{wipe-none, wipe-more}
 use Rattle.pass.proofs.scratch.wipe.Statement.{statement}
 use Rattle.pass.proofs.scratch.wipe.Tie as tie
-use Rattle.pass.proofs.scratch.wipe.Reads as reads
-use Rattle.pass.proofs.scratch.wipe.Lts as lts
-use Rattle.graph.proofs.words.put.Reads as put-reads
 
 abbrev Inv-loop : tie.InvT-loop
 Inv-loop t₀ p n i₀ t i = (i ≤ n) × (length t ≡ length t₀) × (t ≡ wiped t₀ p i)

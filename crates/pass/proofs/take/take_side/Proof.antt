@@ -2,16 +2,10 @@ use mathlib.Core.Path.{ap}
 use lib.Dec.{eqb}
 use borrow.Author.Tests.{eq-eqb, ne-eqb}
 use mathlib.Core.Path.{_≡_, refl, sym, _∙_}
-use Rattle.pass.specs.TakeLaws.{take-free, take-held}
+use Rattle.pass.specs.laws.Take.{take-free, take-held}
 use borrow.Author.Needs.{needs}
 use Rattle.pass.proofs.take.take_side.Statement.{statement}
 use Rattle.pass.proofs.take.take_side.Tie as tie
-use Rattle.pass.proofs.take.take_side.Reads as reads
-use Rattle.pass.proofs.take.take_side.Lts as lts
-use Rattle.graph.proofs.edge.weight.Reads as weight-reads
-use Rattle.graph.proofs.side.hold.Reads as hold-reads
-use Rattle.graph.proofs.side.holder.Reads as holder-reads
-use Rattle.graph.proofs.words.put.Reads as put-reads
 
 holder-requires : tie.Need-holder-requires
 holder-requires c κs = search needs

@@ -1,7 +1,7 @@
 use Prim.Native.Nat.{ℕ}
 use mathlib.Core.List.{List}
 use lib.ListN.{getD}
-use Rattle.pass.specs.MemoryLaws.{kept-sides}
+use Rattle.pass.specs.laws.Memory.{kept-sides}
 use borrow.Author.Needs.{needs}
 use native.Mathlib.Omega.{arith}
 use mathlib.Core.Path.{_≡_, refl, sym, ap, _∙_}
@@ -10,15 +10,10 @@ use Rattle.graph.specs.State.{State, sidesAt}
 use Rattle.graph.specs.Layout.{stateOf}
 use Rattle.pass.specs.Grow.{takeSide}
 use Rattle.pass.specs.Memory.{OwnKept}
-use Rattle.pass.specs.MemoryLaws.{Looped, loop-none, loop-more, loop-all}
-use Rattle.pass.specs.TakeLaws.{keeping-take-side, own-taken}
+use Rattle.pass.specs.laws.Memory.{Looped, loop-none, loop-more, loop-all}
+use Rattle.pass.specs.laws.Take.{keeping-take-side, own-taken}
 use Rattle.pass.proofs.take.take_sides.Statement.{statement}
 use Rattle.pass.proofs.take.take_sides.Tie as tie
-use Rattle.pass.proofs.take.take_sides.Reads as reads
-use Rattle.pass.proofs.take.take_sides.Lts as lts
-use Rattle.graph.proofs.sides.sides_len.Reads as sides-len-reads
-use Rattle.graph.proofs.sides.vertex_side.Reads as vertex-side-reads
-use Rattle.pass.proofs.take.take_side.Reads as take-side-reads
 
 abbrev Inv-loop : tie.InvT-loop
 Inv-loop b₀ t₀ n g m v l i₀ q₀ b t i q = Looped (takeSide n g) b₀ t₀ b t n m q₀ q (sidesAt (stateOf b₀) v) i × OwnKept b t n m q

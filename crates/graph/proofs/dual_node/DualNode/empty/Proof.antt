@@ -3,8 +3,6 @@ use mathlib.Core.Path.{refl}
 use Rattle.graph.specs.Node.{emptyNode}
 use Rattle.graph.proofs.dual_node.DualNode.empty.Statement.{statement}
 use Rattle.graph.proofs.dual_node.DualNode.empty.Tie as tie
-use Rattle.graph.proofs.dual_node.DualNode.empty.Reads as reads
-use Rattle.graph.proofs.dual_node.DualNode.empty.Lts as lts
 
 returns : tie.Need-returns
 unfolding emptyNode

@@ -2,10 +2,6 @@ use Rattle.graph.specs.Node.{grownNode}
 use borrow.Author.Needs.{needs}
 use Rattle.graph.proofs.dual_node.DualNode.grown.Statement.{statement}
 use Rattle.graph.proofs.dual_node.DualNode.grown.Tie as tie
-use Rattle.graph.proofs.dual_node.DualNode.grown.Reads as reads
-use Rattle.graph.proofs.dual_node.DualNode.grown.Lts as lts
-use Rattle.graph.proofs.dual_node.move_number.Reads as move-number-reads
-use Rattle.graph.proofs.dual_node.move_top.Reads as move-top-reads
 
 move-number-requires : tie.Need-move-number-requires
 move-number-requires c κs = search needs

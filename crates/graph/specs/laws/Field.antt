@@ -1,0 +1,123 @@
+-- What a write of one place of one row does to the state, field by field. A field that is a row is read as it stands:
+-- under `unfolding stateOf stateFrom` the state's list is the row.
+use Prim.Native.Nat.{ℕ, zero, suc, _+_, _*_, _/_, _%_, _≤_, _<_}
+use native.Mathlib.Omega.{arith}
+use mathlib.Core.Path.{_≡_, refl, sym, ap, _∙_}
+use mathlib.Core.Bool.{Bool, true}
+use mathlib.Core.List.{List, [], _∷_, map}
+use lib.IntN.{ℤ}
+use lib.Dec.{ltb, leb}
+use lib.ListN.{length, set, getD, take, List·getD-map}
+use lib.Seq.{getD-take, take-set-lt, map-set-same}
+use borrow.Author.Tests.{lt-ltb, ltb-true, leb-true}
+use Rattle.graph.specs.Basic.{all}
+use Rattle.graph.specs.laws.Members.{all-member, member-at}
+use Rattle.graph.specs.State.{State, NodeClass, defectVertex, vertexCount, edgeCount, sideCount, nodeCount, endAt, weightAt, virtualAt, defectAt, classOf, growStateOf, parentOf, dualOf, withVertices, withSides, withNodes, withGrowth, withHolder, withGrandson, withDefect, withVertexHolder, withVertexGrandson, withGrowState, withParent, withDual}
+use Rattle.graph.specs.Open.{weightLimit}
+use Rattle.graph.specs.Rows.{rows, offset}
+use Rattle.graph.specs.Layout.{vOf, countOf, rowsOf, row, classFrom, stateFrom, stateOf}
+use Rattle.graph.specs.Form.{Laid, Listed, Wired, Formed, Becomes, Rowed}
+use Rattle.graph.specs.laws.Row.{header-get, rows-length, becomes-row}
+
+-- what all entries have, an entry has
+pub all-at : (p : ℕ → Bool) (l : List ℕ) (i : ℕ) → all p l ≡ true → i < length l → p (getD l i 0) ≡ true
+all-at p l i h k = all-member p l (getD l i 0) h (member-at l i 0 k)
+
+-- ---- sides and edges
+
+pub end-below : (b : List ℤ) (s : ℕ) → Formed b → s < sideCount (stateOf b) → endAt (stateOf b) s < vertexCount (stateOf b)
+unfolding Laid Wired stateOf stateFrom offset
+end-below b s f h =
+    let e = header-get b 0 (omega arith) in
+    omega (arith, f .laid .counted .vertices, e, ltb-true (getD (row (rowsOf b) 5) s 0) (getD (row (rowsOf b) 0) 0 0) (all-at (λ x. ltb x (getD (row (rowsOf b) 0) 0 0)) (row (rowsOf b) 5) s (f .wired .ends) h))
+
+pub weight-below : (b : List ℤ) (e : ℕ) → Formed b → e < edgeCount (stateOf b) → weightAt (stateOf b) e ≤ 1000000
+unfolding Wired stateOf stateFrom
+weight-below b e f h = leb-true _ _ (all-at (λ x. leb x weightLimit) (row (rowsOf b) 10) e (f .wired .weights) h)
+
+module _ {b₀ b : List ℤ} (s x : ℕ) (f : Formed b₀) where
+  pub growth-put : Rowed 6 b₀ b (set (row (rowsOf b₀) 6) s x) → Becomes b₀ b (withGrowth (stateOf b₀) s x)
+  unfolding Listed Wired rowsOf rows stateOf stateFrom withGrowth withSides
+  growth-put q = becomes-row q (f .listed) (f .wired) refl
+
+  pub holder-put : Rowed 7 b₀ b (set (row (rowsOf b₀) 7) s x) → Becomes b₀ b (withHolder (stateOf b₀) s x)
+  unfolding Listed Wired rowsOf rows stateOf stateFrom withHolder withSides
+  holder-put q = becomes-row q (f .listed) (f .wired) refl
+
+  pub grandson-put : Rowed 8 b₀ b (set (row (rowsOf b₀) 8) s x) → Becomes b₀ b (withGrandson (stateOf b₀) s x)
+  unfolding Listed Wired rowsOf rows stateOf stateFrom withGrandson withSides
+  grandson-put q = becomes-row q (f .listed) (f .wired) refl
+
+  pub vertex-holder-put : Rowed 2 b₀ b (set (row (rowsOf b₀) 2) s x) → Becomes b₀ b (withVertexHolder (stateOf b₀) s x)
+  unfolding Listed Wired rowsOf rows stateOf stateFrom withVertexHolder withVertices
+  vertex-holder-put q = becomes-row q (f .listed) (f .wired) refl
+
+  pub vertex-grandson-put : Rowed 3 b₀ b (set (row (rowsOf b₀) 3) s x) → Becomes b₀ b (withVertexGrandson (stateOf b₀) s x)
+  unfolding Listed Wired rowsOf rows stateOf stateFrom withVertexGrandson withVertices
+  vertex-grandson-put q = becomes-row q (f .listed) (f .wired) refl
+
+-- ---- flags
+
+pub virtual-read : (b : List ℤ) (v : ℕ) → getD (row (rowsOf b) 1) v 0 % 2 ≡ virtualAt (stateOf b) v
+unfolding stateOf stateFrom
+virtual-read b v = sym (List·getD-map (λ x. x % 2) (row (rowsOf b) 1) v 0)
+
+pub defect-read : (b : List ℤ) (v : ℕ) → getD (row (rowsOf b) 1) v 0 / 2 ≡ defectAt (stateOf b) v
+unfolding stateOf stateFrom
+defect-read b v = sym (List·getD-map (λ x. x / 2) (row (rowsOf b) 1) v 0)
+
+pub map-set : (f : ℕ → ℕ) (l : List ℕ) (i x : ℕ) → map f (set l i x) ≡ set (map f l) i (f x)
+map-set f [] i x = refl
+map-set f (y ∷ l) zero x = refl
+map-set f (y ∷ l) (suc i) x = ap (λ r. f y ∷ r) (map-set f l i x)
+
+-- the defect flag alone: the other flag stays
+pub defect-put : {b₀ b : List ℤ} (v x : ℕ) → Formed b₀ → Rowed 1 b₀ b (set (row (rowsOf b₀) 1) v (getD (row (rowsOf b₀) 1) v 0 % 2 + 2 * x)) → Becomes b₀ b (withDefect (stateOf b₀) v x)
+unfolding Listed Wired rowsOf rows stateOf stateFrom withDefect withVertices
+defect-put {b₀} {b} v x f q =
+    let l : List ℕ = row (rowsOf b₀) 1 in
+    let y : ℕ = getD l v 0 % 2 + 2 * x in
+    let virtual : map (λ z. z % 2) (set l v y) ≡ map (λ z. z % 2) l = map-set-same (λ z. z % 2) l v y 0 (omega arith) in
+    let d : y / 2 ≡ x = omega arith in
+    let defect : map (λ z. z / 2) (set l v y) ≡ set (map (λ z. z / 2) l) v x = map-set (λ z. z / 2) l v y ∙ ap (set (map (λ z. z / 2) l) v) d in
+    becomes-row q (f .listed) (f .wired) (rw (virtual, defect))
+
+-- ---- nodes: of their rows the first `count` words count
+
+module _ (b : List ℤ) (q : Laid b) (n : ℕ) (h : n < nodeCount (stateOf b)) where
+  below-count : n < getD (row (rowsOf b) 0) 4 0
+  unfolding Laid
+  below-count = omega (arith, header-get b 4 (omega arith), q .counted .nodes)
+
+  pub class-read : classFrom (vertexCount (stateOf b)) (getD (row (rowsOf b) 11) n 0) ≡ classOf (stateOf b) n
+  unfolding Laid stateOf stateFrom
+  class-read =
+      let k : ℕ = getD (row (rowsOf b) 0) 4 0 in
+      let v : vertexCount (stateOf b) ≡ getD (row (rowsOf b) 0) 0 0 = q .counted .vertices ∙ sym (header-get b 0 (omega arith)) in
+      let first : classFrom (getD (row (rowsOf b) 0) 0 0) 0 ≡ defectVertex 0 = unfold classFrom in rw (lt-ltb 0 (getD (row (rowsOf b) 0) 0 0) (omega (arith, header-get b 0 (omega arith)))) in
+      rw (v, ← getD-take k (row (rowsOf b) 11) n 0 below-count, ← List·getD-map (classFrom (getD (row (rowsOf b) 0) 0 0)) (take k (row (rowsOf b) 11)) n 0, first)
+
+  pub grow-state-read : getD (row (rowsOf b) 12) n 0 ≡ growStateOf (stateOf b) n
+  unfolding stateOf stateFrom
+  grow-state-read = sym (getD-take _ (row (rowsOf b) 12) n 0 below-count)
+
+  pub parent-read : getD (row (rowsOf b) 13) n 0 ≡ parentOf (stateOf b) n
+  unfolding stateOf stateFrom
+  parent-read = sym (getD-take _ (row (rowsOf b) 13) n 0 below-count)
+
+  pub dual-read : getD (row (rowsOf b) 14) n 0 ≡ dualOf (stateOf b) n
+  unfolding stateOf stateFrom
+  dual-read = sym (getD-take _ (row (rowsOf b) 14) n 0 below-count)
+
+module _ {b₀ b : List ℤ} (n x : ℕ) (f : Formed b₀) (h : n < nodeCount (stateOf b₀)) where
+  pub grow-state-put : Rowed 12 b₀ b (set (row (rowsOf b₀) 12) n x) → Becomes b₀ b (withGrowState (stateOf b₀) n x)
+  unfolding Listed Wired rowsOf rows stateOf stateFrom withGrowState withNodes
+  grow-state-put q = becomes-row q (f .listed) (f .wired) (rw (take-set-lt (getD (row (rowsOf b₀) 0) 4 0) (row (rowsOf b₀) 12) n x (below-count b₀ (f .laid) n h)))
+
+  pub parent-put : Rowed 13 b₀ b (set (row (rowsOf b₀) 13) n x) → Becomes b₀ b (withParent (stateOf b₀) n x)
+  unfolding Listed Wired rowsOf rows stateOf stateFrom withParent withNodes
+  parent-put q = becomes-row q (f .listed) (f .wired) (rw (take-set-lt (getD (row (rowsOf b₀) 0) 4 0) (row (rowsOf b₀) 13) n x (below-count b₀ (f .laid) n h)))
+
+  pub dual-put : Rowed 14 b₀ b (set (row (rowsOf b₀) 14) n x) → Becomes b₀ b (withDual (stateOf b₀) n x)
+  unfolding Listed Wired rowsOf rows stateOf stateFrom withDual withNodes
+  dual-put q = becomes-row q (f .listed) (f .wired) (rw (take-set-lt (getD (row (rowsOf b₀) 0) 4 0) (row (rowsOf b₀) 14) n x (below-count b₀ (f .laid) n h)))

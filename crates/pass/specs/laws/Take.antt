@@ -1,0 +1,132 @@
+-- Laws of the loops that take vertices, in memory.
+use Prim.Native.Nat.{ℕ, zero, suc, _+_, _-_, _*_, _≤_, _<_}
+use native.Mathlib.Omega.{arith}
+use mathlib.Core.Path.{_≡_, refl, sym, ap, subst, _∙_}
+use mathlib.Core.Logic.{_≢_}
+use mathlib.Core.Bool.{Bool, true, false, _||_}
+use mathlib.Core.List.{List, [], _∷_, _++_}
+use lib.IntN.{ℤ, pos}
+use lib.Dec.{eqb, ltb}
+use lib.ListN.{length, set, getD, take, length-append}
+use borrow.Author.Tests.{eq-eqb, ne-eqb, lt-ltb}
+use Rattle.graph.specs.Basic.{if_then_else_, fold, all}
+use Rattle.graph.specs.State.{State, Vertices, Overgrown, opposite, sideCount, vertexCount, nodeCount, endAt, holderAt, grandsonAt, sidesAt, vertexHolderAt, overgrownOf, weightOver, heldSide, heldVertex, withHolder, withGrandson, withSides, withVertices, withVertexHolder, withVertexGrandson}
+use Rattle.graph.specs.Word.{numbersAt}
+use Rattle.graph.specs.Layout.{stateOf}
+use Rattle.graph.specs.Form.{Formed, Becomes}
+use Rattle.graph.specs.laws.State.{if-both, if-cases, fold-keeps, fold-keeps-on, Kept, kept-refl, kept-trans, kept-held-side, kept-held-vertex}
+use Rattle.graph.specs.laws.Members.{both}
+use Rattle.graph.specs.laws.SidesAt.{vertex-side-below}
+use Rattle.pass.specs.Work.{Work, onState, keep, note, push, callAnother}
+use Rattle.pass.specs.Grow.{takeSide, takeVertex, takeStep}
+use Rattle.pass.specs.laws.Passes.{Keeps, keeps-take-side, keeps-take-step, keeps-on}
+use Rattle.pass.specs.laws.Fits.{OwnSides, own-length, own-snoc, side-holds, side-held, own-take-side, Siding, siding-step, Still, still-take-side}
+use Rattle.pass.specs.laws.Form.{formed-shape}
+use Rattle.pass.specs.Memory.{workIn, Working, Worked, OwnKept}
+use Rattle.pass.specs.laws.Memory.{kept-sides, kept-overgrown, kept-length, over-length, work-push, worked-then, work-keep, work-call, work-block, work-none, Keeping}
+use Rattle.pass.specs.declared.take.Progress.{Progress}
+
+-- what the kept sides of a work are, the kept sides in memory are
+pub own-worked : {b₀ b t : List ℤ} {n m : ℕ} {p : Progress} {w : Work} → Worked b₀ b t n m p w → OwnSides n m (w .state) (w .kept) → OwnKept b t n m p
+own-worked {n = n} {m} x o = unfold workIn in subst (λ (w : Work). OwnSides n m (w .state) (w .kept)) (sym (x .work)) o
+
+module _ {b t : List ℤ} {n m : ℕ} {p : Progress} (q : Working b t n m p) where
+  holders : length (stateOf b .sides .holder) ≡ m
+  holders = formed-shape b (q .formed) .holder ∙ q .sides
+
+  module _ (o : OwnKept b t n m p) (s : ℕ) (h : s < m) where
+    -- with a free side there is room for it
+    own-room : holderAt (stateOf b) s ≡ 0 → p .kept < m
+    own-room z =
+        let more : OwnSides n m (heldSide (stateOf b) s n 0) (numbersAt t 0 (p .kept) ++ (s ∷ [])) = own-snoc (side-holds (stateOf b) s n 0) s o z (side-held (stateOf b) s n 0 (omega (arith, holders))) h in
+        omega (arith, own-length (holderAt (heldSide (stateOf b) s n 0)) n m (numbersAt t 0 (p .kept) ++ (s ∷ [])) more, length-append (numbersAt t 0 (p .kept)) (s ∷ []), kept-length q)
+
+    -- a free side is held and kept
+    pub take-free : {b' : List ℤ} (g : ℕ) (y : Bool) → holderAt (stateOf b) s ≡ 0 → Becomes b b' (heldSide (stateOf b) s n g) → y ≡ eqb (weightOver (stateOf b) s) 0
+        → Worked b b' (set t (p .kept) (pos s)) n m (record { kept = p .kept + 1; noted = p .noted; pushed = p .pushed; another = p .another || y }) (takeSide n g (workIn b t n m p) s)
+    take-free {b'} g y z x e =
+        let d : State = heldSide (stateOf b) s n g in
+        let u : takeSide n g (workIn b t n m p) s ≡ callAnother (keep (onState (workIn b t n m p) d) s) y = unfold takeSide workIn in rw (eq-eqb (holderAt (stateOf b) s) 0 z, e) in
+        let x₁ = work-block q x (kept-held-side (stateOf b) s n g .nodes) in
+        let x₂ = worked-then (λ w. keep w s) x₁ (work-keep (x₁ .working) s (own-room z)) in
+        rw u (worked-then (λ w. callAnother w y) x₂ (work-call (x₂ .working) y))
+
+  -- a side that is held stays
+  pub take-held : (g s : ℕ) → holderAt (stateOf b) s ≢ 0 → Worked b b t n m p (takeSide n g (workIn b t n m p) s)
+  take-held g s z =
+      let u : takeSide n g (workIn b t n m p) s ≡ workIn b t n m p = unfold takeSide workIn in rw (ne-eqb (holderAt (stateOf b) s) 0 z) in
+      rw u (work-none q)
+
+  -- the kept sides stay the node's own
+  pub own-taken : {b' t' : List ℤ} {p' : Progress} (g s : ℕ) → OwnKept b t n m p → s < m → Worked b b' t' n m p' (takeSide n g (workIn b t n m p) s) → OwnKept b' t' n m p'
+  own-taken g s o h x = own-worked x (unfold workIn in own-take-side n m g (workIn b t n m p) s holders (lt-ltb s m h) o)
+
+pub keeping-take-side : (n g : ℕ) → Keeping (takeSide n g)
+keeping-take-side n g w s = keeps-take-side (w .state) n g w s (kept-refl (w .state))
+
+-- ---- a vertex is taken
+
+-- the sides at any vertex of a block in form are sides
+all-of : (f : ℕ → Bool) (l : List ℕ) → ((i : ℕ) → i < length l → f (getD l i 0) ≡ true) → all f l ≡ true
+unfolding all
+all-of f [] h = refl
+all-of f (x ∷ l) h = both (f x) (all f l) (h 0 (omega arith)) (all-of f l (λ i k. h (suc i) (omega arith)))
+
+pub formed-sides : (b : List ℤ) → Formed b → (v : ℕ) → all (λ t. ltb t (sideCount (stateOf b))) (sidesAt (stateOf b) v) ≡ true
+formed-sides b f v = all-of (λ t. ltb t (sideCount (stateOf b))) (sidesAt (stateOf b) v) (λ i h. lt-ltb (getD (sidesAt (stateOf b) v) i 0) (sideCount (stateOf b)) (vertex-side-below b v i (f .wired) h))
+
+-- vertex v is held, and its free sides are
+abbrev pub sided : ℕ → ℕ → Work → ℕ → Work
+sided n g w v = fold (takeSide n g) (onState w (heldVertex (w .state) v n g)) (sidesAt (w .state) v)
+
+sided-keeps : (n g : ℕ) (w : Work) (v : ℕ) → Keeps (w .state) (sided n g w v)
+sided-keeps n g w v = fold-keeps (takeSide n g) (Keeps (w .state)) (keeps-take-side (w .state) n g) (onState w (heldVertex (w .state) v n g)) (sidesAt (w .state) v) (keeps-on (w .state) w (heldVertex (w .state) v n g) (kept-refl (w .state)) (kept-held-vertex (w .state) v n g))
+
+sided-over : (n g : ℕ) (w : Work) (v : ℕ) → sided n g w v .over ≡ w .over
+sided-over n g w v =
+    let first : Work = onState w (heldVertex (w .state) v n g) in
+    fold-keeps (takeSide n g) (Still (first .state .vertices) (first .over)) (still-take-side (first .state .vertices) (first .over) n g) first (sidesAt (w .state) v) (refl, refl) .1 ∙ (unfold onState in refl)
+
+-- what a work puts on the stack, the scratch has more
+pub pushed-by : {b t b' t' : List ℤ} {n m : ℕ} {p p' : Progress} {w : Work} → Working b t n m p → Worked b b' t' n m p' w → Keeps (stateOf b) w → p' .pushed + length (workIn b t n m p .over) ≡ length (w .over) + p .pushed
+pushed-by {b} {t} {b'} {t'} {n} {m} {p} {p'} {w} q x k =
+    let e : length (overgrownOf (stateOf b') n) ≡ length (overgrownOf (stateOf b) n) = ap (λ (c : State). length (overgrownOf c n)) (x .block .state) ∙ ap (λ (l : List Overgrown). length l) (kept-overgrown k n) in
+    let o : length (workIn b' t' n m p' .over) ≡ length (w .over) = ap (λ (y : Work). length (y .over)) (x .work) in
+    omega (arith, over-length q, over-length (x .working))
+
+module _ {b t : List ℤ} {n m : ℕ} {p : Progress} (q : Working b t n m p) {b₁ : List ℤ} (g v : ℕ) (h : Becomes b b₁ (heldVertex (stateOf b) v n g)) where
+  pub held-working : Working b₁ t n m p
+  held-working = work-block q h (kept-held-vertex (stateOf b) v n g .nodes) .working
+
+  -- the sides stay
+  pub held-own : OwnKept b t n m p → OwnKept b₁ t n m p
+  held-own o = rw (h .state) (unfold heldVertex in unfold withVertexGrandson in unfold withVertexHolder in unfold withVertices in o)
+
+  module _ {b₂ t₂ : List ℤ} {r : Progress} (x : Worked b₁ b₂ t₂ n m r (fold (takeSide n g) (workIn b₁ t n m p) (sidesAt (stateOf b₁) v))) where
+    pub sided-worked : Worked b b₂ t₂ n m r (sided n g (workIn b t n m p) v)
+    unfolding workIn
+    sided-worked =
+        let e : sidesAt (stateOf b₁) v ≡ sidesAt (stateOf b) v = ap (λ (c : State). sidesAt c v) (h .state) ∙ kept-sides (kept-held-vertex (stateOf b) v n g) v in
+        worked-then (λ w. fold (takeSide n g) w (sidesAt (stateOf b) v)) (work-block q h (kept-held-vertex (stateOf b) v n g .nodes)) (rw e at x)
+
+    pub sided-pushed : r .pushed ≡ p .pushed
+    sided-pushed =
+        let k : Keeps (stateOf b) (sided n g (workIn b t n m p) v) = unfold workIn in sided-keeps n g (workIn b t n m p) v in
+        omega (arith, pushed-by q sided-worked k, ap (λ (l : List Overgrown). length l) (sided-over n g (workIn b t n m p) v))
+
+    -- how many sides are kept
+    sided-kept : length (sided n g (workIn b t n m p) v .kept) ≡ r .kept
+    sided-kept = sym (ap (λ (w : Work). length (w .kept)) (sided-worked .work)) ∙ (unfold workIn in kept-length (sided-worked .working))
+
+    start-kept : length (workIn b t n m p .kept) ≡ p .kept
+    start-kept = unfold workIn in kept-length q
+
+    pub vertex-push : r .kept ≡ p .kept → v < 1024 → p .pushed < m → Worked b b₂ (set t₂ (2 * m + r .pushed) (pos v)) n m (record { kept = r .kept; noted = r .noted; pushed = r .pushed + 1; another = r .another }) (takeVertex n g (workIn b t n m p) v)
+    vertex-push e l k =
+        let z : takeVertex n g (workIn b t n m p) v ≡ push (sided n g (workIn b t n m p) v) v = unfold takeVertex in rw (eq-eqb (length (sided n g (workIn b t n m p) v .kept)) (length (workIn b t n m p .kept)) (sided-kept ∙ e ∙ sym start-kept)) in
+        rw z (worked-then (λ w. push w v) sided-worked (work-push (sided-worked .working) v l (omega (arith, sided-pushed))))
+
+    pub vertex-keep : r .kept ≢ p .kept → Worked b b₂ t₂ n m r (takeVertex n g (workIn b t n m p) v)
+    vertex-keep e =
+        let z : takeVertex n g (workIn b t n m p) v ≡ sided n g (workIn b t n m p) v = unfold takeVertex in rw (ne-eqb (length (sided n g (workIn b t n m p) v .kept)) (length (workIn b t n m p .kept)) (λ y. e (sym sided-kept ∙ y ∙ start-kept))) in
+        rw z sided-worked

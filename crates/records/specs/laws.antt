@@ -1,0 +1,2 @@
+-- Laws about the definitions of `records`.
+pub mod Lines
