@@ -70,3 +70,63 @@ fn take_sides(
     }
     q
 }
+
+// The free vertex v is taken by node n for the defect node stored as g; without free sides it is overgrown.
+fn take_vertex(
+    b: &mut [i64],
+    t: &mut [i64],
+    n: usize,
+    g: usize,
+    m: usize,
+    v: usize,
+    p: Progress,
+) -> Progress
+    requires { ⌜ Working (now b) (now t) n m p × OwnKept (now b) (now t) n m p × (v < vertexCount (stateOf (now b))) × (g < 9223372036854775808) × (p .pushed < m) ⌝ }
+    ensures { λ r. ⌜ Worked (now (b .entry)) (now (b .exit)) (now (t .exit)) n m r (takeVertex n g (workIn (now (b .entry)) (now (t .entry)) n m p) v) ⌝ }
+{
+    let before = p.kept;
+    graph::vertex::hold(b, v, n, g);
+    let q = take_sides(b, t, n, g, m, v, p);
+    if q.kept == before {
+        graph::words::put(t, 2 * m + q.pushed, v);
+        Progress {
+            kept: q.kept,
+            noted: q.noted,
+            pushed: q.pushed + 1,
+            another: q.another,
+        }
+    } else {
+        q
+    }
+}
+
+// A noted side s: the vertex behind it is taken, if free.
+fn take_step(b: &mut [i64], t: &mut [i64], n: usize, m: usize, s: usize, p: Progress) -> Progress
+    requires { ⌜ Working (now b) (now t) n m p × OwnKept (now b) (now t) n m p × (s < m) × (p .pushed < m) ⌝ }
+    ensures { λ r. ⌜ Worked (now (b .entry)) (now (b .exit)) (now (t .exit)) n m r (takeStep n (workIn (now (b .entry)) (now (t .entry)) n m p) s) ⌝ }
+{
+    let o = graph::side::opposite(s);
+    let v = graph::side::end(b, o);
+    if graph::vertex::holder(b, v) == 0 {
+        let g = graph::side::grandson(b, s);
+        take_vertex(b, t, n, g, m, v, p)
+    } else {
+        p
+    }
+}
+
+// All noted sides, in order.
+pub fn take_noted(b: &mut [i64], t: &mut [i64], n: usize, m: usize, p: Progress) -> Progress
+    requires { ⌜ Working (now b) (now t) n m p × OwnKept (now b) (now t) n m p × (all (λ s. ltb s m) (numbersAt (now t) m (p .noted)) ≡ true) × (p .pushed ≡ 0) ⌝ }
+    ensures { λ r. ⌜ Worked (now (b .entry)) (now (b .exit)) (now (t .exit)) n m r (fold (takeStep n) (workIn (now (b .entry)) (now (t .entry)) n m p) (numbersAt (now (t .entry)) m (p .noted))) ⌝ }
+{
+    let l = p.noted;
+    let mut i = 0;
+    let mut q = p;
+    while i < l {
+        let s = graph::words::word(t, m + i);
+        q = take_step(b, t, n, m, s, q);
+        i += 1;
+    }
+    q
+}
