@@ -1,17 +1,17 @@
 -- Laws of the work in memory: the small changes, one after another.
-use Prim.Native.Nat.{ℕ, zero, suc, _+_, _-_, _*_, _/_, _%_, _≤_, _<_}
+use Prim.Native.Nat.{ℕ, _+_, _*_, _/_, _%_, _≤_, _<_}
 use native.Mathlib.Omega.{arith}
 use mathlib.Core.Path.{_≡_, refl, sym, ap, subst, _∙_}
-use mathlib.Core.Bool.{Bool, true, false, _||_}
+use mathlib.Core.Bool.{Bool, _||_}
 use mathlib.Core.List.{List, [], _∷_, _++_, reverse-append}
 use lib.IntN.{ℤ, pos}
 use lib.ListN.{length, set, getD, take, length-append}
-use Rattle.graph.specs.State.{State, Graph, Nodes, Overgrown, sidesAt, boundaryOf, sideCount, nodeCount, overgrownOf}
+use Rattle.graph.specs.State.{State, Graph, Nodes, sidesAt, boundaryOf, overgrownOf}
 use Rattle.graph.specs.Word.{numbersAt}
 use Rattle.graph.specs.Layout.{overgrownFrom, stackFrom, stateOf}
-use Rattle.graph.specs.Form.{Formed, Becomes}
+use Rattle.graph.specs.Form.{Becomes}
 use Rattle.graph.specs.RowLaws.{becomes-none, becomes-then}
-use Rattle.graph.specs.NumberLaws.{numbers-none, numbers-push, numbers-still-above, numbers-still-below, numbers-length}
+use Rattle.graph.specs.NumberLaws.{numbers-push, numbers-still-above, numbers-still-below, numbers-length}
 use Rattle.graph.specs.ListLaws.{length-stack}
 use Rattle.graph.specs.Basic.{fold}
 use Rattle.graph.specs.Laws.{Kept, kept-refl, kept-trans, fold-more, fold-done}

@@ -1,25 +1,25 @@
 -- Laws of the loops that take vertices, in memory.
-use Prim.Native.Nat.{ℕ, zero, suc, _+_, _-_, _*_, _≤_, _<_}
+use Prim.Native.Nat.{ℕ, suc, _+_, _*_, _≤_, _<_}
 use native.Mathlib.Omega.{arith}
 use mathlib.Core.Path.{_≡_, refl, sym, ap, subst, _∙_}
 use mathlib.Core.Logic.{_≢_}
-use mathlib.Core.Bool.{Bool, true, false, _||_}
+use mathlib.Core.Bool.{Bool, true, _||_}
 use mathlib.Core.List.{List, [], _∷_, _++_}
 use lib.IntN.{ℤ, pos}
 use lib.Dec.{eqb, ltb}
 use lib.ListN.{length, set, getD, take, length-append}
 use borrow.Author.Tests.{eq-eqb, ne-eqb, lt-ltb, ltb-true}
-use Rattle.graph.specs.Basic.{if_then_else_, fold, all}
-use Rattle.graph.specs.State.{State, Vertices, Overgrown, opposite, sideCount, vertexCount, nodeCount, endAt, holderAt, grandsonAt, sidesAt, vertexHolderAt, overgrownOf, weightOver, heldSide, heldVertex, withHolder, withGrandson, withSides, withVertices, withVertexHolder, withVertexGrandson}
+use Rattle.graph.specs.Basic.{fold, all}
+use Rattle.graph.specs.State.{State, Overgrown, opposite, sideCount, endAt, holderAt, grandsonAt, sidesAt, vertexHolderAt, overgrownOf, weightOver, heldSide, heldVertex, withVertices, withVertexHolder, withVertexGrandson}
 use Rattle.graph.specs.Word.{wordAt, numbersAt}
 use Rattle.graph.specs.Layout.{stateOf}
 use Rattle.graph.specs.Form.{Formed, Becomes}
-use Rattle.graph.specs.Laws.{if-both, if-cases, fold-keeps, fold-keeps-on, Kept, kept-refl, kept-trans, kept-held-side, kept-held-vertex}
+use Rattle.graph.specs.Laws.{if-both, fold-keeps, fold-keeps-on, kept-refl, kept-held-side, kept-held-vertex}
 use Rattle.graph.specs.Members.{both}
 use Rattle.graph.specs.FieldLaws.{all-at}
 use Rattle.graph.specs.NumberLaws.{numbers-entry}
 use Rattle.graph.specs.SideLaws.{vertex-side-below}
-use Rattle.pass.specs.Work.{Work, onState, keep, note, push, callAnother}
+use Rattle.pass.specs.Work.{Work, onState, keep, push, callAnother}
 use Rattle.pass.specs.Grow.{takeSide, takeVertex, takeStep}
 use Rattle.pass.specs.Laws.{Keeps, keeps-take-side, keeps-take-step, keeps-on}
 use Rattle.pass.specs.Fits.{OwnSides, own-length, own-snoc, side-holds, side-held, own-take-side, Siding, siding-step, Still, still-take-side}

@@ -1,6 +1,5 @@
 use native.Mathlib.Omega.{arith}
 use Prim.Native.Nat.{_-_}
-use mathlib.Core.Path.{_≡_, refl, sym, ap, _∙_}
 use Rattle.graph.specs.Word.{numbersAt}
 use Rattle.pass.specs.Grow.{takeStep}
 use Rattle.pass.specs.MemoryLaws.{Looped, loop-none, loop-more, loop-all, noted-length}

@@ -4,9 +4,9 @@ use lib.ListN.{getD}
 use Rattle.pass.specs.MemoryLaws.{kept-sides}
 use borrow.Author.Needs.{needs}
 use native.Mathlib.Omega.{arith}
-use mathlib.Core.Path.{_≡_, refl, sym, ap, _∙_}
+use mathlib.Core.Path.{ap, _∙_}
 use Prim.Native.Nat.{_-_}
-use Rattle.graph.specs.State.{State, sidesAt}
+use Rattle.graph.specs.State.{sidesAt}
 use Rattle.graph.specs.Layout.{stateOf}
 use Rattle.pass.specs.Grow.{takeSide}
 use Rattle.pass.specs.Memory.{OwnKept}

@@ -1,4 +1,4 @@
-use mathlib.Core.Path.{_≡_, refl, sym, ap, _∙_}
+use mathlib.Core.Path.{sym, _∙_}
 use Rattle.pass.specs.TakeLaws.{step-taken, step-held}
 use borrow.Author.Needs.{needs}
 use borrow.Author.Needs.{needs}

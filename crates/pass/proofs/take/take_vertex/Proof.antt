@@ -1,6 +1,5 @@
 use native.Mathlib.Omega.{arith}
-use mathlib.Core.Path.{_≡_, refl, sym, ap, _∙_}
-use Rattle.pass.specs.TakeLaws.{held-working, held-own, sided-worked, sided-pushed, vertex-push, vertex-keep}
+use Rattle.pass.specs.TakeLaws.{held-working, held-own, sided-pushed, vertex-push, vertex-keep}
 use borrow.Author.Needs.{needs}
 use borrow.Author.Needs.{needs}
 use Rattle.pass.proofs.take.take_vertex.Statement.{statement}
