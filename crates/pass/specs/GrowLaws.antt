@@ -28,10 +28,10 @@ use Rattle.pass.specs.ScratchLaws.{holding-zero, zero-holding, wipe-firs
 use Rattle.pass.specs.FormLaws.{formed-shape, formed-vertices}
 use Rattle.pass.specs.Ready.{Ready, Growable, AfterPass}
 use Rattle.pass.specs.Fits.{OwnSides, grow-scanned-own, Still, still-grow-step, sound-own-sides, sound-grow-fits, sound-boundary-le}
-use Rattle.pass.specs.Memory.{workIn, Working, Worked, OwnKept}
-use Rattle.pass.specs.MemoryLaws.{kept-overgrown, kept-length, noted-length, pushed-length, over-length, worked-then, work-keep, work-note, work-block, Keeping, Looped}
+use Rattle.pass.specs.Growing.{workIn, Working, Worked, OwnKept}
+use Rattle.pass.specs.GrowingLaws.{kept-overgrown, kept-length, noted-length, pushed-length, over-length, worked-then, work-keep, work-note, work-block, Keeping, Looped}
 use Rattle.pass.specs.TakeLaws.{own-worked}
-use Rattle.pass.specs.declared.take.Progress.{Progress}
+use Rattle.pass.specs.declared.take.GrowProgress.{GrowProgress}
 
 -- ---- a boundary that reaches something, or not
 
@@ -60,7 +60,7 @@ count-step n w s =
     (omega (arith, length-append (w .noted) (s ∷ [])))
     (omega (arith, length-append (w .kept) (s ∷ [])))
 
-module _ {b t : List ℤ} {n m : ℕ} {p : Progress} (q : Working b t n m p) (s : ℕ) where
+module _ {b t : List ℤ} {n m : ℕ} {p : GrowProgress} (q : Working b t n m p) (s : ℕ) where
   pub step-note : {b' : List ℤ} → p .noted < m → reaches (stateOf b) s ≡ true → Becomes b b' (heldSide (stateOf b) (opposite s) n (grandsonAt (stateOf b) s))
       → Worked b b' (set t (m + p .noted) (pos s)) n m (record { kept = p .kept; noted = p .noted + 1; pushed = p .pushed; another = p .another }) (growStep n (workIn b t n m p) s)
   step-note h e x =
@@ -75,7 +75,7 @@ module _ {b t : List ℤ} {n m : ℕ} {p : Progress} (q : Working b t n m p) (s 
       rw u (work-keep q s h)
 
   -- each boundary side is kept or noted
-  pub step-count : {b' t' : List ℤ} {r : Progress} → Worked b b' t' n m r (growStep n (workIn b t n m p) s) → r .kept + r .noted ≡ p .kept + p .noted + 1
+  pub step-count : {b' t' : List ℤ} {r : GrowProgress} → Worked b b' t' n m r (growStep n (workIn b t n m p) s) → r .kept + r .noted ≡ p .kept + p .noted + 1
   unfolding workIn
   step-count x =
       let k = ap (λ (w : Work). length (w .kept)) (x .work) in
@@ -86,7 +86,7 @@ pub keeping-grow-step : (n : ℕ) → Keeping (growStep n)
 keeping-grow-step n w s = keeps-grow-step (w .state) n w s (kept-refl (w .state))
 
 -- at the start nothing is in the scratch
-abbrev pub nothing : Progress
+abbrev pub nothing : GrowProgress
 nothing = record { kept = 0; noted = 0; pushed = 0; another = false }
 
 pub start-working : {b t : List ℤ} {n m : ℕ} → Formed b → n < nodeCount (stateOf b) → sideCount (stateOf b) ≡ m → t ≡ zeroScratch (3 * m) → Working b t n m nothing
@@ -105,7 +105,7 @@ unfolding workIn startPass stackFrom numbersAt
 start-work b t n m = refl
 
 -- the whole boundary
-pub scan-all : {b₀ b t : List ℤ} {n m : ℕ} {p : Progress} (t₀ : List ℤ) → Worked b₀ b t n m p (fold (growStep n) (workIn b₀ t₀ n m nothing) (boundaryOf (stateOf b₀) n)) → Worked b₀ b t n m p (growScanned (stateOf b₀) n)
+pub scan-all : {b₀ b t : List ℤ} {n m : ℕ} {p : GrowProgress} (t₀ : List ℤ) → Worked b₀ b t n m p (fold (growStep n) (workIn b₀ t₀ n m nothing) (boundaryOf (stateOf b₀) n)) → Worked b₀ b t n m p (growScanned (stateOf b₀) n)
 unfolding growScanned
 scan-all {b₀} {n = n} {m} t₀ x = rw (start-work b₀ t₀ n m) at x
 
@@ -114,7 +114,7 @@ unfolding sidesOk
 sides-kept c d n k h = rw (k .graph, k .nodes) h
 
 -- what each turn reads
-pub scan-sides : {f : Work → ℕ → Work} {b₀ t₀ b t : List ℤ} {n m : ℕ} {p₀ p : Progress} {l : List ℕ} {i : ℕ} → Looped f b₀ t₀ b t n m p₀ p l i → sidesOk (stateOf b₀) n ≡ true → sidesOk (stateOf b) n ≡ true
+pub scan-sides : {f : Work → ℕ → Work} {b₀ t₀ b t : List ℤ} {n m : ℕ} {p₀ p : GrowProgress} {l : List ℕ} {i : ℕ} → Looped f b₀ t₀ b t n m p₀ p l i → sidesOk (stateOf b₀) n ≡ true → sidesOk (stateOf b) n ≡ true
 scan-sides {b₀ = b₀} {b = b} {n = n} q h = sides-kept (stateOf b₀) (stateOf b) n (q .kept) h
 
 -- ---- what the scan leaves
@@ -131,7 +131,7 @@ scanned-over : (c : State) (n : ℕ) → growScanned c n .over ≡ overgrownOf c
 unfolding growScanned startPass
 scanned-over c n = fold-keeps (growStep n) (Still (c .vertices) (overgrownOf c n)) (still-grow-step (c .vertices) (overgrownOf c n) n) (startPass c (overgrownOf c n)) (boundaryOf c n) (refl, refl) .1
 
-module _ {b t b₁ t₁ : List ℤ} {n m : ℕ} {p : Progress} (f : Ready b t n) (g : Growable (stateOf b) n) (e : sideCount (stateOf b) ≡ m) (x : Worked b b₁ t₁ n m p (growScanned (stateOf b) n)) where
+module _ {b t b₁ t₁ : List ℤ} {n m : ℕ} {p : GrowProgress} (f : Ready b t n) (g : Growable (stateOf b) n) (e : sideCount (stateOf b) ≡ m) (x : Worked b b₁ t₁ n m p (growScanned (stateOf b) n)) where
   own-boundary : OwnSides n (sideCount (stateOf b)) (stateOf b) (boundaryOf (stateOf b) n)
   own-boundary = sound-own-sides (stateOf b) (formed-shape b (f .formed)) (g .sounds) (formed-vertices b (f .formed)) n (f .node) (g .outer)
 
@@ -150,7 +150,7 @@ module _ {b t b₁ t₁ : List ℤ} {n m : ℕ} {p : Progress} (f : Ready b t n)
       omega (arith, over-length (x .working))
 
   -- and then the noted sides
-  pub pass-worked : {b₂ t₂ : List ℤ} {r : Progress} → Worked b₁ b₂ t₂ n m r (fold (takeStep n) (workIn b₁ t₁ n m p) (numbersAt t₁ m (p .noted))) → Worked b b₂ t₂ n m r (growPass (stateOf b) n)
+  pub pass-worked : {b₂ t₂ : List ℤ} {r : GrowProgress} → Worked b₁ b₂ t₂ n m r (fold (takeStep n) (workIn b₁ t₁ n m p) (numbersAt t₁ m (p .noted))) → Worked b b₂ t₂ n m r (growPass (stateOf b) n)
   unfolding growPass workIn
   pass-worked y = worked-then (λ w. fold (takeStep n) w (w .noted)) x y
 
@@ -170,7 +170,7 @@ unfolding entries entriesOf
 entries-kept c d n k = (rw (k .nodes), rw (k .nodes))
 
 -- the lists fit
-pub pass-room : {b t b₂ t₂ : List ℤ} {n m : ℕ} {r : Progress} → Ready b t n → Growable (stateOf b) n → Worked b b₂ t₂ n m r (growPass (stateOf b) n)
+pub pass-room : {b t b₂ t₂ : List ℤ} {n m : ℕ} {r : GrowProgress} → Ready b t n → Growable (stateOf b) n → Worked b b₂ t₂ n m r (growPass (stateOf b) n)
     → entries (stateOf b₂) + (r .kept + length (overgrownOf (stateOf b₂) n) + r .pushed) ≤ stateOf b₂ .storeLimit + entriesOf (stateOf b₂) n
 pass-room {b} {t} {b₂} {t₂} {n} {m} {r} f g x =
     let k : Kept (stateOf b) (stateOf b₂) = rw (x .block .state) (grow-pass-keeps (stateOf b) n) in
@@ -180,15 +180,15 @@ pass-room {b} {t} {b₂} {t₂} {n} {m} {r} f g x =
     let over : length (workIn b₂ t₂ n m r .over) ≡ length (growPass (stateOf b) n .over) = ap (λ (w : Work). length (w .over)) (x .work) in
     omega (arith, f .room, fits, e, k .storeLimit, kept, over, over-length (x .working))
 
-finish-lists : (b t : List ℤ) (n m k : ℕ) (p : Progress) → k ≡ length (overgrownOf (stateOf b) n) → withLists (stateOf b) n (numbersAt t 0 (p .kept)) k (numbersAt t (2 * m) (p .pushed)) ≡ finishPass (workIn b t n m p) n
+finish-lists : (b t : List ℤ) (n m k : ℕ) (p : GrowProgress) → k ≡ length (overgrownOf (stateOf b) n) → withLists (stateOf b) n (numbersAt t 0 (p .kept)) k (numbersAt t (2 * m) (p .pushed)) ≡ finishPass (workIn b t n m p) n
 unfolding withLists finishPass workIn
 finish-lists b t n m k p e = let z : length (overgrownOf (stateOf b) n) - length (overgrownOf (stateOf b) n) ≡ 0 = omega arith in rw (e, z)
 
-pub finish-block : {b b' : List ℤ} (t : List ℤ) (n m k : ℕ) (p : Progress) → k ≡ length (overgrownOf (stateOf b) n) → Becomes b b' (withLists (stateOf b) n (numbersAt t 0 (p .kept)) k (numbersAt t (2 * m) (p .pushed))) → Becomes b b' (finishPass (workIn b t n m p) n)
+pub finish-block : {b b' : List ℤ} (t : List ℤ) (n m k : ℕ) (p : GrowProgress) → k ≡ length (overgrownOf (stateOf b) n) → Becomes b b' (withLists (stateOf b) n (numbersAt t 0 (p .kept)) k (numbersAt t (2 * m) (p .pushed))) → Becomes b b' (finishPass (workIn b t n m p) n)
 finish-block {b} t n m k p e x = rw (finish-lists b t n m k p e) at x
 
 -- the scratch is all zero again
-pub finish-scratch : {b t : List ℤ} {n m : ℕ} {p : Progress} → Working b t n m p → wiped (wiped (wiped t 0 (p .kept)) m (p .noted)) (2 * m) (p .pushed) ≡ zeroScratch (3 * m)
+pub finish-scratch : {b t : List ℤ} {n m : ℕ} {p : GrowProgress} → Working b t n m p → wiped (wiped (wiped t 0 (p .kept)) m (p .noted)) (2 * m) (p .pushed) ≡ zeroScratch (3 * m)
 finish-scratch {b} {t} {n} {m} {p} q =
     let h₁ : Holding (wiped t 0 (p .kept)) m [] (numbersAt t m (p .noted)) (numbersAt t (2 * m) (p .pushed)) = rw (kept-length q) at (wipe-first (q .holding)) in
     let h₂ : Holding (wiped (wiped t 0 (p .kept)) m (p .noted)) m [] [] (numbersAt t (2 * m) (p .pushed)) = rw (noted-length q) at (wipe-second h₁) in
@@ -196,7 +196,7 @@ finish-scratch {b} {t} {n} {m} {p} q =
     zero-holding (wiped (wiped (wiped t 0 (p .kept)) m (p .noted)) (2 * m) (p .pushed)) m h₃
 
 -- the pass is done
-pub pass-after : {b t b₂ t₂ b₃ t₃ : List ℤ} {n m : ℕ} {r : Progress} → Ready b t n → sideCount (stateOf b) ≡ m → Worked b b₂ t₂ n m r (growPass (stateOf b) n) → Becomes b₂ b₃ (finishPass (workIn b₂ t₂ n m r) n) × (t₃ ≡ zeroScratch (3 * m)) → AfterPass b b₃ t t₃ n (growPass (stateOf b) n) (r .another)
+pub pass-after : {b t b₂ t₂ b₃ t₃ : List ℤ} {n m : ℕ} {r : GrowProgress} → Ready b t n → sideCount (stateOf b) ≡ m → Worked b b₂ t₂ n m r (growPass (stateOf b) n) → Becomes b₂ b₃ (finishPass (workIn b₂ t₂ n m r) n) × (t₃ ≡ zeroScratch (3 * m)) → AfterPass b b₃ t t₃ n (growPass (stateOf b) n) (r .another)
 pass-after f e x y = record {
   block = becomes-then (x .block) (rw (x .work) at (y .0));
   scratch = y .1 ∙ sym (rw e at (f .scratch));

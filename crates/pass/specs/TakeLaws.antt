@@ -24,15 +24,15 @@ use Rattle.pass.specs.Grow.{takeSide, takeVertex, takeStep}
 use Rattle.pass.specs.Laws.{Keeps, keeps-take-side, keeps-take-step, keeps-on}
 use Rattle.pass.specs.Fits.{OwnSides, own-length, own-snoc, side-holds, side-held, own-take-side, Siding, siding-step, Still, still-take-side}
 use Rattle.pass.specs.FormLaws.{formed-shape}
-use Rattle.pass.specs.Memory.{workIn, Working, Worked, OwnKept}
-use Rattle.pass.specs.MemoryLaws.{kept-sides, kept-overgrown, kept-length, noted-length, over-length, work-push, worked-then, work-keep, work-call, work-block, work-none, Keeping}
-use Rattle.pass.specs.declared.take.Progress.{Progress}
+use Rattle.pass.specs.Growing.{workIn, Working, Worked, OwnKept}
+use Rattle.pass.specs.GrowingLaws.{kept-sides, kept-overgrown, kept-length, noted-length, over-length, work-push, worked-then, work-keep, work-call, work-block, work-none, Keeping}
+use Rattle.pass.specs.declared.take.GrowProgress.{GrowProgress}
 
 -- what the kept sides of a work are, the kept sides in memory are
-pub own-worked : {b₀ b t : List ℤ} {n m : ℕ} {p : Progress} {w : Work} → Worked b₀ b t n m p w → OwnSides n m (w .state) (w .kept) → OwnKept b t n m p
+pub own-worked : {b₀ b t : List ℤ} {n m : ℕ} {p : GrowProgress} {w : Work} → Worked b₀ b t n m p w → OwnSides n m (w .state) (w .kept) → OwnKept b t n m p
 own-worked {n = n} {m} x o = unfold workIn in subst (λ (w : Work). OwnSides n m (w .state) (w .kept)) (sym (x .work)) o
 
-module _ {b t : List ℤ} {n m : ℕ} {p : Progress} (q : Working b t n m p) where
+module _ {b t : List ℤ} {n m : ℕ} {p : GrowProgress} (q : Working b t n m p) where
   holders : length (stateOf b .sides .holder) ≡ m
   holders = formed-shape b (q .formed) .holder ∙ q .sides
 
@@ -60,7 +60,7 @@ module _ {b t : List ℤ} {n m : ℕ} {p : Progress} (q : Working b t n m p) whe
       rw u (work-none q)
 
   -- the kept sides stay the node's own
-  pub own-taken : {b' t' : List ℤ} {p' : Progress} (g s : ℕ) → OwnKept b t n m p → s < m → Worked b b' t' n m p' (takeSide n g (workIn b t n m p) s) → OwnKept b' t' n m p'
+  pub own-taken : {b' t' : List ℤ} {p' : GrowProgress} (g s : ℕ) → OwnKept b t n m p → s < m → Worked b b' t' n m p' (takeSide n g (workIn b t n m p) s) → OwnKept b' t' n m p'
   own-taken g s o h x = own-worked x (unfold workIn in own-take-side n m g (workIn b t n m p) s holders (lt-ltb s m h) o)
 
 pub keeping-take-side : (n g : ℕ) → Keeping (takeSide n g)
@@ -90,13 +90,13 @@ sided-over n g w v =
     fold-keeps (takeSide n g) (Still (first .state .vertices) (first .over)) (still-take-side (first .state .vertices) (first .over) n g) first (sidesAt (w .state) v) (refl, refl) .1 ∙ (unfold onState in refl)
 
 -- what a work puts on the stack, the scratch has more
-pub pushed-by : {b t b' t' : List ℤ} {n m : ℕ} {p p' : Progress} {w : Work} → Working b t n m p → Worked b b' t' n m p' w → Keeps (stateOf b) w → p' .pushed + length (workIn b t n m p .over) ≡ length (w .over) + p .pushed
+pub pushed-by : {b t b' t' : List ℤ} {n m : ℕ} {p p' : GrowProgress} {w : Work} → Working b t n m p → Worked b b' t' n m p' w → Keeps (stateOf b) w → p' .pushed + length (workIn b t n m p .over) ≡ length (w .over) + p .pushed
 pushed-by {b} {t} {b'} {t'} {n} {m} {p} {p'} {w} q x k =
     let e : length (overgrownOf (stateOf b') n) ≡ length (overgrownOf (stateOf b) n) = ap (λ (c : State). length (overgrownOf c n)) (x .block .state) ∙ ap (λ (l : List Overgrown). length l) (kept-overgrown k n) in
     let o : length (workIn b' t' n m p' .over) ≡ length (w .over) = ap (λ (y : Work). length (y .over)) (x .work) in
     omega (arith, over-length q, over-length (x .working))
 
-module _ {b t : List ℤ} {n m : ℕ} {p : Progress} (q : Working b t n m p) {b₁ : List ℤ} (g v : ℕ) (h : Becomes b b₁ (heldVertex (stateOf b) v n g)) where
+module _ {b t : List ℤ} {n m : ℕ} {p : GrowProgress} (q : Working b t n m p) {b₁ : List ℤ} (g v : ℕ) (h : Becomes b b₁ (heldVertex (stateOf b) v n g)) where
   pub held-working : Working b₁ t n m p
   held-working = work-block q h (kept-held-vertex (stateOf b) v n g .nodes) .working
 
@@ -104,7 +104,7 @@ module _ {b t : List ℤ} {n m : ℕ} {p : Progress} (q : Working b t n m p) {b�
   pub held-own : OwnKept b t n m p → OwnKept b₁ t n m p
   held-own o = rw (h .state) (unfold heldVertex in unfold withVertexGrandson in unfold withVertexHolder in unfold withVertices in o)
 
-  module _ {b₂ t₂ : List ℤ} {r : Progress} (x : Worked b₁ b₂ t₂ n m r (fold (takeSide n g) (workIn b₁ t n m p) (sidesAt (stateOf b₁) v))) where
+  module _ {b₂ t₂ : List ℤ} {r : GrowProgress} (x : Worked b₁ b₂ t₂ n m r (fold (takeSide n g) (workIn b₁ t n m p) (sidesAt (stateOf b₁) v))) where
     pub sided-worked : Worked b b₂ t₂ n m r (sided n g (workIn b t n m p) v)
     unfolding workIn
     sided-worked =
@@ -143,9 +143,9 @@ step-none : (n : ℕ) (w : Work) (s : ℕ) → vertexHolderAt (w .state) (endAt 
 unfolding takeStep
 step-none n w s h = rw (ne-eqb (vertexHolderAt (w .state) (endAt (w .state) (opposite s))) 0 h)
 
-module _ {b t : List ℤ} {n m : ℕ} {p : Progress} (q : Working b t n m p) (s o v : ℕ) (e : o ≡ opposite s) (f : v ≡ endAt (stateOf b) o) where
+module _ {b t : List ℤ} {n m : ℕ} {p : GrowProgress} (q : Working b t n m p) (s o v : ℕ) (e : o ≡ opposite s) (f : v ≡ endAt (stateOf b) o) where
   -- the vertex behind it is taken
-  pub step-taken : {b' t' : List ℤ} {r : Progress} (g : ℕ) → g ≡ grandsonAt (stateOf b) s → vertexHolderAt (stateOf b) v ≡ 0 → Worked b b' t' n m r (takeVertex n g (workIn b t n m p) v) → Worked b b' t' n m r (takeStep n (workIn b t n m p) s)
+  pub step-taken : {b' t' : List ℤ} {r : GrowProgress} (g : ℕ) → g ≡ grandsonAt (stateOf b) s → vertexHolderAt (stateOf b) v ≡ 0 → Worked b b' t' n m r (takeVertex n g (workIn b t n m p) v) → Worked b b' t' n m r (takeStep n (workIn b t n m p) s)
   unfolding workIn
   step-taken {b'} {t'} {r} g k z x =
       let y : vertexHolderAt (stateOf b) (endAt (stateOf b) (opposite s)) ≡ 0 = rw (← e, ← f) z in
@@ -201,21 +201,21 @@ keeping-take-step n w s = keeps-take-step (w .state) n w s (kept-refl (w .state)
 
 -- ---- the noted sides, of which i are done
 
-pub record Noting (b t₀ t : List ℤ) (n m : ℕ) (p₀ p : Progress) (i : ℕ) : Type 0 where
+pub record Noting (b t₀ t : List ℤ) (n m : ℕ) (p₀ p : GrowProgress) (i : ℕ) : Type 0 where
   pub own : OwnKept b t n m p
   pub noted : p .noted ≡ p₀ .noted
   pub same : numbersAt t m (p .noted) ≡ numbersAt t₀ m (p₀ .noted)
   pub pushed : p .pushed ≤ i
 
-pub noting-none : {b t : List ℤ} {n m : ℕ} {p : Progress} → OwnKept b t n m p → p .pushed ≡ 0 → Noting b t t n m p p 0
+pub noting-none : {b t : List ℤ} {n m : ℕ} {p : GrowProgress} → OwnKept b t n m p → p .pushed ≡ 0 → Noting b t t n m p p 0
 noting-none o e = record { own = o; noted = refl; same = refl; pushed = omega arith }
 
-module _ {b t₀ t : List ℤ} {n m : ℕ} {p₀ p : Progress} {i : ℕ} (q : Working b t n m p) (k : Noting b t₀ t n m p₀ p i) where
+module _ {b t₀ t : List ℤ} {n m : ℕ} {p₀ p : GrowProgress} {i : ℕ} (q : Working b t n m p) (k : Noting b t₀ t n m p₀ p i) where
   -- the next one
   pub noting-side : (s : ℕ) → s ≡ wordAt t (m + i) → i < p₀ .noted → s ≡ getD (numbersAt t₀ m (p₀ .noted)) i 0
   noting-side s e h = e ∙ sym (numbers-entry t m (p .noted) i (rw (k .noted) h)) ∙ ap (λ (l : List ℕ). getD l i 0) (k .same)
 
-  pub noting-more : {b' t' : List ℤ} {r : Progress} (s : ℕ) → Worked b b' t' n m r (takeStep n (workIn b t n m p) s) → Noting b' t₀ t' n m p₀ r (i + 1)
+  pub noting-more : {b' t' : List ℤ} {r : GrowProgress} (s : ℕ) → Worked b b' t' n m r (takeStep n (workIn b t n m p) s) → Noting b' t₀ t' n m p₀ r (i + 1)
   noting-more {b'} {t'} {r} s x =
       let same : numbersAt t' m (r .noted) ≡ numbersAt t m (p .noted) = unfold workIn in (ap (λ (w : Work). w .noted) (x .work) ∙ noted-take-step n (workIn b t n m p) s) in
       let keeps : Keeps (stateOf b) (takeStep n (workIn b t n m p) s) = unfold workIn in keeping-take-step n (workIn b t n m p) s in

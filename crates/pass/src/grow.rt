@@ -13,10 +13,10 @@ ghost use Rattle.pass.specs.Work.{finishPass};
 ghost use Rattle.pass.specs.Grow.{reaches, growStep, growScanned, growPass};
 ghost use Rattle.pass.specs.Scratch.{zeroScratch};
 ghost use Rattle.pass.specs.Ready.{Ready, Growable, AfterPass};
-ghost use Rattle.pass.specs.Memory.{workIn, Working, Worked};
+ghost use Rattle.pass.specs.Growing.{workIn, Working, Worked};
 use crate::scratch;
 use crate::take;
-use crate::take::Progress;
+use crate::take::GrowProgress;
 
 // Whether the edge of side s is full, its far side free, and the far vertex not virtual.
 fn reaches(b: &[i64], s: usize) -> bool
@@ -60,14 +60,21 @@ fn hold_far(b: &mut [i64], n: usize, s: usize)
 }
 
 // A boundary side s: the far side is taken and the side noted, or the side is kept.
-fn grow_step(b: &mut [i64], t: &mut [i64], n: usize, m: usize, s: usize, p: Progress) -> Progress
+fn grow_step(
+    b: &mut [i64],
+    t: &mut [i64],
+    n: usize,
+    m: usize,
+    s: usize,
+    p: GrowProgress,
+) -> GrowProgress
     requires { ⌜ Working (now b) (now t) n m p × (s < m) × (p .kept + p .noted < m) ⌝ }
     ensures { λ r. ⌜ Worked (now (b .entry)) (now (b .exit)) (now (t .exit)) n m r (growStep n (workIn (now (b .entry)) (now (t .entry)) n m p) s) ⌝ }
 {
     if reaches(b, s) {
         hold_far(b, n, s);
         graph::words::put(t, m + p.noted, s);
-        Progress {
+        GrowProgress {
             kept: p.kept,
             noted: p.noted + 1,
             pushed: p.pushed,
@@ -75,7 +82,7 @@ fn grow_step(b: &mut [i64], t: &mut [i64], n: usize, m: usize, s: usize, p: Prog
         }
     } else {
         graph::words::put(t, p.kept, s);
-        Progress {
+        GrowProgress {
             kept: p.kept + 1,
             noted: p.noted,
             pushed: p.pushed,
@@ -85,13 +92,13 @@ fn grow_step(b: &mut [i64], t: &mut [i64], n: usize, m: usize, s: usize, p: Prog
 }
 
 // The boundary of node n, side by side.
-fn grow_scan(b: &mut [i64], t: &mut [i64], n: usize, m: usize) -> Progress
+fn grow_scan(b: &mut [i64], t: &mut [i64], n: usize, m: usize) -> GrowProgress
     requires { ⌜ Formed (now b) × (n < nodeCount (stateOf (now b))) × (sideCount (stateOf (now b)) ≡ m) × (now t ≡ zeroScratch (3 * m)) × (sidesOk (stateOf (now b)) n ≡ true) × (length (boundaryOf (stateOf (now b)) n) ≤ m) ⌝ }
     ensures { λ r. ⌜ Worked (now (b .entry)) (now (b .exit)) (now (t .exit)) n m r (growScanned (stateOf (now (b .entry))) n) ⌝ }
 {
     let l = graph::lists::boundary_len(b, n);
     let mut i = 0;
-    let mut q = Progress {
+    let mut q = GrowProgress {
         kept: 0,
         noted: 0,
         pushed: 0,
@@ -106,7 +113,7 @@ fn grow_scan(b: &mut [i64], t: &mut [i64], n: usize, m: usize) -> Progress
 }
 
 // The pass up to its end: over the boundary, then over what was noted.
-fn grow_work(b: &mut [i64], t: &mut [i64], n: usize, m: usize) -> Progress
+fn grow_work(b: &mut [i64], t: &mut [i64], n: usize, m: usize) -> GrowProgress
     requires { ⌜ Ready (now b) (now t) n × Growable (stateOf (now b)) n × (sideCount (stateOf (now b)) ≡ m) ⌝ }
     ensures { λ r. ⌜ Worked (now (b .entry)) (now (b .exit)) (now (t .exit)) n m r (growPass (stateOf (now (b .entry))) n) ⌝ }
 {
@@ -115,7 +122,7 @@ fn grow_work(b: &mut [i64], t: &mut [i64], n: usize, m: usize) -> Progress
 }
 
 // The end of the pass: the lists of node n are written, and the scratch is cleared.
-fn finish(b: &mut [i64], t: &mut [i64], n: usize, m: usize, p: Progress)
+fn finish(b: &mut [i64], t: &mut [i64], n: usize, m: usize, p: GrowProgress)
     requires { ⌜ Working (now b) (now t) n m p × (entries (stateOf (now b)) + (p .kept + length (overgrownOf (stateOf (now b)) n) + p .pushed) ≤ stateOf (now b) .storeLimit + entriesOf (stateOf (now b)) n) ⌝ }
     ensures { λ r. ⌜ Becomes (now (b .entry)) (now (b .exit)) (finishPass (workIn (now (b .entry)) (now (t .entry)) n m p) n) × (now (t .exit) ≡ zeroScratch (3 * m)) ⌝ }
 {

@@ -6,7 +6,7 @@ use lib.ListN.{getD}
 use Rattle.graph.specs.State.{boundaryOf}
 use Rattle.graph.specs.Layout.{stateOf}
 use Rattle.pass.specs.Grow.{growStep}
-use Rattle.pass.specs.MemoryLaws.{Looped, loop-none, loop-more, loop-all, kept-boundary}
+use Rattle.pass.specs.GrowingLaws.{Looped, loop-none, loop-more, loop-all, kept-boundary}
 use Rattle.pass.specs.GrowLaws.{nothing, start-working, scan-sides, scan-all, step-count, keeping-grow-step}
 use borrow.Author.Needs.{needs}
 use Rattle.pass.proofs.grow.grow_scan.Statement.{statement}

@@ -2,7 +2,7 @@ use native.Mathlib.Omega.{arith}
 use Prim.Native.Nat.{_-_}
 use Rattle.graph.specs.Word.{numbersAt}
 use Rattle.pass.specs.Grow.{takeStep}
-use Rattle.pass.specs.MemoryLaws.{Looped, loop-none, loop-more, loop-all, noted-length}
+use Rattle.pass.specs.GrowingLaws.{Looped, loop-none, loop-more, loop-all, noted-length}
 use Rattle.pass.specs.TakeLaws.{Noting, noting-none, noting-side, noting-more, noted-below, keeping-take-step}
 use borrow.Author.Needs.{needs}
 use Rattle.pass.proofs.take.take_noted.Statement.{statement}

@@ -1,7 +1,7 @@
 use Prim.Native.Nat.{ℕ}
 use mathlib.Core.List.{List}
 use lib.ListN.{getD}
-use Rattle.pass.specs.MemoryLaws.{kept-sides}
+use Rattle.pass.specs.GrowingLaws.{kept-sides}
 use borrow.Author.Needs.{needs}
 use native.Mathlib.Omega.{arith}
 use mathlib.Core.Path.{ap, _∙_}
@@ -9,8 +9,8 @@ use Prim.Native.Nat.{_-_}
 use Rattle.graph.specs.State.{sidesAt}
 use Rattle.graph.specs.Layout.{stateOf}
 use Rattle.pass.specs.Grow.{takeSide}
-use Rattle.pass.specs.Memory.{OwnKept}
-use Rattle.pass.specs.MemoryLaws.{Looped, loop-none, loop-more, loop-all}
+use Rattle.pass.specs.Growing.{OwnKept}
+use Rattle.pass.specs.GrowingLaws.{Looped, loop-none, loop-more, loop-all}
 use Rattle.pass.specs.TakeLaws.{keeping-take-side, own-taken}
 use Rattle.pass.proofs.take.take_sides.Statement.{statement}
 use Rattle.pass.proofs.take.take_sides.Tie as tie
