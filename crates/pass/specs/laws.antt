@@ -2,8 +2,9 @@
 pub mod Counts
 pub mod Fits
 pub mod Form
+pub mod Grow
 pub mod GrowSound
-pub mod Memory
+pub mod Growing
 pub mod Passes
 pub mod Prepare
 pub mod Preparing

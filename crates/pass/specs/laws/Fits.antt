@@ -190,7 +190,7 @@ taken-step n m k c z w s p =
     (λ e. p)
 
 -- the boundary loop leaves the vertices and the stack alone
-still-grow-step : (x : Vertices) (o : List Overgrown) (n : ℕ) (w : Work) (s : ℕ) → Still x o w → Still x o (growStep n w s)
+pub still-grow-step : (x : Vertices) (o : List Overgrown) (n : ℕ) (w : Work) (s : ℕ) → Still x o w → Still x o (growStep n w s)
 unfolding growStep note keep onState heldSide withGrandson withHolder withSides
 still-grow-step x o n w s p = if-both (Still x o) (reaches (w .state) s) p p
 

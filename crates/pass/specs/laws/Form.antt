@@ -1,12 +1,11 @@
 -- What a block in form has: the lengths of its state's lists.
-use Prim.Native.Nat.{ℕ, zero, suc, _+_, _-_, _*_, _%_, _/_, _≤_, _<_}
+use Prim.Native.Nat.{ℕ, zero, suc, _+_, _*_, _/_, _≤_}
 use native.Mathlib.Omega.{arith}
 use mathlib.Core.Path.{_≡_, refl, sym, ap, _∙_}
-use mathlib.Core.List.{List, [], _∷_, map}
+use mathlib.Core.List.{List, [], _∷_}
 use lib.IntN.{ℤ}
 use lib.ListN.{length, getD, take, drop, length-map, length-take}
-use Rattle.graph.specs.State.{State, vertexCount, edgeCount, sideCount, nodeCount}
-use Rattle.graph.specs.Word.{wordAt}
+use Rattle.graph.specs.State.{vertexCount, nodeCount}
 use Rattle.graph.specs.Rows.{offset}
 use Rattle.graph.specs.Layout.{stateOf, stateFrom, rowsOf, row, classFrom, stretches, boundaries, stacks, countOf, nOf}
 use Rattle.graph.specs.Form.{Laid, Formed}

@@ -1,7 +1,6 @@
 use mathlib.Core.Path.{ap}
 use lib.Dec.{eqb}
-use borrow.Author.Tests.{eq-eqb, ne-eqb}
-use mathlib.Core.Path.{_≡_, refl, sym, _∙_}
+use mathlib.Core.Path.{sym, _∙_}
 use Rattle.pass.specs.laws.Take.{take-free, take-held}
 use borrow.Author.Needs.{needs}
 use Rattle.pass.proofs.take.take_side.Statement.{statement}

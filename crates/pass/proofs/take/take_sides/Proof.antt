@@ -1,16 +1,16 @@
 use Prim.Native.Nat.{ℕ}
 use mathlib.Core.List.{List}
 use lib.ListN.{getD}
-use Rattle.pass.specs.laws.Memory.{kept-sides}
+use Rattle.pass.specs.laws.Growing.{kept-sides}
 use borrow.Author.Needs.{needs}
 use native.Mathlib.Omega.{arith}
-use mathlib.Core.Path.{_≡_, refl, sym, ap, _∙_}
+use mathlib.Core.Path.{ap, _∙_}
 use Prim.Native.Nat.{_-_}
-use Rattle.graph.specs.State.{State, sidesAt}
+use Rattle.graph.specs.State.{sidesAt}
 use Rattle.graph.specs.Layout.{stateOf}
 use Rattle.pass.specs.Grow.{takeSide}
-use Rattle.pass.specs.Memory.{OwnKept}
-use Rattle.pass.specs.laws.Memory.{Looped, loop-none, loop-more, loop-all}
+use Rattle.pass.specs.Growing.{OwnKept}
+use Rattle.pass.specs.laws.Growing.{Looped, loop-none, loop-more, loop-all}
 use Rattle.pass.specs.laws.Take.{keeping-take-side, own-taken}
 use Rattle.pass.proofs.take.take_sides.Statement.{statement}
 use Rattle.pass.proofs.take.take_sides.Tie as tie

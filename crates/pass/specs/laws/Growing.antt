@@ -1,17 +1,17 @@
 -- Laws of the work in memory: the small changes, one after another.
-use Prim.Native.Nat.{ℕ, zero, suc, _+_, _-_, _*_, _/_, _%_, _≤_, _<_}
+use Prim.Native.Nat.{ℕ, _+_, _*_, _/_, _%_, _≤_, _<_}
 use native.Mathlib.Omega.{arith}
 use mathlib.Core.Path.{_≡_, refl, sym, ap, subst, _∙_}
-use mathlib.Core.Bool.{Bool, true, false, _||_}
+use mathlib.Core.Bool.{Bool, _||_}
 use mathlib.Core.List.{List, [], _∷_, _++_, reverse-append}
 use lib.IntN.{ℤ, pos}
 use lib.ListN.{length, set, getD, take, length-append}
-use Rattle.graph.specs.State.{State, Graph, Nodes, Overgrown, sidesAt, boundaryOf, sideCount, nodeCount, overgrownOf}
+use Rattle.graph.specs.State.{State, Graph, Nodes, sidesAt, boundaryOf, overgrownOf}
 use Rattle.graph.specs.Word.{numbersAt}
 use Rattle.graph.specs.Layout.{overgrownFrom, stackFrom, stateOf}
-use Rattle.graph.specs.Form.{Formed, Becomes}
+use Rattle.graph.specs.Form.{Becomes}
 use Rattle.graph.specs.laws.Row.{becomes-none, becomes-then}
-use Rattle.graph.specs.laws.Number.{numbers-none, numbers-push, numbers-still-above, numbers-still-below, numbers-length}
+use Rattle.graph.specs.laws.Number.{numbers-push, numbers-still-above, numbers-still-below, numbers-length}
 use Rattle.graph.specs.laws.List.{length-stack}
 use Rattle.graph.specs.Basic.{fold}
 use Rattle.graph.specs.laws.State.{Kept, kept-refl, kept-trans, fold-more, fold-done}
@@ -19,8 +19,8 @@ use Rattle.pass.specs.Work.{Work, onState, keep, note, push, callAnother
 use Rattle.pass.specs.Scratch.{Holding}
 use Rattle.pass.specs.laws.Scratch.{hold-first, hold-second, hold-third}
 use Rattle.pass.specs.laws.Passes.{Keeps}
-use Rattle.pass.specs.Memory.{workIn, Working, Worked}
-use Rattle.pass.specs.declared.take.Progress.{Progress}
+use Rattle.pass.specs.Growing.{workIn, Working, Worked}
+use Rattle.pass.specs.declared.take.GrowProgress.{GrowProgress}
 
 -- lists that the loops leave alone
 module _ {c d : State} (k : Kept c d) where
@@ -42,12 +42,12 @@ stack-push l v h =
     rw (reverse-append l (v ∷ []), x, y)
 
 -- one change after another
-pub worked-then : {b₀ b₁ b₂ t₁ t₂ : List ℤ} {n m : ℕ} {p₁ p₂ : Progress} {w : Work} (f : Work → Work) → Worked b₀ b₁ t₁ n m p₁ w → Worked b₁ b₂ t₂ n m p₂ (f (workIn b₁ t₁ n m p₁)) → Worked b₀ b₂ t₂ n m p₂ (f w)
+pub worked-then : {b₀ b₁ b₂ t₁ t₂ : List ℤ} {n m : ℕ} {p₁ p₂ : GrowProgress} {w : Work} (f : Work → Work) → Worked b₀ b₁ t₁ n m p₁ w → Worked b₁ b₂ t₂ n m p₂ (f (workIn b₁ t₁ n m p₁)) → Worked b₀ b₂ t₂ n m p₂ (f w)
 worked-then {b₁ = b₁} {b₂} {t₂ = t₂} {n} {m} {p₂ = p₂} f x y =
     let z = subst (λ w. Worked b₁ b₂ t₂ n m p₂ (f w)) (x .work) y in
     record { block = becomes-then (x .block) (z .block); working = z .working; work = z .work }
 
-module _ {b t : List ℤ} {n m : ℕ} {p : Progress} (q : Working b t n m p) where
+module _ {b t : List ℤ} {n m : ℕ} {p : GrowProgress} (q : Working b t n m p) where
   -- how long the sections are
   pub kept-length : length (numbersAt t 0 (p .kept)) ≡ p .kept
   kept-length = numbers-length t 0 (p .kept) (omega (arith, q .kept, q .holding .size))
@@ -142,12 +142,12 @@ module _ {b t : List ℤ} {n m : ℕ} {p : Progress} (q : Working b t n m p) whe
 -- ---- loops
 
 -- f was done with the first i entries of l, from the work that b₀ and t₀ had
-pub record Looped (f : Work → ℕ → Work) (b₀ t₀ b t : List ℤ) (n m : ℕ) (p₀ p : Progress) (l : List ℕ) (i : ℕ) : Type 0 where
+pub record Looped (f : Work → ℕ → Work) (b₀ t₀ b t : List ℤ) (n m : ℕ) (p₀ p : GrowProgress) (l : List ℕ) (i : ℕ) : Type 0 where
   pub below : i ≤ length l
   pub kept : Kept (stateOf b₀) (stateOf b)
   pub worked : Worked b₀ b t n m p (fold f (workIn b₀ t₀ n m p₀) (take i l))
 
-pub loop-none : (f : Work → ℕ → Work) {b t : List ℤ} {n m : ℕ} {p : Progress} (l : List ℕ) → Working b t n m p → Looped f b t b t n m p p l 0
+pub loop-none : (f : Work → ℕ → Work) {b t : List ℤ} {n m : ℕ} {p : GrowProgress} (l : List ℕ) → Working b t n m p → Looped f b t b t n m p p l 0
 unfolding fold
 loop-none f {b} l q = record { below = omega arith; kept = kept-refl (stateOf b); worked = work-none q }
 
@@ -155,8 +155,8 @@ loop-none f {b} l q = record { below = omega arith; kept = kept-refl (stateOf b)
 abbrev pub Keeping : (Work → ℕ → Work) → Type 0
 Keeping f = (w : Work) (s : ℕ) → Keeps (w .state) (f w s)
 
-module _ {f : Work → ℕ → Work} {b₀ t₀ b t : List ℤ} {n m : ℕ} {p₀ p : Progress} {l : List ℕ} {i : ℕ} (q : Looped f b₀ t₀ b t n m p₀ p l i) where
-  pub loop-more : {b' t' : List ℤ} {p' : Progress} (s : ℕ) → Keeping f → i < length l → s ≡ getD l i 0 → Worked b b' t' n m p' (f (workIn b t n m p) s) → Looped f b₀ t₀ b' t' n m p₀ p' l (i + 1)
+module _ {f : Work → ℕ → Work} {b₀ t₀ b t : List ℤ} {n m : ℕ} {p₀ p : GrowProgress} {l : List ℕ} {i : ℕ} (q : Looped f b₀ t₀ b t n m p₀ p l i) where
+  pub loop-more : {b' t' : List ℤ} {p' : GrowProgress} (s : ℕ) → Keeping f → i < length l → s ≡ getD l i 0 → Worked b b' t' n m p' (f (workIn b t n m p) s) → Looped f b₀ t₀ b' t' n m p₀ p' l (i + 1)
   loop-more {b'} {t'} {p'} s keeping h e x =
       let k : Kept (stateOf b) (f (workIn b t n m p) s .state) = unfold workIn in keeping (workIn b t n m p) s in
       let z : f (fold f (workIn b₀ t₀ n m p₀) (take i l)) s ≡ fold f (workIn b₀ t₀ n m p₀) (take (i + 1) l) = rw e (sym (fold-more f (workIn b₀ t₀ n m p₀) l i 0 h)) in

@@ -10,10 +10,10 @@ use Rattle.graph.specs.Form.{Formed, Becomes}
 use Rattle.pass.specs.Work.{Work}
 use Rattle.pass.specs.Scratch.{Holding}
 use Rattle.pass.specs.laws.Fits.{OwnSides}
-use Rattle.pass.specs.declared.take.Progress.{Progress}
+use Rattle.pass.specs.declared.take.GrowProgress.{GrowProgress}
 
 -- the work of a pass over node n that block b and scratch t have: m is the number of sides, and p how many entries each section has
-unfoldable pub workIn : List ℤ → List ℤ → ℕ → ℕ → Progress → Work
+unfoldable pub workIn : List ℤ → List ℤ → ℕ → ℕ → GrowProgress → Work
 workIn b t n m p = record {
   state = stateOf b;
   kept = numbersAt t 0 (p .kept);
@@ -23,7 +23,7 @@ workIn b t n m p = record {
 }
 
 -- block and scratch have a work: all else in the scratch is zero
-pub record Working (b t : List ℤ) (n m : ℕ) (p : Progress) : Type 0 where
+pub record Working (b t : List ℤ) (n m : ℕ) (p : GrowProgress) : Type 0 where
   pub formed : Formed b
   pub node : n < nodeCount (stateOf b)
   pub sides : sideCount (stateOf b) ≡ m
@@ -33,11 +33,11 @@ pub record Working (b t : List ℤ) (n m : ℕ) (p : Progress) : Type 0 where
   pub holding : Holding t m (numbersAt t 0 (p .kept)) (numbersAt t m (p .noted)) (numbersAt t (2 * m) (p .pushed))
 
 -- after b₀, block and scratch have the work w
-pub record Worked (b₀ b t : List ℤ) (n m : ℕ) (p : Progress) (w : Work) : Type 0 where
+pub record Worked (b₀ b t : List ℤ) (n m : ℕ) (p : GrowProgress) (w : Work) : Type 0 where
   pub block : Becomes b₀ b (w .state)
   pub working : Working b t n m p
   pub work : workIn b t n m p ≡ w
 
 -- the kept sides are sides that node n holds, each once
-abbrev pub OwnKept : List ℤ → List ℤ → ℕ → ℕ → Progress → Type 0
+abbrev pub OwnKept : List ℤ → List ℤ → ℕ → ℕ → GrowProgress → Type 0
 OwnKept b t n m p = OwnSides n m (stateOf b) (numbersAt t 0 (p .kept))
