@@ -1,0 +1,27 @@
+use native.Mathlib.Omega.{arith}
+use mathlib.Core.Path.{_≡_, refl, sym, _∙_}
+use Rattle.pass.specs.ShrinkingLaws.{does-note}
+use borrow.Author.Needs.{needs}
+use Rattle.pass.proofs.keep.note.Statement.{statement}
+use Rattle.pass.proofs.keep.note.Tie as tie
+use Rattle.pass.proofs.keep.note.Reads as reads
+use Rattle.pass.proofs.keep.note.Lts as lts
+use Rattle.graph.proofs.words.put.Reads as put-reads
+
+add-put : tie.Need-add-put
+add-put c = search needs
+
+put-requires : tie.Need-put-requires
+put-requires c κs = search needs
+
+add-t8 : tie.Need-add-t8
+add-t8 c = search needs
+
+same-length : tie.Need-same-length
+same-length c = search needs
+
+returns : tie.Need-returns
+returns c = λ b h q. rw (c .before .before .put .ensures) (does-note q _ h (omega arith))
+
+pub note-spec : {M : Type 1} → statement M
+note-spec = tie.close (tie.spec add-put put-requires add-t8 same-length returns)
