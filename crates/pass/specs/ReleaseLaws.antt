@@ -40,40 +40,40 @@ module _ {b t : List ℤ} {m : ℕ} {p : Progress} (q : Busy b t m p) where
   does-drop-side s z e k f =
       let freed = does-free-side s e in
       let kept = does-then freed (f (freed .busy)) in
-      does-same (λ w. dropSide w s) (λ w h. rw (← h, k)) (does-then kept (does-call (kept .busy) z))
+      does-same (λ w. dropSide w s) (λ w h. rw (← h .state, k)) (does-then kept (does-call (kept .busy) z))
 
   -- a vertex that goes, with its sides
   pub does-part-vertex : {b' b'' t'' : List ℤ} {p' : Progress} (d : Bool) (n v : ℕ) → Becomes b b' (freeVertex (stateOf b) v) → (Busy b' t m p → Does b' t b'' t'' m p p' (λ w. fold (partSide d n) w (sidesAt (stateOf b') v))) → Does b t b'' t'' m p p' (λ w. partVertex d n w v)
   unfolding partVertex
   does-part-vertex d n v e f =
       let freed = does-free-vertex v e in
-      does-same (λ w. partVertex d n w v) (λ w h. rw (same-sides v (freed .keeps), h)) (does-then freed (f (freed .busy)))
+      does-same (λ w. partVertex d n w v) (λ w h. rw (same-sides v (freed .keeps), h .state)) (does-then freed (f (freed .busy)))
 
 module _ {b t b' t' : List ℤ} {m : ℕ} {p p' : Progress} (n : ℕ) where
   -- a side of it, by what the test says
   pub does-part-drop : (d : Bool) (s : ℕ) → (d || closed n (stateOf b) s) ≡ true → Does b t b' t' m p p' (λ w. dropSide w s) → Does b t b' t' m p p' (λ w. partSide d n w s)
   unfolding partSide
-  does-part-drop d s h q = does-same (λ w. partSide d n w s) (λ w e. rw (← e, h)) q
+  does-part-drop d s h q = does-same (λ w. partSide d n w s) (λ w e. rw (← e .state, h)) q
 
   pub does-part-free : (d : Bool) (s : ℕ) → (d || closed n (stateOf b) s) ≡ false → Does b t b' t' m p p' (λ w. onState w (freeSide (w .state) s)) → Does b t b' t' m p p' (λ w. partSide d n w s)
   unfolding partSide
-  does-part-free d s h q = does-same (λ w. partSide d n w s) (λ w e. rw (← e, h)) q
+  does-part-free d s h q = does-same (λ w. partSide d n w s) (λ w e. rw (← e .state, h)) q
 
   -- a vertex that is taken off the overgrown stack, and one that is released
   pub does-drop : (v : ℕ) → vertexHolderAt (stateOf b) v ≡ n + 1 → Does b t b' t' m p p' (λ w. partVertex true n w v) → Does b t b' t' m p p' (λ w. dropStep n w v)
   unfolding dropStep partVertex partSide
-  does-drop v h q = does-same (λ w. dropStep n w v) (λ w e. rw (← e, eq-eqb _ _ h)) q
+  does-drop v h q = does-same (λ w. dropStep n w v) (λ w e. rw (← e .state, eq-eqb _ _ h)) q
 
   pub does-release : (v : ℕ) → vertexHolderAt (stateOf b) v ≢ 0 → Does b t b' t' m p p' (λ w. partVertex false n w v) → Does b t b' t' m p p' (λ w. releaseStep n w v)
   unfolding releaseStep partVertex partSide releaseSide dropSide
-  does-release v h q = does-same (λ w. releaseStep n w v) (λ w e. rw (← e, ne-eqb _ _ h)) q
+  does-release v h q = does-same (λ w. releaseStep n w v) (λ w e. rw (← e .state, ne-eqb _ _ h)) q
 
 -- neither
 module _ {b t : List ℤ} {m : ℕ} {p : Progress} (q : Busy b t m p) (n v : ℕ) where
   pub does-no-drop : vertexHolderAt (stateOf b) v ≢ n + 1 → Does b t b t m p p (λ w. dropStep n w v)
   unfolding dropStep
-  does-no-drop h = does-same (λ w. dropStep n w v) (λ w e. rw (← e, ne-eqb _ _ h)) (does-none q)
+  does-no-drop h = does-same (λ w. dropStep n w v) (λ w e. rw (← e .state, ne-eqb _ _ h)) (does-none q)
 
   pub does-no-release : vertexHolderAt (stateOf b) v ≡ 0 → Does b t b t m p p (λ w. releaseStep n w v)
   unfolding releaseStep
-  does-no-release h = does-same (λ w. releaseStep n w v) (λ w e. rw (← e, eq-eqb _ _ h)) (does-none q)
+  does-no-release h = does-same (λ w. releaseStep n w v) (λ w e. rw (← e .state, eq-eqb _ _ h)) (does-none q)

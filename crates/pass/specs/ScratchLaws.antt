@@ -1,5 +1,6 @@
 -- Laws of the scratch: an entry more in a section, an entry read, a section cleared.
 use Prim.Native.Nat.{ℕ, zero, suc, _+_, _-_, _*_, _≤_, _<_}
+use native.Mathlib.Numerals.{add-one}
 use native.Mathlib.Omega.{arith}
 use native.Mathlib.Decide.{ℕ-discrete as decEq}
 use mathlib.Core.Path.{_≡_, refl, sym, ap, _∙_}
@@ -314,3 +315,12 @@ module _ {t : List ℤ} {m : ℕ} {a b c : List ℕ} (h : Holding t m a b c) whe
 
   pub wipe-third : Holding (wiped t (2 * m) (length c)) m a b []
   wipe-third = drop-third (wiping-third (length c) (omega arith)) (length c) (zeroed-all c)
+
+-- nothing is wiped, and one word more is
+pub wipe-none : (t : List ℤ) (p : ℕ) → t ≡ wiped t p 0
+unfolding wiped
+wipe-none t p = refl
+
+pub wipe-more : (t : List ℤ) (p i : ℕ) → set (wiped t p i) (p + i) (pos 0) ≡ wiped t p (i + 1)
+unfolding wiped
+wipe-more t p i = rw add-one

@@ -36,9 +36,9 @@ does-none {b} q = record { block = becomes-none b (stateOf b) (q .formed) refl; 
 pub does-then : {b₀ t₀ b₁ t₁ b₂ t₂ : List ℤ} {m : ℕ} {p₀ p₁ p₂ : Progress} {f g : Work → Work} → Does b₀ t₀ b₁ t₁ m p₀ p₁ f → Does b₁ t₁ b₂ t₂ m p₁ p₂ g → Does b₀ t₀ b₂ t₂ m p₀ p₂ (λ w. g (f w))
 does-then {f = f} d e = record { block = becomes-then (d .block) (e .block); keeps = kept-trans (d .keeps) (e .keeps); busy = e .busy; run = λ w h. e .run (f w) (d .run w h) }
 
--- the same change by another definition, where the state before is known
-pub does-same : {b₀ t₀ b t : List ℤ} {m : ℕ} {p₀ p : Progress} {f : Work → Work} (g : Work → Work) → ((w : Work) → stateOf b₀ ≡ w .state → f w ≡ g w) → Does b₀ t₀ b t m p₀ p f → Does b₀ t₀ b t m p₀ p g
-does-same {b = b} {t = t} {m = m} {p = p} g e d = record { block = d .block; keeps = d .keeps; busy = d .busy; run = λ w h. subst (Shrinking b t m p) (e w (h .state)) (d .run w h) }
+-- the same change by another definition
+pub does-same : {b₀ t₀ b t : List ℤ} {m : ℕ} {p₀ p : Progress} {f : Work → Work} (g : Work → Work) → ((w : Work) → Shrinking b₀ t₀ m p₀ w → f w ≡ g w) → Does b₀ t₀ b t m p₀ p f → Does b₀ t₀ b t m p₀ p g
+does-same {b = b} {t = t} {m = m} {p = p} g e d = record { block = d .block; keeps = d .keeps; busy = d .busy; run = λ w h. subst (Shrinking b t m p) (e w h) (d .run w h) }
 
 -- ---- loops
 

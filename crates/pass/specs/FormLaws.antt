@@ -1,0 +1,74 @@
+-- What a block in form has: the lengths of its state's lists.
+use Prim.Native.Nat.{ℕ, zero, suc, _+_, _-_, _*_, _%_, _/_, _≤_, _<_}
+use native.Mathlib.Omega.{arith}
+use mathlib.Core.Path.{_≡_, refl, sym, ap, _∙_}
+use mathlib.Core.List.{List, [], _∷_, map}
+use lib.IntN.{ℤ}
+use lib.ListN.{length, getD, take, drop, length-map, length-take}
+use Rattle.graph.specs.State.{State, vertexCount, edgeCount, sideCount, nodeCount}
+use Rattle.graph.specs.Word.{wordAt}
+use Rattle.graph.specs.Rows.{offset}
+use Rattle.graph.specs.Layout.{stateOf, stateFrom, rowsOf, row, classFrom, stretches, boundaries, stacks, countOf, nOf}
+use Rattle.graph.specs.Form.{Laid, Formed}
+use Rattle.graph.specs.Shape.{Shape}
+use Rattle.graph.specs.RowLaws.{rows-length, header-get}
+
+length-stretches : (fs l : List ℕ) → length (stretches fs l) ≡ length fs
+unfolding stretches
+length-stretches [] l = refl
+length-stretches (f ∷ fs) l = ap suc (length-stretches fs l)
+
+length-boundaries : (bs os l : List ℕ) (k : ℕ) → length bs ≡ k → length os ≡ k → length (boundaries bs os l) ≡ k
+unfolding boundaries
+length-boundaries [] os l k x y = x
+length-boundaries (b ∷ bs) [] l k x y = absurd (omega arith)
+length-boundaries (b ∷ bs) (o ∷ os) l zero x y = absurd (omega arith)
+length-boundaries (b ∷ bs) (o ∷ os) l (suc k) x y = ap suc (length-boundaries bs os (drop (b + o) l) k (omega arith) (omega arith))
+
+length-stacks : (bs os l : List ℕ) (k : ℕ) → length bs ≡ k → length os ≡ k → length (stacks bs os l) ≡ k
+unfolding stacks
+length-stacks [] os l k x y = x
+length-stacks (b ∷ bs) [] l k x y = absurd (omega arith)
+length-stacks (b ∷ bs) (o ∷ os) l zero x y = absurd (omega arith)
+length-stacks (b ∷ bs) (o ∷ os) l (suc k) x y = ap suc (length-stacks bs os (drop (b + o) l) k (omega arith) (omega arith))
+
+-- a row over nodes, cut at the number of nodes
+cut-length : (b : List ℤ) (l : List ℕ) → Laid b → length l ≡ nOf b → length (take (getD (row (rowsOf b) 0) 4 0) l) ≡ nodeCount (stateOf b)
+unfolding Laid
+cut-length b l q e =
+    let c : getD (row (rowsOf b) 0) 4 0 ≡ countOf b = header-get b 4 (omega arith) in
+    length-take (getD (row (rowsOf b) 0) 4 0) l ∙ omega (arith, q .counted .nodes, q .counted .count-max)
+
+pub laid-shape : (b : List ℤ) → Laid b → Shape (stateOf b)
+unfolding Laid stateOf stateFrom offset
+laid-shape b q =
+    let count : ℕ = getD (row (rowsOf b) 0) 4 0 in
+    let k = q .counted in
+    let bs : length (take count (row (rowsOf b) 16)) ≡ nodeCount (stateOf b) = cut-length b (row (rowsOf b) 16) q (rows-length b 16 (omega arith)) in
+    let os : length (take count (row (rowsOf b) 17)) ≡ nodeCount (stateOf b) = cut-length b (row (rowsOf b) 17) q (rows-length b 17 (omega arith)) in
+    record {
+      end = k .sides ∙ ap (λ e. 2 * e) (sym (k .edges));
+      at = length-stretches (row (rowsOf b) 4) (row (rowsOf b) 9) ∙ rows-length b 4 (omega arith) ∙ sym (k .vertices);
+      defect = length-map (row (rowsOf b) 1) (λ x. x / 2) ∙ rows-length b 1 (omega arith) ∙ sym (k .vertices);
+      vertexHolder = rows-length b 2 (omega arith) ∙ sym (k .vertices);
+      vertexGrandson = rows-length b 3 (omega arith) ∙ sym (k .vertices);
+      growth = rows-length b 6 (omega arith) ∙ sym (k .sides);
+      holder = rows-length b 7 (omega arith) ∙ sym (k .sides);
+      grandson = rows-length b 8 (omega arith) ∙ sym (k .sides);
+      class = length-map (take count (row (rowsOf b) 11)) (classFrom (getD (row (rowsOf b) 0) 0 0)) ∙ cut-length b (row (rowsOf b) 11) q (rows-length b 11 (omega arith));
+      parent = cut-length b (row (rowsOf b) 13) q (rows-length b 13 (omega arith));
+      dual = cut-length b (row (rowsOf b) 14) q (rows-length b 14 (omega arith));
+      boundary = length-boundaries (take count (row (rowsOf b) 16)) (take count (row (rowsOf b) 17)) (row (rowsOf b) 18) (nodeCount (stateOf b)) bs os;
+      overgrown = length-stacks (take count (row (rowsOf b) 16)) (take count (row (rowsOf b) 17)) (row (rowsOf b) 18) (nodeCount (stateOf b)) bs os;
+    }
+
+laid-vertices : (b : List ℤ) → Laid b → 1 ≤ vertexCount (stateOf b)
+unfolding Laid
+laid-vertices b q = omega (arith, q .sized .v-min, q .counted .vertices)
+
+-- a block in form: the lengths of its lists, and at least one vertex
+pub formed-shape : (b : List ℤ) → Formed b → Shape (stateOf b)
+formed-shape b f = laid-shape b (f .laid)
+
+pub formed-vertices : (b : List ℤ) → Formed b → 1 ≤ vertexCount (stateOf b)
+formed-vertices b f = laid-vertices b (f .laid)
