@@ -5,7 +5,7 @@ use mathlib.Core.Bool.{Bool, true, false, _&&_, _||_}
 use mathlib.Core.List.{List, map}
 use lib.IntN.{ℤ}
 use lib.Dec.{eqb, ltb}
-use lib.ListN.{length}
+use lib.ListN.{length, drop}
 use Rattle.graph.specs.Basic.{if_then_else_, fold, all, below, distinct}
 use Rattle.graph.specs.State.{State, vertexCount, sideCount, endAt, growthAt, defectAt, sidesAt, freeSide, freeVertex}
 use Rattle.graph.specs.Open.{flagIn}
@@ -48,6 +48,19 @@ pub record Does (b₀ t₀ b t : List ℤ) (m : ℕ) (p₀ p : Progress) (f : Wo
   pub keeps : Kept (stateOf b₀) (stateOf b)
   pub busy : Busy b t m p
   pub run : (w : Work) → Shrinking b₀ t₀ m p₀ w → Shrinking b t m p (f w)
+
+-- the scratch has kept sides and noted vertices, of which the kept ones but for the first i are marked
+pub record Marked (t : List ℤ) (m : ℕ) (p : Progress) (i : ℕ) : Type 0 where
+  pub kept : List ℕ
+  pub noted : List ℕ
+  pub scratch : Holding t m kept noted (marks m (drop i kept))
+  pub keeps : p .kept ≡ length kept
+  pub notes : p .noted ≡ length noted
+  pub inside : all (λ s. ltb s m) kept ≡ true
+  pub once : distinct kept ≡ true
+  pub size : length t ≡ 3 * m
+  pub room : p .kept ≤ m
+  pub space : p .noted ≤ m
 
 -- ---- what the loops share
 

@@ -9,7 +9,9 @@ ghost use lib.ListN.{length};
 ghost use Rattle.graph.specs.Layout.{stateOf};
 ghost use Rattle.graph.specs.State.{vertexCount};
 ghost use Rattle.pass.specs.Work.{keepOnce, note};
-ghost use Rattle.pass.specs.Shrinking.{Busy, Does};
+ghost use Rattle.pass.specs.Shrinking.{Busy, Does, Marked};
+ghost use Rattle.pass.specs.Scratch.{zeroScratch};
+use crate::scratch;
 use graph::words;
 
 // What the loops of a shrinking pass hand on.
@@ -48,4 +50,27 @@ pub fn note(t: &mut [i64], m: usize, p: Progress, v: usize) -> Progress
         noted: p.noted + 1,
         another: p.another,
     }
+}
+
+// The marks of the kept sides are taken away.
+fn unmark(t: &mut [i64], m: usize, k: usize)
+    requires { ⌜ (m ≤ 8192) × Keeping (now t) m k ⌝ }
+    ensures { λ r. ⌜ ((p : Progress) → p .kept ≡ k → Marked (now (t .entry)) m p 0 → Marked (now (t .exit)) m p k) ⌝ }
+{
+    let mut i = 0;
+    while i < k {
+        let s = words::word(t, i);
+        words::put(t, 2 * m + s, 0);
+        i += 1;
+    }
+}
+
+// The scratch is all zero again.
+pub fn clear(t: &mut [i64], m: usize, p: Progress)
+    requires { ⌜ Marked (now t) m p 0 × (m ≤ 8192) ⌝ }
+    ensures { λ r. ⌜ now (t .exit) ≡ zeroScratch (3 * m) ⌝ }
+{
+    unmark(t, m, p.kept);
+    scratch::wipe(t, 0, p.kept);
+    scratch::wipe(t, m, p.noted);
 }
