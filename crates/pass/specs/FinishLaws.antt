@@ -17,7 +17,7 @@ use Rattle.graph.specs.Sound.{entries, entriesOf}
 use Rattle.graph.specs.Layout.{stateOf, stackFrom}
 use Rattle.graph.specs.Form.{Becomes}
 use Rattle.graph.specs.Replace.{withLists}
-use Rattle.graph.specs.RowLaws.{becomes-then}
+use Rattle.graph.specs.RowLaws.{word-other, becomes-then}
 use Rattle.graph.specs.Laws.{Kept}
 use Rattle.graph.specs.Members.{all-member, member-at, distinct-tail}
 use Rattle.pass.specs.Work.{Work, finishPass}
@@ -27,7 +27,7 @@ use Rattle.pass.specs.ScratchLaws.{first-entry, first-numbers, change-th
 use Rattle.pass.specs.Ready.{Ready, Shrinkable, AfterPass}
 use Rattle.pass.specs.Fits.{shrink-over}
 use Rattle.pass.specs.Laws.{shrink-pass-keeps}
-use Rattle.pass.specs.Shrinking.{marks, Shrinking, Marked}
+use Rattle.pass.specs.Shrinking.{marks, Shrinking, Marked, unmarked}
 use Rattle.pass.specs.MarkLaws.{marks-length, marks-take, marks-none}
 use Rattle.pass.specs.TopLaws.{tops-le, below-tops, over-kept}
 use Rattle.pass.specs.declared.keep.Progress.{Progress}
@@ -42,30 +42,56 @@ distinct-drop l zero h = h
 distinct-drop [] (suc i) h = h
 distinct-drop (x ∷ l) (suc i) h = distinct-drop l i (distinct-tail x l h)
 
-module _ {t : List ℤ} {m : ℕ} {p : Progress} {i : ℕ} (q : Marked t m p i) (h : i < p .kept) where
-  -- kept side i is read
-  word : wordAt t i ≡ getD (q .kept) i 0
-  word = first-entry (q .scratch) i (omega (arith, q .keeps))
+-- no mark less, one less, and what stands below the marks
+pub unmark-none : (t : List ℤ) (m : ℕ) → t ≡ unmarked t m 0
+unfolding unmarked
+unmark-none t m = refl
 
-  pub kept-below : wordAt t i < m
-  kept-below = rw word (ltb-true (getD (q .kept) i 0) m (all-member (λ s. ltb s m) (q .kept) (getD (q .kept) i 0) (q .inside) (member-at (q .kept) i 0 (omega (arith, q .keeps)))))
+pub unmark-word : (t : List ℤ) (m i j : ℕ) → j < 2 * m → wordAt (unmarked t m i) j ≡ wordAt t j
+unfolding unmarked
+unmark-word t m zero j h = refl
+unmark-word t m (suc i) j h = word-other (unmarked t m i) (2 * m + wordAt t i) j (pos 0) (omega arith) ∙ unmark-word t m i j h
 
-  -- its mark is taken away
-  pub marked-less : (s : ℕ) → s ≡ wordAt t i → Marked (set t (2 * m + s) (pos 0)) m p (i + 1)
-  marked-less s e =
-      let l : i < length (q .kept) = omega (arith, h, q .keeps) in
-      let k : drop i (q .kept) ≡ s ∷ drop (i + 1) (q .kept) = rw (add-one, e, word) (drop-cons (q .kept) i 0 l) in
-      let b : s < m = rw e kept-below in
-      let r : set (marks m (drop i (q .kept))) s 0 ≡ marks m (drop (i + 1) (q .kept)) = rw k (marks-take m s (drop (i + 1) (q .kept)) b (rw k at (distinct-drop (q .kept) i (q .once)))) in
-      let held : Holding (set t (2 * m + s) (pos 0)) m (q .kept) (q .noted) (marks m (drop (i + 1) (q .kept))) = rw (← r) (change-third (q .scratch) s 0 (rw (marks-length m (drop i (q .kept))) b)) in
-      record { kept = q .kept; noted = q .noted; scratch = held; keeps = q .keeps; notes = q .notes; inside = q .inside; once = q .once; size = held .size; room = q .room; space = q .space }
+pub unmark-more : (t : List ℤ) (m i : ℕ) → i < 2 * m → set (unmarked t m i) (2 * m + wordAt (unmarked t m i) i) (pos 0) ≡ unmarked t m (i + 1)
+unfolding unmarked
+unmark-more t m i h = rw (add-one, unmark-word t m i i h)
+
+-- kept side i is a side
+pub kept-below : {t : List ℤ} {m : ℕ} {p : Progress} → Marked t m p 0 → (i : ℕ) → i < p .kept → wordAt t i < m
+kept-below {m = m} q i h =
+    rw (first-entry (q .scratch) i (omega (arith, q .keeps)))
+    (ltb-true (getD (q .kept) i 0) m (all-member (λ s. ltb s m) (q .kept) (getD (q .kept) i 0) (q .inside) (member-at (q .kept) i 0 (omega (arith, q .keeps)))))
+
+-- the marks go with their sides
+marked-less : {t : List ℤ} {m : ℕ} {p : Progress} (i s : ℕ) (q : Marked t m p i) → i < p .kept → s ≡ getD (q .kept) i 0 → Marked (set t (2 * m + s) (pos 0)) m p (i + 1)
+marked-less {t} {m} {p} i s q h e =
+    let l : i < length (q .kept) = omega (arith, h, q .keeps) in
+    let k : drop i (q .kept) ≡ s ∷ drop (i + 1) (q .kept) = rw (add-one, e) (drop-cons (q .kept) i 0 l) in
+    let b : s < m = rw e (ltb-true (getD (q .kept) i 0) m (all-member (λ x. ltb x m) (q .kept) (getD (q .kept) i 0) (q .inside) (member-at (q .kept) i 0 l))) in
+    let r : set (marks m (drop i (q .kept))) s 0 ≡ marks m (drop (i + 1) (q .kept)) = rw k (marks-take m s (drop (i + 1) (q .kept)) b (rw k at (distinct-drop (q .kept) i (q .once)))) in
+    let held : Holding (set t (2 * m + s) (pos 0)) m (q .kept) (q .noted) (marks m (drop (i + 1) (q .kept))) = rw (← r) (change-third (q .scratch) s 0 (rw (marks-length m (drop i (q .kept))) b)) in
+    record { kept = q .kept; noted = q .noted; scratch = held; keeps = q .keeps; notes = q .notes; inside = q .inside; once = q .once; size = held .size; room = q .room; space = q .space }
+
+marked-more : (t : List ℤ) (m : ℕ) (p : Progress) (i : ℕ) → i < p .kept → Marked (unmarked t m i) m p i → Marked (unmarked t m (suc i)) m p (suc i)
+unfolding unmarked
+marked-more t m p i h r =
+    let e : wordAt t i ≡ getD (r .kept) i 0 = sym (unmark-word t m i i (omega (arith, h, r .room))) ∙ first-entry (r .scratch) i (omega (arith, h, r .keeps)) in
+    let u : suc i ≡ i + 1 = omega arith in
+    rw u (marked-less i (wordAt t i) r h e)
+
+marked-without : (t : List ℤ) (m : ℕ) (p : Progress) → Marked t m p 0 → (i : ℕ) → i ≤ p .kept → Marked (unmarked t m i) m p i
+unfolding unmarked
+marked-without t m p q zero h = q
+marked-without t m p q (suc i) h = marked-more t m p i (omega arith) (marked-without t m p q i (omega arith))
 
 -- without marks, the scratch is cleared by its entries
-pub cleared-scratch : {t : List ℤ} {m : ℕ} {p : Progress} (i : ℕ) → p .kept ≤ i → i ≤ p .kept → Marked t m p i → wiped (wiped t 0 (p .kept)) m (p .noted) ≡ zeroScratch (3 * m)
-cleared-scratch {t} {m} {p} i h k q =
-    let z : i ≡ length (q .kept) = omega (arith, q .keeps) in
-    let none : marks m (drop i (q .kept)) ≡ replicate m 0 = rw (z, drop-length (q .kept)) (marks-none m) in
-    rw (q .keeps, q .notes) (zero-holding _ m (wipe-second (wipe-first (drop-third (q .scratch) m none))))
+pub cleared-scratch : {t : List ℤ} {m : ℕ} {p : Progress} → Marked t m p 0 → wiped (wiped (unmarked t m (p .kept)) 0 (p .kept)) m (p .noted) ≡ zeroScratch (3 * m)
+cleared-scratch {t} {m} {p} h = cleared-without (marked-without t m p h (p .kept) (omega arith))
+  where
+    cleared-without : {t : List ℤ} → Marked t m p (p .kept) → wiped (wiped t 0 (p .kept)) m (p .noted) ≡ zeroScratch (3 * m)
+    cleared-without q =
+        let none : marks m (drop (p .kept) (q .kept)) ≡ replicate m 0 = rw (q .keeps, drop-length (q .kept)) (marks-none m) in
+        rw (q .keeps, q .notes) (zero-holding _ m (wipe-second (wipe-first (drop-third (q .scratch) m none))))
 
 -- ---- the lists
 
@@ -84,7 +110,8 @@ entries-of-kept : {c d : State} (n : ℕ) → Kept c d → entriesOf d n ≡ ent
 unfolding entriesOf
 entries-of-kept n k = ap (λ (x : Nodes). entriesIn x n) (k .nodes)
 
-module _ {b₀ t₀ b t : List ℤ} {n : ℕ} {p : Progress} (r : Ready b₀ t₀ n) (s : Shrinkable (stateOf b₀) n) (q : Shrinking b t (sideCount (stateOf b₀)) p (shrinkPass (stateOf b₀) n)) where
+module _ {b₀ t₀ b t : List ℤ} {n m z : ℕ} {p : Progress} (r : Ready b₀ t₀ n) (s : Shrinkable (stateOf b₀) n) (size : m ≡ sideCount (stateOf b₀))
+    (tops : z ≡ length (emptyTops (overgrownOf (stateOf b₀) n))) (q : Shrinking b t m p (shrinkPass (stateOf b₀) n)) where
   keeps : Kept (stateOf b₀) (stateOf b)
   keeps = rw (q .state) (shrink-pass-keeps (stateOf b₀) n)
 
@@ -92,16 +119,23 @@ module _ {b₀ t₀ b t : List ℤ} {n : ℕ} {p : Progress} (r : Ready b₀ t�
   same-over = over-kept n keeps
 
   -- they fit
-  pub lists-fit : (z : ℕ) → entries (stateOf b) + (p .kept + (length (overgrownOf (stateOf b) n) - z) + 0) ≤ stateOf b .storeLimit + entriesOf (stateOf b) n
-  lists-fit z =
-      rw (entries-kept keeps, entries-of-kept n keeps, keeps .storeLimit, same-over)
-      (omega (arith, r .room, s .size, q .kept, q .scratch .keeps))
+  pub tops-fit : z ≤ length (overgrownOf (stateOf b) n)
+  tops-fit = rw same-over (omega (arith, tops, tops-le (overgrownOf (stateOf b₀) n)))
+
+  pub lists-fit : (o : ℕ) → o ≡ length (overgrownOf (stateOf b) n) → entries (stateOf b) + (p .kept + (o - z) + 0) ≤ stateOf b .storeLimit + entriesOf (stateOf b) n
+  lists-fit o e =
+      let l : o ≤ vertexCount (stateOf b₀) = rw (e, same-over) (s .size) in
+      rw (entries-kept keeps, entries-of-kept n keeps, keeps .storeLimit)
+      (omega (arith, r .room, l, q .kept, q .scratch .keeps, size))
 
   -- what is written is what the pass finishes with
-  pub written : {b' : List ℤ} (z : ℕ) → z ≡ length (emptyTops (overgrownOf (stateOf b₀) n)) → Becomes b₀ b (stateOf b) → Becomes b b' (withLists (stateOf b) n (numbersAt t 0 (p .kept)) (length (overgrownOf (stateOf b) n) - z) (numbersAt t 0 0)) → Becomes b₀ b' (finishPass (shrinkPass (stateOf b₀) n) n)
+  written : withLists (stateOf b) n (numbersAt t 0 (p .kept)) (length (overgrownOf (stateOf b) n) - z) (numbersAt t 0 0) ≡ finishPass (shrinkPass (stateOf b₀) n) n
   unfolding withLists finishPass stackFrom numbersAt
-  written {b'} z e first f =
+  written =
       let kept : numbersAt t 0 (p .kept) ≡ shrinkPass (stateOf b₀) n .kept = rw (q .kept) (first-numbers (q .scratch)) in
-      let less : length (overgrownOf (stateOf b₀) n) - (length (overgrownOf (stateOf b₀) n) - z) ≡ z = omega (arith, e, tops-le (overgrownOf (stateOf b₀) n)) in
-      let over : drop (length (overgrownOf (stateOf b₀) n) - (length (overgrownOf (stateOf b₀) n) - z)) (overgrownOf (stateOf b₀) n) ≡ shrinkPass (stateOf b₀) n .over = rw (less, e) (sym (below-tops (overgrownOf (stateOf b₀) n)) ∙ sym (shrink-over (stateOf b₀) n)) in
-      becomes-then first (rw (kept, same-over, over, q .state) at f)
+      let less : length (overgrownOf (stateOf b₀) n) - (length (overgrownOf (stateOf b₀) n) - z) ≡ z = omega (arith, tops, tops-le (overgrownOf (stateOf b₀) n)) in
+      let over : drop (length (overgrownOf (stateOf b₀) n) - (length (overgrownOf (stateOf b₀) n) - z)) (overgrownOf (stateOf b₀) n) ≡ shrinkPass (stateOf b₀) n .over = rw (less, tops) (sym (below-tops (overgrownOf (stateOf b₀) n)) ∙ sym (shrink-over (stateOf b₀) n)) in
+      rw (kept, same-over, over, q .state)
+
+  pub after-shrink : {b' t' : List ℤ} (o : ℕ) → o ≡ length (overgrownOf (stateOf b) n) → Becomes b₀ b (stateOf b) → Becomes b b' (withLists (stateOf b) n (numbersAt t 0 (p .kept)) (o - z) (numbersAt t 0 0)) → t' ≡ zeroScratch (3 * m) → AfterPass b₀ b' t₀ t' n (shrinkPass (stateOf b₀) n) (p .another)
+  after-shrink o e first last clear = record { block = rw (← written) (becomes-then first (rw e at last)); scratch = clear ∙ rw size (sym (r .scratch)); another = q .another }

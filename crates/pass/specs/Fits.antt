@@ -316,7 +316,7 @@ noted-drop-side : (l : List ℕ) (w : Work) (t : ℕ) → Noted l w → Noted l 
 unfolding dropSide callAnother
 noted-drop-side l w t p = noted-keep-once l (onState w (freeSide (w .state) t)) (opposite t) (unfold onState in p)
 
-noted-drop-step : (n : ℕ) (l : List ℕ) (w : Work) (v : ℕ) → Noted l w → Noted l (dropStep n w v)
+pub noted-drop-step : (n : ℕ) (l : List ℕ) (w : Work) (v : ℕ) → Noted l w → Noted l (dropStep n w v)
 unfolding dropStep
 noted-drop-step n l w v p = if-both (Noted l) (eqb (vertexHolderAt (w .state) v) (n + 1)) (fold-keeps dropSide (Noted l) (noted-drop-side l) (onState w (freeVertex (w .state) v)) (sidesAt (w .state) v) (unfold onState in p)) p
 

@@ -2,11 +2,13 @@
 use Prim.Native.Nat.{ℕ, zero, suc, _+_, _<_}
 use native.Mathlib.Omega.{arith}
 use mathlib.Core.Path.{_≡_, refl, sym, ap, _∙_}
-use mathlib.Core.Bool.{Bool, true, false, _&&_, _||_}
+use mathlib.Core.Bool.{Bool, true, false, _&&_, _||_, not}
 use mathlib.Core.List.{List, [], _∷_, _++_, append-assoc, append-nil}
 use lib.IntN.{ℤ}
+use lib.Dec.{eqb}
 use lib.ListN.{length, getD, set, drop}
 use lib.Seq.{set-getD}
+use borrow.Author.Tests.{eqb-true, not-false}
 use Rattle.graph.specs.Basic.{if_then_else_, fold, any, member, distinct}
 use Rattle.graph.specs.State.{State, Overgrown, boundaryOf, overgrownOf, withNodes, withBoundary, withOvergrown}
 use Rattle.graph.specs.Layout.{stateOf}
@@ -63,6 +65,10 @@ module _ (c : State) (n : ℕ) (tops : length (emptyTops (overgrownOf c n)) ≡ 
 
   pub shrink-idle : (finishPass (shrinkPass c n) n ≡ c) × (shrinkPass c n .another ≡ false)
   shrink-idle = (ap (λ w. finishPass w n) shrink-same ∙ finish-same, ap (λ (w : Work). w .another) shrink-same)
+
+-- what the test before the work says
+pub idle-test : (z : ℕ) (t : Bool) → (not (eqb z 0) || t) ≡ false → (z ≡ 0) × (t ≡ false)
+idle-test z t h = (eqb-true z 0 (not-false (eqb z 0) (or-neither-left (not (eqb z 0)) t h)), or-neither-right (not (eqb z 0)) t h)
 
 -- so block and scratch are left as they are
 pub after-idle : (b t : List ℤ) (n : ℕ) → Formed b → Shrinkable (stateOf b) n → length (emptyTops (overgrownOf (stateOf b) n)) ≡ 0 → any (emptied (stateOf b)) (boundaryOf (stateOf b) n) ≡ false → AfterPass b b t t n (shrinkPass (stateOf b) n) false

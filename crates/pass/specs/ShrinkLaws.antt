@@ -15,17 +15,17 @@ use Rattle.graph.specs.State.{State, vertexCount, sideCount, endAt, sidesAt, ve
 use Rattle.graph.specs.Word.{wordAt, numbersAt}
 use Rattle.graph.specs.Layout.{stateOf}
 use Rattle.graph.specs.Form.{sidesOk}
-use Rattle.graph.specs.Laws.{if-both, fold-keeps, fold-keeps-rest}
+use Rattle.graph.specs.Laws.{Kept, if-both, fold-keeps, fold-keeps-rest}
 use Rattle.graph.specs.Members.{distinct-length, all-member, member-at}
 use Rattle.pass.specs.Work.{Work, onState, keepOnce, note, callAnother, startPass}
 use Rattle.pass.specs.Shrink.{belowTops, emptyTops, dropSide, dropStep, shrinkStep, closed, releaseSide, releaseStep, dropped, shrinkScanned, shrinkPass}
 use Rattle.pass.specs.Scratch.{Holding, zeroScratch}
 use Rattle.pass.specs.ScratchLaws.{holding-zero, zeros-third, second-entry, second-numbers}
 use Rattle.pass.specs.Ready.{Ready, Shrinkable}
-use Rattle.pass.specs.Fits.{Noted, noted-keep-once, count-shrink-step}
+use Rattle.pass.specs.Fits.{Noted, noted-keep-once, noted-drop-step, count-shrink-step}
 use Rattle.pass.specs.Shrinking.{marks, Shrinking, Busy, Does, emptied}
 use Rattle.pass.specs.MarkLaws.{marks-none}
-use Rattle.pass.specs.ShrinkingLaws.{does-same}
+use Rattle.pass.specs.ShrinkingLaws.{busy-of, does-same}
 use Rattle.pass.specs.declared.keep.Progress.{Progress}
 
 -- ---- whether some entry passes a test, looked for from the first on
@@ -111,18 +111,31 @@ does-release-noted n d = does-same (λ w. fold (releaseStep n) w (w .noted)) (λ
 abbrev pub nothing : Progress
 nothing = record { kept = 0; noted = 0; another = false }
 
-pub shrink-start : (b t : List ℤ) (n : ℕ) → Ready b t n → Shrinking b t (sideCount (stateOf b)) nothing (startPass (stateOf b) (belowTops (overgrownOf (stateOf b) n)))
+shrink-start : (b t : List ℤ) (m n : ℕ) → Ready b t n → m ≡ sideCount (stateOf b) → Shrinking b t m nothing (startPass (stateOf b) (belowTops (overgrownOf (stateOf b) n)))
 unfolding startPass all distinct
-shrink-start b t n r =
-    let m : ℕ = sideCount (stateOf b) in
-    record { state = refl; scratch = rw (marks-none m) (zeros-third (holding-zero t m (r .scratch)) refl); kept = refl; noted = refl; another = refl; inside = refl; once = refl; ends = refl }
+shrink-start b t m n r e =
+    record { state = refl; scratch = rw (marks-none m) (zeros-third (holding-zero t m (rw e (r .scratch))) refl); kept = refl; noted = refl; another = refl; inside = refl; once = refl; ends = refl }
 
-pub shrink-worked : {b t b₁ t₁ b₂ t₂ b₃ t₃ : List ℤ} {p₁ p₂ p₃ : Progress} (n : ℕ) → Ready b t n → let m : ℕ = sideCount (stateOf b) in
-    Does b t b₁ t₁ m nothing p₁ (λ w. fold (dropStep n) w (emptyTops (overgrownOf (stateOf b) n)))
-    → Does b₁ t₁ b₂ t₂ m p₁ p₂ (λ w. fold shrinkStep w (boundaryOf (stateOf b₁) n))
-    → Does b₂ t₂ b₃ t₃ m p₂ p₃ (λ w. fold (releaseStep n) w (w .noted))
-    → Shrinking b₃ t₃ m p₃ (shrinkPass (stateOf b) n)
-unfolding shrinkPass shrinkScanned dropped
-shrink-worked {b} {t} {b₁} n r d₁ d₂ d₃ =
-    let e : boundaryOf (stateOf b₁) n ≡ boundaryOf (stateOf b) n = ap (λ x. getD (x .boundary) n []) (d₁ .keeps .nodes) in
-    d₃ .run _ (rw e at (d₂ .run _ (d₁ .run _ (shrink-start b t n r))))
+pub start-busy : (b t : List ℤ) (m n : ℕ) → Ready b t n → m ≡ sideCount (stateOf b) → Busy b t m nothing
+start-busy b t m n r e = busy-of (r .formed) e (shrink-start b t m n r e)
+
+-- what the pass asks of the state stays while vertices go
+pub shrinkable-kept : {c d : State} (n : ℕ) → Kept c d → Shrinkable c n → Shrinkable d n
+unfolding sidesOk
+shrinkable-kept n k s = record { sides = rw (k .graph, k .nodes) (s .sides); once = rw (k .nodes) (s .once); stack = rw (k .graph, k .nodes) (s .stack); size = rw (k .graph, k .nodes) (s .size) }
+
+module _ {b t b₁ t₁ : List ℤ} {m : ℕ} {p₁ : Progress} (n : ℕ) (r : Ready b t n) (e : m ≡ sideCount (stateOf b)) (d₁ : Does b t b₁ t₁ m nothing p₁ (λ w. fold (dropStep n) w (emptyTops (overgrownOf (stateOf b) n)))) where
+  -- nothing is noted by then
+  pub none-noted : p₁ .noted ≡ 0
+  none-noted =
+      let none : fold (dropStep n) (startPass (stateOf b) (belowTops (overgrownOf (stateOf b) n))) (emptyTops (overgrownOf (stateOf b) n)) .noted ≡ [] = unfold startPass in (fold-keeps (dropStep n) (Noted []) (noted-drop-step n []) (startPass (stateOf b) (belowTops (overgrownOf (stateOf b) n))) (emptyTops (overgrownOf (stateOf b) n)) refl) in
+      d₁ .run _ (shrink-start b t m n r e) .noted ∙ ap length none
+
+  pub shrink-worked : {b₂ t₂ b₃ t₃ : List ℤ} {p₂ p₃ : Progress}
+      → Does b₁ t₁ b₂ t₂ m p₁ p₂ (λ w. fold shrinkStep w (boundaryOf (stateOf b₁) n))
+      → Does b₂ t₂ b₃ t₃ m p₂ p₃ (λ w. fold (releaseStep n) w (w .noted))
+      → Shrinking b₃ t₃ m p₃ (shrinkPass (stateOf b) n)
+  unfolding shrinkPass shrinkScanned dropped
+  shrink-worked d₂ d₃ =
+      let same : boundaryOf (stateOf b₁) n ≡ boundaryOf (stateOf b) n = ap (λ x. getD (x .boundary) n []) (d₁ .keeps .nodes) in
+      d₃ .run _ (rw same at (d₂ .run _ (d₁ .run _ (shrink-start b t m n r e))))

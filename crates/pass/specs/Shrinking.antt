@@ -1,14 +1,15 @@
 -- A shrinking pass in memory: the block has its state, the scratch its kept sides, noted vertices and marks.
-use Prim.Native.Nat.{ℕ, _+_, _*_, _≤_, _<_}
+use Prim.Native.Nat.{ℕ, zero, suc, _+_, _*_, _≤_, _<_}
 use mathlib.Core.Path.{_≡_}
 use mathlib.Core.Bool.{Bool, true, false, _&&_, _||_}
 use mathlib.Core.List.{List, map}
-use lib.IntN.{ℤ}
+use lib.IntN.{ℤ, pos}
 use lib.Dec.{eqb, ltb}
-use lib.ListN.{length, drop}
+use lib.ListN.{length, set, drop}
 use Rattle.graph.specs.Basic.{if_then_else_, fold, all, below, distinct}
 use Rattle.graph.specs.State.{State, vertexCount, sideCount, endAt, growthAt, defectAt, sidesAt, freeSide, freeVertex}
 use Rattle.graph.specs.Open.{flagIn}
+use Rattle.graph.specs.Word.{wordAt}
 use Rattle.graph.specs.Layout.{stateOf}
 use Rattle.graph.specs.Form.{Formed, Becomes}
 use Rattle.graph.specs.Laws.{Kept}
@@ -49,19 +50,6 @@ pub record Does (b₀ t₀ b t : List ℤ) (m : ℕ) (p₀ p : Progress) (f : Wo
   pub busy : Busy b t m p
   pub run : (w : Work) → Shrinking b₀ t₀ m p₀ w → Shrinking b t m p (f w)
 
--- the scratch has kept sides and noted vertices, of which the kept ones but for the first i are marked
-pub record Marked (t : List ℤ) (m : ℕ) (p : Progress) (i : ℕ) : Type 0 where
-  pub kept : List ℕ
-  pub noted : List ℕ
-  pub scratch : Holding t m kept noted (marks m (drop i kept))
-  pub keeps : p .kept ≡ length kept
-  pub notes : p .noted ≡ length noted
-  pub inside : all (λ s. ltb s m) kept ≡ true
-  pub once : distinct kept ≡ true
-  pub size : length t ≡ 3 * m
-  pub room : p .kept ≤ m
-  pub space : p .noted ≤ m
-
 -- ---- what the loops share
 
 -- a side at a vertex that goes: taken off the overgrown stack, if d, or released
@@ -75,3 +63,23 @@ partVertex d n w v = fold (partSide d n) (onState w (freeVertex (w .state) v)) (
 -- side s has growth 0 and stands at no defect: its vertex goes
 unfoldable pub emptied : State → ℕ → Bool
 emptied c s = eqb (growthAt c s) 0 && eqb (defectAt c (endAt c s)) 0
+
+-- ---- clearing
+
+-- the scratch t without the marks of its first i kept sides
+unfoldable pub unmarked : List ℤ → ℕ → ℕ → List ℤ
+unmarked t m zero = t
+unmarked t m (suc i) = set (unmarked t m i) (2 * m + wordAt t i) (pos 0)
+
+-- the scratch has kept sides and noted vertices; the kept ones but for the first i are marked
+pub record Marked (t : List ℤ) (m : ℕ) (p : Progress) (i : ℕ) : Type 0 where
+  pub kept : List ℕ
+  pub noted : List ℕ
+  pub scratch : Holding t m kept noted (marks m (drop i kept))
+  pub keeps : p .kept ≡ length kept
+  pub notes : p .noted ≡ length noted
+  pub inside : all (λ s. ltb s m) kept ≡ true
+  pub once : distinct kept ≡ true
+  pub size : length t ≡ 3 * m
+  pub room : p .kept ≤ m
+  pub space : p .noted ≤ m

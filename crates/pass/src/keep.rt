@@ -3,13 +3,14 @@
 
 ghost use mathlib.Core.Path.{_≡_};
 ghost use mathlib.Core.List.{List};
-ghost use Prim.Native.Nat.{_*_, _<_, _≤_};
+ghost use Prim.Native.Nat.{ℕ, _*_, _<_, _≤_};
 ghost use lib.IntN.{ℤ};
 ghost use lib.ListN.{length};
 ghost use Rattle.graph.specs.Layout.{stateOf};
 ghost use Rattle.graph.specs.State.{vertexCount};
+ghost use Rattle.graph.specs.Word.{wordAt};
 ghost use Rattle.pass.specs.Work.{keepOnce, note};
-ghost use Rattle.pass.specs.Shrinking.{Busy, Does, Marked};
+ghost use Rattle.pass.specs.Shrinking.{Busy, Does, Marked, unmarked};
 ghost use Rattle.pass.specs.Scratch.{zeroScratch};
 use crate::scratch;
 use graph::words;
@@ -52,10 +53,10 @@ pub fn note(t: &mut [i64], m: usize, p: Progress, v: usize) -> Progress
     }
 }
 
-// The marks of the kept sides are taken away.
+// The marks of the first k kept sides are set to zero.
 fn unmark(t: &mut [i64], m: usize, k: usize)
-    requires { ⌜ (m ≤ 8192) × Keeping (now t) m k ⌝ }
-    ensures { λ r. ⌜ ((p : Progress) → p .kept ≡ k → Marked (now (t .entry)) m p 0 → Marked (now (t .exit)) m p k) ⌝ }
+    requires { ⌜ (k ≤ m) × (m ≤ 8192) × (length (now t) ≡ 3 * m) × ((i : ℕ) → i < k → wordAt (now t) i < m) ⌝ }
+    ensures { λ r. ⌜ now (t .exit) ≡ unmarked (now (t .entry)) m k ⌝ }
 {
     let mut i = 0;
     while i < k {

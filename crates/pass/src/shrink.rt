@@ -94,3 +94,45 @@ fn release_noted(b: &mut [i64], t: &mut [i64], n: usize, m: usize, p: Progress) 
     }
     q
 }
+
+// The work of the pass over m sides, with z empty tops.
+fn shrink_work(b: &mut [i64], t: &mut [i64], n: usize, m: usize, z: usize) -> Progress
+    requires { ⌜ Ready (now b) (now t) n × Shrinkable (stateOf (now b)) n × (m ≡ sideCount (stateOf (now b))) × (z ≡ length (emptyTops (overgrownOf (stateOf (now b)) n))) ⌝ }
+    ensures { λ r. ⌜ Becomes (now (b .entry)) (now (b .exit)) (stateOf (now (b .exit))) × Shrinking (now (b .exit)) (now (t .exit)) m r (shrinkPass (stateOf (now (b .entry))) n) ⌝ }
+{
+    let p = Progress {
+        kept: 0,
+        noted: 0,
+        another: false,
+    };
+    let q = tops::drop_tops(b, t, n, m, p, z);
+    let r = shrink_scan(b, t, n, m, q);
+    release_noted(b, t, n, m, r)
+}
+
+// The same with its end: the new lists are written and the scratch is cleared.
+fn shrink_all(b: &mut [i64], t: &mut [i64], n: usize, z: usize) -> bool
+    requires { ⌜ Ready (now b) (now t) n × Shrinkable (stateOf (now b)) n × (z ≡ length (emptyTops (overgrownOf (stateOf (now b)) n))) ⌝ }
+    ensures { λ r. ⌜ AfterPass (now (b .entry)) (now (b .exit)) (now (t .entry)) (now (t .exit)) n (shrinkPass (stateOf (now (b .entry))) n) r ⌝ }
+{
+    let m = rows::side_count(b);
+    let p = shrink_work(b, t, n, m, z);
+    let o = lists::overgrown_len(b, n);
+    let another = p.another;
+    store::replace_lists(b, n, t, p.kept, o - z, 0, 0);
+    keep::clear(t, m, p);
+    another
+}
+
+// One shrinking pass over node n; whether another is called for. Where nothing goes, nothing is written.
+pub fn shrink_pass(b: &mut [i64], t: &mut [i64], n: usize) -> bool
+    requires { ⌜ Ready (now b) (now t) n × Shrinkable (stateOf (now b)) n ⌝ }
+    ensures { λ r. ⌜ AfterPass (now (b .entry)) (now (b .exit)) (now (t .entry)) (now (t .exit)) n (shrinkPass (stateOf (now (b .entry))) n) r ⌝ }
+{
+    let z = tops::empty_tops(b, n);
+    if (z != 0) | any_emptied(b, n) {
+        shrink_all(b, t, n, z)
+    } else {
+        false
+    }
+}

@@ -32,7 +32,14 @@ pub fn empty_tops(b: &[i64], n: usize) -> usize
 }
 
 // The z of them are taken off: their vertices go, from the top down.
-pub fn drop_tops(b: &mut [i64], t: &mut [i64], n: usize, m: usize, p: Progress, z: usize) -> Progress
+pub fn drop_tops(
+    b: &mut [i64],
+    t: &mut [i64],
+    n: usize,
+    m: usize,
+    p: Progress,
+    z: usize,
+) -> Progress
     requires { ⌜ Busy (now b) (now t) m p × (n < nodeCount (stateOf (now b))) × Shrinkable (stateOf (now b)) n × (z ≡ length (emptyTops (overgrownOf (stateOf (now b)) n))) ⌝ }
     ensures { λ r. ⌜ Does (now (b .entry)) (now (t .entry)) (now (b .exit)) (now (t .exit)) m p r (λ w. fold (dropStep n) w (emptyTops (overgrownOf (stateOf (now (b .entry))) n))) ⌝ }
 {
