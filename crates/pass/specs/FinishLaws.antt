@@ -2,16 +2,16 @@
 use Prim.Native.Nat.{ℕ, zero, suc, _+_, _-_, _*_, _≤_, _<_}
 use native.Mathlib.Numerals.{add-one}
 use native.Mathlib.Omega.{arith}
-use mathlib.Core.Path.{_≡_, refl, sym, ap, subst, _∙_}
-use mathlib.Core.Bool.{Bool, true, false}
-use mathlib.Core.List.{List, [], _∷_, _++_}
+use mathlib.Core.Path.{_≡_, refl, sym, ap, _∙_}
+use mathlib.Core.Bool.{true}
+use mathlib.Core.List.{List, [], _∷_}
 use lib.IntN.{ℤ, pos}
 use lib.Dec.{ltb}
-use lib.ListN.{length, getD, set, take, drop, replicate, length-drop}
+use lib.ListN.{length, getD, set, drop, replicate}
 use lib.Seq.{drop-cons, drop-length}
 use borrow.Author.Tests.{ltb-true}
-use Rattle.graph.specs.Basic.{all, distinct, sumBelow}
-use Rattle.graph.specs.State.{State, Nodes, vertexCount, sideCount, nodeCount, boundaryOf, overgrownOf, withBoundary, withOvergrown}
+use Rattle.graph.specs.Basic.{distinct, sumBelow}
+use Rattle.graph.specs.State.{State, Nodes, vertexCount, sideCount, overgrownOf}
 use Rattle.graph.specs.Word.{wordAt, numbersAt}
 use Rattle.graph.specs.Sound.{entries, entriesOf}
 use Rattle.graph.specs.Layout.{stateOf, stackFrom}
@@ -21,7 +21,7 @@ use Rattle.graph.specs.RowLaws.{word-other, becomes-then}
 use Rattle.graph.specs.Laws.{Kept}
 use Rattle.graph.specs.Members.{all-member, member-at, distinct-tail}
 use Rattle.pass.specs.Work.{Work, finishPass}
-use Rattle.pass.specs.Shrink.{emptyTops, belowTops, shrinkPass}
+use Rattle.pass.specs.Shrink.{emptyTops, shrinkPass}
 use Rattle.pass.specs.Scratch.{Holding, zeroScratch, wiped}
 use Rattle.pass.specs.ScratchLaws.{first-entry, first-numbers, change-third, drop-third, wipe-first, wipe-second, zero-holding}
 use Rattle.pass.specs.Ready.{Ready, Shrinkable, AfterPass}

@@ -1,23 +1,23 @@
 -- A shrinking pass without an empty top and without an emptied side at the boundary changes nothing.
-use Prim.Native.Nat.{ℕ, zero, suc, _+_, _<_}
+use Prim.Native.Nat.{ℕ, _+_}
 use native.Mathlib.Omega.{arith}
 use mathlib.Core.Path.{_≡_, refl, sym, ap, _∙_}
-use mathlib.Core.Bool.{Bool, true, false, _&&_, _||_, not}
+use mathlib.Core.Bool.{Bool, true, false, _||_, not}
 use mathlib.Core.List.{List, [], _∷_, _++_, append-assoc, append-nil}
 use lib.IntN.{ℤ}
 use lib.Dec.{eqb}
-use lib.ListN.{length, getD, set, drop}
+use lib.ListN.{length}
 use lib.Seq.{set-getD}
 use borrow.Author.Tests.{eqb-true, not-false}
-use Rattle.graph.specs.Basic.{if_then_else_, fold, any, member, distinct}
-use Rattle.graph.specs.State.{State, Overgrown, boundaryOf, overgrownOf, withNodes, withBoundary, withOvergrown}
+use Rattle.graph.specs.Basic.{fold, any, member, distinct}
+use Rattle.graph.specs.State.{State, boundaryOf, overgrownOf, withNodes, withBoundary, withOvergrown}
 use Rattle.graph.specs.Layout.{stateOf}
 use Rattle.graph.specs.Form.{Formed}
 use Rattle.graph.specs.RowLaws.{becomes-none}
 use Rattle.graph.specs.Members.{by-test, clash, or-neither-left, or-neither-right, member-head, member-append-right, member-cons, distinct-head, distinct-tail, member-nil}
-use Rattle.pass.specs.Work.{Work, keep, keepOnce, note, startPass, finishPass}
-use Rattle.pass.specs.Shrink.{emptyTops, belowTops, shrinkStep, dropped, shrinkScanned, releaseStep, shrinkPass}
-use Rattle.pass.specs.Ready.{Ready, Shrinkable, AfterPass}
+use Rattle.pass.specs.Work.{Work, keep, keepOnce, startPass, finishPass}
+use Rattle.pass.specs.Shrink.{emptyTops, belowTops, shrinkStep, dropped, shrinkScanned, shrinkPass}
+use Rattle.pass.specs.Ready.{Shrinkable, AfterPass}
 use Rattle.pass.specs.Shrinking.{emptied}
 use Rattle.pass.specs.TopLaws.{below-tops}
 

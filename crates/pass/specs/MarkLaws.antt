@@ -1,14 +1,14 @@
 -- Laws of the marks: one more, one less, none, and what a mark says.
-use Prim.Native.Nat.{ℕ, zero, suc, _+_, _-_, _*_, _≤_, _<_}
+use Prim.Native.Nat.{ℕ, zero, suc, _+_, _-_, _<_}
 use native.Mathlib.Omega.{arith}
 use native.Mathlib.Decide.{ℕ-discrete as decEq}
 use mathlib.Core.Path.{_≡_, refl, sym, ap, _∙_}
 use mathlib.Core.Logic.{_≢_}
-use mathlib.Core.Bool.{Bool, true, false}
+use mathlib.Core.Bool.{true, false}
 use mathlib.Core.List.{List, [], _∷_, _++_, map}
-use lib.ListN.{length, getD, set, replicate, length-append, length-map, length-set, length-replicate, getD-replicate, List·getD-append}
+use lib.ListN.{length, getD, set, replicate, length-map, length-set, length-replicate, getD-replicate, List·getD-append}
 use lib.Seq.{getD-at, getD-set-same, getD-set-other, ext-getD}
-use Rattle.graph.specs.Basic.{if_then_else_, member, below, distinct}
+use Rattle.graph.specs.Basic.{member, below, distinct}
 use Rattle.graph.specs.Open.{flagIn}
 use Rattle.graph.specs.Members.{by-test, clash, member-head, member-tail, member-cons, member-nil, member-append-left, member-append-right, not-member-append, not-member-single, length-below, distinct-head}
 use Rattle.pass.specs.Shrinking.{marks}

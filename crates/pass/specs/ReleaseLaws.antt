@@ -1,20 +1,20 @@
 -- Laws of a vertex that goes: what the small changes of memory make of the work.
 use Prim.Native.Nat.{ℕ, _+_, _/_, _<_}
 use native.Mathlib.Omega.{arith}
-use mathlib.Core.Path.{_≡_, refl, sym, ap, _∙_}
+use mathlib.Core.Path.{_≡_, ap}
 use mathlib.Core.Logic.{_≢_}
 use mathlib.Core.Bool.{Bool, true, false, _||_}
 use mathlib.Core.List.{List, []}
 use lib.IntN.{ℤ}
 use lib.Dec.{eqb}
-use lib.ListN.{length, getD}
+use lib.ListN.{getD}
 use borrow.Author.Tests.{eq-eqb, ne-eqb}
-use Rattle.graph.specs.Basic.{if_then_else_, fold}
+use Rattle.graph.specs.Basic.{fold}
 use Rattle.graph.specs.State.{State, Graph, opposite, sidesAt, weightOver, vertexHolderAt, freeSide, freeVertex}
 use Rattle.graph.specs.Layout.{stateOf}
 use Rattle.graph.specs.Form.{Becomes}
 use Rattle.graph.specs.Laws.{Kept, kept-free-side, kept-free-vertex}
-use Rattle.pass.specs.Work.{Work, onState, keepOnce, callAnother}
+use Rattle.pass.specs.Work.{onState, keepOnce}
 use Rattle.pass.specs.Shrink.{closed, dropSide, dropStep, releaseSide, releaseStep}
 use Rattle.pass.specs.Shrinking.{Busy, Does, partSide, partVertex}
 use Rattle.pass.specs.ShrinkingLaws.{does-none, does-then, does-same, does-state, does-call}

@@ -1,16 +1,16 @@
 -- Laws of the loops of a shrinking pass over the boundary and over what was noted.
-use Prim.Native.Nat.{ℕ, zero, suc, _+_, _-_, _*_, _≤_, _<_}
+use Prim.Native.Nat.{ℕ, _+_, _-_, _≤_, _<_}
 use native.Mathlib.Numerals.{add-one}
 use native.Mathlib.Omega.{arith}
-use mathlib.Core.Path.{_≡_, refl, sym, ap, subst, _∙_}
-use mathlib.Core.Bool.{Bool, true, false, _&&_, _||_}
-use mathlib.Core.List.{List, [], _∷_, _++_}
+use mathlib.Core.Path.{_≡_, refl, sym, ap, _∙_}
+use mathlib.Core.Bool.{Bool, true, false}
+use mathlib.Core.List.{List, []}
 use lib.IntN.{ℤ}
 use lib.Dec.{eqb, ltb}
-use lib.ListN.{length, getD, take, drop, length-take, drop-of-length-le}
+use lib.ListN.{length, getD, take, drop, drop-of-length-le}
 use lib.Seq.{drop-cons, length-take-le}
-use borrow.Author.Tests.{eq-eqb, ltb-true}
-use Rattle.graph.specs.Basic.{if_then_else_, fold, all, any, member, distinct}
+use borrow.Author.Tests.{ltb-true}
+use Rattle.graph.specs.Basic.{fold, all, any, distinct}
 use Rattle.graph.specs.State.{State, vertexCount, sideCount, endAt, sidesAt, vertexHolderAt, boundaryOf, overgrownOf, freeSide, freeVertex, opposite}
 use Rattle.graph.specs.Word.{wordAt, numbersAt}
 use Rattle.graph.specs.Layout.{stateOf}
@@ -18,12 +18,11 @@ use Rattle.graph.specs.Form.{sidesOk}
 use Rattle.graph.specs.Laws.{Kept, if-both, fold-keeps, fold-keeps-rest}
 use Rattle.graph.specs.Members.{distinct-length, all-member, member-at}
 use Rattle.pass.specs.Work.{Work, onState, keepOnce, note, callAnother, startPass}
-use Rattle.pass.specs.Shrink.{belowTops, emptyTops, dropSide, dropStep, shrinkStep, closed, releaseSide, releaseStep, dropped, shrinkScanned, shrinkPass}
-use Rattle.pass.specs.Scratch.{Holding, zeroScratch}
+use Rattle.pass.specs.Shrink.{belowTops, emptyTops, dropStep, shrinkStep, closed, releaseSide, releaseStep, dropped, shrinkScanned, shrinkPass}
 use Rattle.pass.specs.ScratchLaws.{holding-zero, zeros-third, second-entry, second-numbers}
 use Rattle.pass.specs.Ready.{Ready, Shrinkable}
 use Rattle.pass.specs.Fits.{Noted, noted-keep-once, noted-drop-step, count-shrink-step}
-use Rattle.pass.specs.Shrinking.{marks, Shrinking, Busy, Does, emptied}
+use Rattle.pass.specs.Shrinking.{Shrinking, Busy, Does, emptied}
 use Rattle.pass.specs.MarkLaws.{marks-none}
 use Rattle.pass.specs.ShrinkingLaws.{busy-of, does-same}
 use Rattle.pass.specs.declared.keep.Progress.{Progress}

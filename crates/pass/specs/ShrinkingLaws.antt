@@ -1,24 +1,23 @@
 -- Laws of a shrinking pass in memory: the small changes of its work, one after another, and its loops.
-use Prim.Native.Nat.{ℕ, zero, suc, _+_, _-_, _*_, _≤_, _<_}
+use Prim.Native.Nat.{ℕ, _+_, _-_, _*_, _≤_, _<_}
 use native.Mathlib.Omega.{arith}
 use mathlib.Core.Path.{_≡_, refl, sym, ap, subst, _∙_}
 use mathlib.Core.Logic.{_≢_}
-use mathlib.Core.Bool.{Bool, true, false, _&&_, _||_}
+use mathlib.Core.Bool.{Bool, true, false, _||_}
 use mathlib.Core.List.{List, [], _∷_, _++_}
 use lib.IntN.{ℤ, pos}
-use lib.Dec.{eqb, ltb}
-use lib.ListN.{length, getD, set, take, length-append, length-set}
+use lib.Dec.{ltb}
+use lib.ListN.{length, getD, set, take, length-append}
 use borrow.Author.Tests.{lt-ltb}
-use Rattle.graph.specs.Basic.{if_then_else_, fold, all, member, distinct}
+use Rattle.graph.specs.Basic.{fold, all, member, distinct}
 use Rattle.graph.specs.State.{State, vertexCount, sideCount}
 use Rattle.graph.specs.Word.{wordAt}
 use Rattle.graph.specs.Layout.{stateOf}
 use Rattle.graph.specs.Form.{Formed, Becomes}
 use Rattle.graph.specs.RowLaws.{becomes-none, becomes-then}
-use Rattle.graph.specs.Laws.{Kept, kept-refl, kept-trans, fold-none, fold-more, fold-done}
+use Rattle.graph.specs.Laws.{Kept, kept-refl, kept-trans, fold-more, fold-done}
 use Rattle.graph.specs.Members.{all-snoc, distinct-snoc, distinct-length}
 use Rattle.pass.specs.Work.{Work, onState, keep, keepOnce, note, callAnother}
-use Rattle.pass.specs.Scratch.{Holding}
 use Rattle.pass.specs.ScratchLaws.{hold-first, hold-second, change-third, third-entry}
 use Rattle.pass.specs.Shrinking.{marks, Shrinking, Busy, Does}
 use Rattle.pass.specs.MarkLaws.{marks-length, mark-zero, mark-set, marks-put}

@@ -1,17 +1,16 @@
 -- Laws of the empty tops of an overgrown stack: counted from the top, read by their place, and what is left below them.
 use Prim.Native.Nat.{ℕ, zero, suc, _+_, _-_, _≤_, _<_}
-use native.Mathlib.Numerals.{add-one}
 use native.Mathlib.Omega.{arith}
-use mathlib.Core.Path.{_≡_, refl, sym, ap, _∙_}
+use mathlib.Core.Path.{_≡_, refl, ap, _∙_}
 use mathlib.Core.Logic.{_≢_}
-use mathlib.Core.Bool.{Bool, true, false}
+use mathlib.Core.Bool.{true}
 use mathlib.Core.List.{List, [], _∷_}
 use lib.IntN.{ℤ}
 use lib.Dec.{eqb, ltb}
 use lib.ListN.{length, getD, drop, drop-of-length-le}
 use lib.Seq.{drop-cons}
-use borrow.Author.Tests.{eqb-true, eq-eqb, ne-eqb, ltb-true}
-use Rattle.graph.specs.Basic.{if_then_else_, all}
+use borrow.Author.Tests.{eq-eqb, ne-eqb, ltb-true}
+use Rattle.graph.specs.Basic.{all}
 use Rattle.graph.specs.State.{State, Nodes, Overgrown, vertexCount, overgrownOf}
 use Rattle.graph.specs.Layout.{stateOf}
 use Rattle.graph.specs.Laws.{Kept, and-left, and-right}

@@ -1,7 +1,7 @@
 // The entries of amount 0 at the top of an overgrown stack.
 
 ghost use mathlib.Core.Path.{_≡_};
-ghost use Prim.Native.Nat.{_<_, _≤_};
+ghost use Prim.Native.Nat.{_<_};
 ghost use lib.ListN.{length};
 ghost use Rattle.graph.specs.Basic.{fold};
 ghost use Rattle.graph.specs.State.{nodeCount, overgrownOf};

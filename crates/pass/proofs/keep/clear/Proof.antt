@@ -1,4 +1,3 @@
-use native.Mathlib.Omega.{arith}
 use Rattle.pass.specs.FinishLaws.{kept-below, cleared-scratch}
 use borrow.Author.Needs.{needs}
 use Rattle.pass.proofs.keep.clear.Statement.{statement}

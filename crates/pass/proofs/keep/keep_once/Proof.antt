@@ -1,5 +1,5 @@
 use native.Mathlib.Omega.{arith}
-use mathlib.Core.Path.{_≡_, refl, sym, _∙_}
+use mathlib.Core.Path.{sym, _∙_}
 use Rattle.pass.specs.ShrinkingLaws.{does-keep-new, does-keep-old}
 use borrow.Author.Needs.{needs}
 use Rattle.pass.proofs.keep.keep_once.Statement.{statement}

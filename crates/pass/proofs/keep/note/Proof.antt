@@ -1,5 +1,4 @@
 use native.Mathlib.Omega.{arith}
-use mathlib.Core.Path.{_≡_, refl, sym, _∙_}
 use Rattle.pass.specs.ShrinkingLaws.{does-note}
 use borrow.Author.Needs.{needs}
 use Rattle.pass.proofs.keep.note.Statement.{statement}

@@ -1,6 +1,6 @@
 use Rattle.pass.specs.ReleaseLaws.{across-below, does-drop-side}
 use native.Mathlib.Omega.{arith}
-use mathlib.Core.Path.{_≡_, refl, sym, ap, _∙_}
+use mathlib.Core.Path.{ap}
 use lib.Dec.{eqb}
 use borrow.Author.Needs.{needs}
 use Rattle.pass.proofs.release.drop_side.Statement.{statement}

@@ -1,6 +1,3 @@
-use native.Mathlib.Omega.{arith}
-use mathlib.Core.Path.{_≡_, refl, sym, ap, _∙_}
-use mathlib.Core.Bool.{_||_}
 use Rattle.pass.specs.ReleaseLaws.{does-part-drop, does-part-free, does-free-side}
 use borrow.Author.Needs.{needs}
 use Rattle.pass.proofs.release.part_side.Statement.{statement}

@@ -1,5 +1,4 @@
-use native.Mathlib.Omega.{arith}
-use mathlib.Core.Path.{_≡_, refl, sym, ap, _∙_}
+use mathlib.Core.Path.{sym, _∙_}
 use Rattle.pass.specs.ReleaseLaws.{does-release, does-no-release}
 use borrow.Author.Needs.{needs}
 use Rattle.pass.proofs.release.release_vertex.Statement.{statement}

@@ -1,8 +1,8 @@
 use borrow.Author.Needs.{needs}
 use native.Mathlib.Omega.{arith}
 use Prim.Native.Nat.{_-_, _≤_}
-use mathlib.Core.Path.{_≡_, refl, sym, ap, _∙_}
-use lib.ListN.{length, take}
+use mathlib.Core.Path.{_∙_}
+use lib.ListN.{take}
 use Rattle.graph.specs.Basic.{fold}
 use Rattle.graph.specs.Word.{numbersAt}
 use Rattle.pass.specs.Shrink.{releaseStep}

@@ -1,4 +1,4 @@
-use mathlib.Core.Path.{_≡_, refl, sym, ap, _∙_}
+use mathlib.Core.Path.{sym, _∙_}
 use Rattle.pass.specs.IdleLaws.{idle-test, after-idle}
 use borrow.Author.Needs.{needs}
 use Rattle.pass.proofs.shrink.shrink_pass.Statement.{statement}

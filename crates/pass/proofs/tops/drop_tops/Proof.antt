@@ -1,8 +1,7 @@
 use borrow.Author.Needs.{needs}
 use native.Mathlib.Omega.{arith}
 use Prim.Native.Nat.{_-_, _≤_}
-use mathlib.Core.Path.{_≡_, refl, sym, ap, _∙_}
-use lib.ListN.{length, take}
+use lib.ListN.{take}
 use Rattle.graph.specs.Basic.{fold}
 use Rattle.graph.specs.State.{overgrownOf}
 use Rattle.graph.specs.Layout.{stateOf}

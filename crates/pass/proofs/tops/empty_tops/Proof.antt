@@ -1,7 +1,7 @@
 use borrow.Author.Needs.{needs}
 use native.Mathlib.Omega.{arith}
 use Prim.Native.Nat.{_-_, _≤_}
-use mathlib.Core.Path.{_≡_, refl, sym, ap, _∙_}
+use mathlib.Core.Path.{sym, _∙_}
 use Rattle.graph.specs.State.{overgrownOf}
 use Rattle.graph.specs.Layout.{stateOf}
 use Rattle.pass.specs.TopLaws.{Counted, count-none, count-more, count-stop, count-all}
