@@ -305,10 +305,10 @@ module _ (e n : ℕ) (c : State) (sides : (v : ℕ) → all (λ t. ltb t (2 * e)
     shrink-kept-le = distinct-length (2 * e) (shrinkPass c n .kept) (shrink-pass-listed .once) (shrink-pass-listed .inside)
 
 -- at most one vertex is noted for each boundary side
-abbrev Noted : List ℕ → Work → Type 0
+abbrev pub Noted : List ℕ → Work → Type 0
 Noted l w = w .noted ≡ l
 
-noted-keep-once : (l : List ℕ) (w : Work) (s : ℕ) → Noted l w → Noted l (keepOnce w s)
+pub noted-keep-once : (l : List ℕ) (w : Work) (s : ℕ) → Noted l w → Noted l (keepOnce w s)
 unfolding keepOnce keep
 noted-keep-once l w s p = if-both (Noted l) (member s (w .kept)) p p
 
@@ -316,11 +316,11 @@ noted-drop-side : (l : List ℕ) (w : Work) (t : ℕ) → Noted l w → Noted l 
 unfolding dropSide callAnother
 noted-drop-side l w t p = noted-keep-once l (onState w (freeSide (w .state) t)) (opposite t) (unfold onState in p)
 
-noted-drop-step : (n : ℕ) (l : List ℕ) (w : Work) (v : ℕ) → Noted l w → Noted l (dropStep n w v)
+pub noted-drop-step : (n : ℕ) (l : List ℕ) (w : Work) (v : ℕ) → Noted l w → Noted l (dropStep n w v)
 unfolding dropStep
 noted-drop-step n l w v p = if-both (Noted l) (eqb (vertexHolderAt (w .state) v) (n + 1)) (fold-keeps dropSide (Noted l) (noted-drop-side l) (onState w (freeVertex (w .state) v)) (sidesAt (w .state) v) (unfold onState in p)) p
 
-count-shrink-step : (k : ℕ) (w : Work) (s : ℕ) (r : List ℕ) → length (w .noted) + suc (length r) ≤ k → length (shrinkStep w s .noted) + length r ≤ k
+pub count-shrink-step : (k : ℕ) (w : Work) (s : ℕ) (r : List ℕ) → length (w .noted) + suc (length r) ≤ k → length (shrinkStep w s .noted) + length r ≤ k
 unfolding shrinkStep note
 count-shrink-step k w s r h =
     if-both (λ (x : Work). length (x .noted) + length r ≤ k) (eqb (growthAt (w .state) s) 0 && eqb (defectAt (w .state) (endAt (w .state) s)) 0)

@@ -259,6 +259,11 @@ module _ {t : List ℤ} {m : ℕ} {a b c : List ℕ} (h : Holding t m a b c) whe
   pub first-numbers : numbersAt t 0 (length a) ≡ a
   first-numbers = rw (h .words, scratch-numbers m a b c 0 (length a)) (unfold padded in rw (append-assoc a (replicate (m - length a) 0) (padded m b ++ padded m c)) (take-at a (replicate (m - length a) 0 ++ (padded m b ++ padded m c)) (length a) refl))
 
+  pub second-numbers : numbersAt t m (length b) ≡ b
+  second-numbers =
+      rw (h .words, scratch-numbers m a b c m (length b), drop-at (padded m a) (padded m b ++ padded m c) m (length-padded m a (h .keeps)))
+      (unfold padded in rw (append-assoc b (replicate (m - length b) 0) (padded m c)) (take-at b (replicate (m - length b) 0 ++ padded m c) (length b) refl))
+
   pub third-numbers : numbersAt t (2 * m) (length c) ≡ c
   third-numbers =
       let z : length (padded m a ++ padded m b) ≡ 2 * m = length-append (padded m a) (padded m b) ∙ omega (arith, length-padded m a (h .keeps), length-padded m b (h .notes)) in

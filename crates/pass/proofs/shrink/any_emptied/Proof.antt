@@ -1,0 +1,61 @@
+use borrow.Author.Needs.{needs}
+use native.Mathlib.Omega.{arith}
+use Prim.Native.Nat.{_-_, _≤_}
+use mathlib.Core.Path.{_≡_, refl, sym, ap, _∙_}
+use lib.ListN.{drop}
+use Rattle.graph.specs.Basic.{any}
+use Rattle.graph.specs.State.{boundaryOf}
+use Rattle.graph.specs.Layout.{stateOf}
+use Rattle.pass.specs.Shrinking.{emptied}
+use Rattle.pass.specs.laws.Shrink.{any-found, any-more, any-end}
+use Rattle.pass.proofs.shrink.any_emptied.Statement.{statement}
+use Rattle.pass.proofs.shrink.any_emptied.Tie as tie
+
+abbrev Inv-loop : tie.InvT-loop
+Inv-loop b n l i₀ i = (i ≤ l) × (any (emptied (stateOf b)) (drop i (boundaryOf (stateOf b) n)) ≡ any (emptied (stateOf b)) (boundaryOf (stateOf b) n))
+
+abbrev μ-loop : tie.MeasureT-loop
+μ-loop b n l i₀ i = l - i
+
+boundary-len-requires : tie.Need-boundary-len-requires Inv-loop μ-loop
+boundary-len-requires c κs = search needs
+
+loop-holds : tie.Need-loop-holds Inv-loop μ-loop
+loop-holds c = (omega arith, refl)
+
+boundary-side-requires : tie.Need-boundary-side-requires Inv-loop μ-loop
+boundary-side-requires c κs = search needs
+
+emptied-requires : tie.Need-emptied-requires Inv-loop μ-loop
+emptied-requires c κs = search needs
+
+returns : tie.Need-returns Inv-loop μ-loop
+returns c = sym (any-found (emptied (stateOf (c .before .before .before .before .before .before .args .b .now))) (boundaryOf (stateOf (c .before .before .before .before .before .before .args .b .now)) (c .before .before .before .before .before .before .args .n)) (c .before .before .before .before .loop .i) (omega arith) (ap (emptied (stateOf (c .before .before .before .before .before .before .args .b .now))) (sym (c .before .before .boundary-side .ensures .0)) ∙ sym (c .before .emptied .ensures) ∙ c .if1 .taken)) ∙ c .before .before .before .before .loop .inv .1
+
+add-i : tie.Need-add-i Inv-loop μ-loop
+add-i c = search needs
+
+loop-less : tie.Need-loop-less Inv-loop μ-loop
+loop-less c = search needs
+
+loop-again : tie.Need-loop-again Inv-loop μ-loop
+loop-again c = (omega arith, sym (any-more (emptied (stateOf (c .before .before .before .before .before .before .args .b .now))) (boundaryOf (stateOf (c .before .before .before .before .before .before .args .b .now)) (c .before .before .before .before .before .before .args .n)) (c .before .before .before .before .loop .i) (omega arith) (ap (emptied (stateOf (c .before .before .before .before .before .before .args .b .now))) (sym (c .before .before .boundary-side .ensures .0)) ∙ sym (c .before .emptied .ensures) ∙ c .if1 .left)) ∙ c .before .before .before .before .loop .inv .1)
+
+returns-2 : tie.Need-returns-2 Inv-loop μ-loop
+returns-2 c = sym (any-end (emptied (stateOf (c .before .before .before .args .b .now))) (boundaryOf (stateOf (c .before .before .before .args .b .now)) (c .before .before .before .args .n)) (c .before .loop .i) (omega arith)) ∙ c .before .loop .inv .1
+
+pub any-emptied-spec : {M : Type 1} → statement M
+any-emptied-spec =
+    tie.close
+    (tie.spec
+    Inv-loop
+    μ-loop
+    boundary-len-requires
+    loop-holds
+    boundary-side-requires
+    emptied-requires
+    returns
+    add-i
+    loop-less
+    loop-again
+    returns-2)
