@@ -13,7 +13,7 @@ use borrow.Author.Tests.{eq-eqb, ne-eqb}
 use Rattle.graph.specs.Basic.{if_then_else_}
 use Rattle.graph.specs.State.{State, up, vertexCount, sideCount, nodeCount, endAt}
 use Rattle.graph.specs.Layout.{stateOf}
-use Rattle.graph.specs.Form.{Laid, Formed, Becomes}
+use Rattle.graph.specs.Form.{Formed, Becomes}
 use Rattle.graph.specs.laws.Row.{becomes-none, becomes-then}
 use Rattle.graph.specs.laws.Field.{end-below}
 use Rattle.graph.specs.laws.Shape.{Shape}
@@ -24,15 +24,11 @@ use Rattle.pass.specs.Prepare.{onePass, Prepared, prepareFrom, prepareNo
 use Rattle.pass.specs.laws.Passes.{Passed}
 use Rattle.pass.specs.laws.Counts.{EndsIn}
 use Rattle.pass.specs.laws.Prepare.{passState, one-passed, one-up, one-down, prepare-more, prepare-last, left, left-le, pass-falls, prepare-fuel, prepare-enough}
-use Rattle.pass.specs.laws.Form.{laid-shape}
+use Rattle.pass.specs.laws.Form.{laid-shape, formed-vertices}
 use Rattle.pass.specs.Ready.{Ready, Growable, Shrinkable, Preparable, AfterPass, AfterPreparation}
 use Rattle.pass.specs.laws.Ready.{ready-again, sound-shrinkable, growable-again, shrinkable-again}
 
 -- ---- of a block in form
-
-pub formed-vertices : (b : List ℤ) → Formed b → 1 ≤ vertexCount (stateOf b)
-unfolding Laid
-formed-vertices b f = omega arith
 
 pub formed-ends : (b : List ℤ) → Formed b → EndsIn (stateOf b)
 formed-ends b f s =
@@ -114,8 +110,8 @@ module _ {b₀ b b' t₀ t t' : List ℤ} {n d k : ℕ} {r : Bool} (p : Preparin
         ready = q;
         able = rw now-is (preparable-again b t n d (p .ready) (p .able));
         goes = λ e.
-          prepare-fuel (suc (left d (stateOf b'))) (left d (stateOf b)) (stateOf b') n d (k + 1) (formed-ends b' (q .formed)) (omega arith) (falls e)
-          ∙ rw now-is (sym (prepare-more (left d (stateOf b)) (stateOf b) n d k (sym (a .another) ∙ e))) ∙ p .goes refl;
+            prepare-fuel (suc (left d (stateOf b'))) (left d (stateOf b)) (stateOf b') n d (k + 1) (formed-ends b' (q .formed)) (omega arith) (falls e)
+            ∙ rw now-is (sym (prepare-more (left d (stateOf b)) (stateOf b) n d k (sym (a .another) ∙ e))) ∙ p .goes refl;
         ends = λ e. rw now-is (sym (prepare-last (left d (stateOf b)) (stateOf b) n d k (sym (a .another) ∙ e)) ∙ p .goes refl);
         room = λ e. omega (arith, falls e, p .room refl);
         most = omega (arith, p .room refl);
