@@ -1,0 +1,183 @@
+#!/usr/bin/env python3
+"""Runs the passes of crate `pass` on the preparations of the record streams, and compares.
+
+    tests/passes/compare.py [--count 2000] [--seed 1]
+
+Every preparation that the Python model makes while it runs the streams gives a block before it and a block after it. A small
+program lends the block to `prepare_dual_node_growth` and writes the number of passes and a checksum of the block that is left
+(words that are free set to zero) and of the scratch. `rt try` runs it, with no proof, compiled at -O0 and at -O3, and with the
+compiler's assumptions checked (its interpreter stops after ten million steps, some forty preparations).
+MODEL and VECTORS as in tests/definitions/compare.py.
+"""
+import argparse, copy, os, random, shutil, struct, subprocess, sys, tempfile
+
+TOP = os.path.dirname(os.path.dirname(os.path.dirname(os.path.abspath(__file__))))
+sys.path.insert(0, os.environ.get('MODEL', os.path.join(TOP, '..', 'shared', 'model')))
+import model as M  # noqa: E402
+import runner as R  # noqa: E402
+
+PROGRAM = '''// Lends each block of the input to a preparation.
+fn number(b: &[u8], i: usize) -> usize {
+    let mut x = 0;
+    let mut k = 8;
+    while 0 < k {
+        k -= 1;
+        x = x * 256 + b[8 * i + k] as usize;
+    }
+    x
+}
+
+fn fill(b: &mut [i64], bytes: &[u8], n: usize) {
+    let mut i = 0;
+    while i < n {
+        b[i] = number(bytes, i) as i64;
+        i += 1;
+    }
+}
+
+// The words of free rows and of the free store become zero.
+fn tidy(b: &mut [i64]) {
+    let v = b[0] as usize;
+    let e = b[1] as usize;
+    let n = b[2] as usize;
+    let l = b[3] as usize;
+    let c = b[4] as usize;
+    let rows = 16 + 4 * v + 11 * e;
+    let mut i = c;
+    while i < n {
+        let mut k = 0;
+        while k < 7 {
+            b[rows + k * n + i] = 0;
+            k += 1;
+        }
+        i += 1;
+    }
+    let mut used = 0;
+    i = 0;
+    while i < c {
+        used += b[rows + 5 * n + i] as usize + b[rows + 6 * n + i] as usize;
+        i += 1;
+    }
+    while used < l {
+        b[rows + 7 * n + used] = 0;
+        used += 1;
+    }
+}
+
+fn sum(b: &[i64], start: usize) -> usize {
+    let mut h = start;
+    let mut i = 0;
+    while i < b.len() {
+        h = (h * 31 + b[i] as usize % 1000000007) % 1000000007;
+        i += 1;
+    }
+    h
+}
+
+fn main() {
+    let mut head = [0u8; 32];
+    let mut bytes = [0u8; 65536];
+    let mut block = [0i64; 8192];
+    let mut scratch = [0i64; 1024];
+    while io::read_full(0, &mut head) == 32 {
+        let k = number(&head, 0);
+        let m = number(&head, 1);
+        let n = number(&head, 2);
+        let d = number(&head, 3);
+        io::read_full(0, &mut bytes[0..8 * k]);
+        fill(&mut block, &bytes, k);
+        let passes = pass::prepare::prepare_dual_node_growth(&mut block[0..k], &mut scratch[0..m], n, d);
+        tidy(&mut block[0..k]);
+        io::print_decimal(1, passes as u64);
+        io::write_all(1, b" ");
+        io::print_decimal(1, sum(&scratch[0..m], sum(&block[0..k], 7)) as u64);
+        io::write_all(1, b"\\n");
+    }
+}
+'''
+
+
+def words(st):
+    """The block of a state, free words zero (docs/LAYOUT.md)."""
+    pad = lambda xs: list(xs) + [0] * (st.N - len(st.nodes))
+    first, at, store, start = [], [], [], []
+    for sides in st.at:
+        first.append(len(at))
+        at += sides
+    for n in st.nodes:
+        start.append(len(store))
+        store += n.boundary + [a * 1024 + v for v, a in n.overgrown]
+    up = lambda xs: [x + 1 for x in xs]
+    rows = [[st.V, st.E, st.N, st.L, len(st.nodes)] + [0] * 11,
+            [int(x) + 2 * int(y) for x, y in zip(st.virtual, st.defect)], up(st.vholder), up(st.vgrandson), first,
+            st.end, st.growth, up(st.holder), up(st.grandson), at, st.weight,
+            pad(n.vertex if n.vertex != M.NONE else st.V + n.first for n in st.nodes), pad(n.state for n in st.nodes),
+            pad(n.parent + 1 for n in st.nodes), pad(n.dual for n in st.nodes), pad(start),
+            pad(len(n.boundary) for n in st.nodes), pad(len(n.overgrown) for n in st.nodes), store + [0] * (st.L - len(store))]
+    return [x for row in rows for x in row]
+
+
+def checksum(ws, h=7):
+    for w in ws: h = (h * 31 + w % 1000000007) % 1000000007
+    return h
+
+
+def preparations(path):
+    """Every preparation of every stream, as (state before, node, direction, passes, state after)."""
+    seen, plain = [], M.do_prepare
+
+    def watched(st, n, direction, mended=True):
+        before = copy.deepcopy(st)
+        passes = plain(st, n, direction, mended)
+        seen.append((before, n, direction, passes, copy.deepcopy(st)))
+        return passes
+
+    M.do_prepare = watched
+    data = open(path, 'rb').read()
+    while data:
+        n, m = struct.unpack('<II', data[:8])
+        records, data = data[8:8 + n], data[8 + n + m:]
+        run = R.Run()
+        while records and not run.over:
+            if len(records) < 2 or len(records) < 2 + struct.unpack('<H', records[:2])[0]: break
+            k = struct.unpack('<H', records[:2])[0]
+            body, records = records[2:2 + k], records[2 + k:]
+            if k < 2 or (k - 2) % 4: break
+            run.feed(struct.unpack('<H' + 'i' * ((k - 2) // 4), body))
+    return seen
+
+
+def main():
+    p = argparse.ArgumentParser(description=__doc__, formatter_class=argparse.RawDescriptionHelpFormatter)
+    p.add_argument('--count', type=int, default=2000)
+    p.add_argument('--seed', type=int, default=1)
+    o = p.parse_args()
+    every = preparations(os.environ.get('VECTORS', os.path.join(TOP, '..', 'shared', 'vectors', 'streams.bin')))
+    busy = [x for x in every if words(x[0]) != words(x[4])]
+    rng = random.Random(o.seed)
+    chosen = rng.sample(busy, min(o.count * 3 // 4, len(busy)))
+    chosen += rng.sample(every, min(o.count - len(chosen), len(every)))
+    data, lines = b'', b''
+    for before, n, d, passes, after in chosen:
+        ws = words(before)
+        data += struct.pack('<4q', len(ws), 6 * before.E, n, d) + struct.pack(f'<{len(ws)}q', *ws)
+        lines += f'{passes} {checksum([0] * (6 * after.E), checksum(words(after)))}\n'.encode()
+    top = tempfile.mkdtemp()
+    for c in ('graph', 'pass'): shutil.copytree(os.path.join(TOP, 'crates', c), os.path.join(top, 'crates', c))
+    os.makedirs(os.path.join(top, 'crates', 'drive', 'src'))
+    open(os.path.join(top, 'crates.txt'), 'w').write('graph:\npass: graph\ndrive: pass graph io libc\n')
+    for name, text in ('src/main.rt', PROGRAM.encode()), ('stdin', data), ('stdout', lines):
+        open(os.path.join(top, 'crates', 'drive', name), 'wb').write(text)
+    subprocess.run(['git', 'init', '-q', top], check=True)
+    run = subprocess.run(['rt', 'try', 'drive'], cwd=top, capture_output=True, text=True)
+    native = [l for l in run.stdout.splitlines() + run.stderr.splitlines() if 'native' in l]
+    print('\n'.join(native))
+    most = max(x[3] for x in every)
+    print(f'{len(every)} preparations in the streams, {len(busy)} of which change the block, {most} passes at the most; {len(chosen)} run, '
+          f'{sum(x[2] for x in chosen)} of them growing, {sum(x[3] > 1 for x in chosen)} of more than one pass')
+    shutil.rmtree(top)
+    sys.exit(0 if len(native) == 3 and all(l.startswith('ok') for l in native) else 1)
+
+
+if __name__ == '__main__':
+    main()
