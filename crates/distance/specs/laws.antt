@@ -1,0 +1,14 @@
+-- The proofs behind Theorems.
+pub mod Choice
+pub mod Side
+pub mod Walk
+pub mod Relax
+pub mod Distance
+pub mod Leaving
+pub mod Certificate
+pub mod Nearest
+pub mod Table
+pub mod Feasible
+pub mod Injective
+pub mod Edge
+pub mod Needed

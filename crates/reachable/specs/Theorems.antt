@@ -1,0 +1,99 @@
+-- What is proved of reachable states and of preparation; each proof cites a law.
+use Prim.Native.Nat.{ℕ, _+_, _≤_, _<_}
+use mathlib.Core.Path.{_≡_}
+use mathlib.Core.Logic.{_≢_, _⊎_}
+use mathlib.Core.Bool.{Bool, true}
+use mathlib.Core.List.{List}
+use lib.ListN.{length}
+use Rattle.graph.specs.Basic.{member}
+use Rattle.graph.specs.State.{State, opposite, vertexCount, sideCount, nodeCount, endAt, growthAt, holderAt, vertexHolderAt, defectAt, virtualAt, parentOf, boundaryOf, overgrownOf, grownOver, weightOver, down}
+use Rattle.graph.specs.Open.{Edge, opened, openRefusal}
+use Rattle.graph.specs.Sound.{entries, sound}
+use Rattle.graph.specs.laws.Shape.{Shape, sound-entries}
+use Rattle.pass.specs.Prepare.{prepareNode}
+use Rattle.calls.specs.declared.Answer.the-variants.{Refused}
+use Rattle.calls.specs.Calls.{Call, maxUpdateLength, advance}
+use Rattle.reachable.specs.Reachable.{after, Reachable}
+use Rattle.reachable.specs.Passes.{Ends}
+use Rattle.reachable.specs.Invariant.{BoundaryHeld}
+use Rattle.reachable.specs.laws.prepare.Ends.{prepare-ends, prepare-passes}
+use Rattle.reachable.specs.laws.Calls.{opened-invariant, after-invariant, reachable-invariant}
+use Rattle.reachable.specs.laws.Length.{length-refusal, advance-refusal, not-thirteen}
+use Rattle.reachable.specs.laws.Facts.{free-together, same-growth, prepared-held, prepared-grown}
+
+-- ---- soundness
+
+-- whatever calls follow an accepted opening, the state that they reach is sound
+pub reachable-sound : (c : State) → Reachable c → sound c ≡ true
+reachable-sound c r = reachable-invariant c r .sounds
+
+-- the same of an accepted opening and a list of calls: any graph and weights, 0 among them; any calls, blossoms and refused ones among them
+pub calls-sound : (v e n l : ℕ) (edges : List Edge) (virtuals : List ℕ) (fits : Bool) → openRefusal v e n l edges virtuals fits ≡ 0 → (ks : List Call) → sound (after (opened v n l edges virtuals) ks) ≡ true
+calls-sound v e n l edges virtuals fits h ks = after-invariant (opened v n l edges virtuals) (opened-invariant v e n l edges virtuals fits h) ks .sounds
+
+-- ---- preparation, on every sound state
+
+-- preparation ends: the last pass calls for no other, and every pass before it calls for another (Shape: the lists have the lengths that
+-- V, E and the nodes fix, as those of every block have)
+pub preparation-ends : (c : State) → Shape c → 1 ≤ vertexCount c → sound c ≡ true → (n d : ℕ) → Ends c n d 0 (prepareNode c n d)
+preparation-ends = prepare-ends
+
+-- there are at most V + 1 passes
+pub preparation-passes : (c : State) (n d : ℕ) → prepareNode c n d .passes ≤ vertexCount c + 1
+preparation-passes = prepare-passes
+
+module _ (c : State) (r : Reachable c) where
+  -- ---- lists
+
+  -- refusal 9 counts 2E + V entries for a node: the lists of every node, in a blossom or not, have at most 2E and V
+  pub lists-within : (n : ℕ) → n < nodeCount c → (length (boundaryOf c n) ≤ sideCount c) × (length (overgrownOf c n) ≤ vertexCount c)
+  lists-within = reachable-invariant c r .fits
+
+  -- all lists together are within L
+  pub entries-within : entries c ≤ c .storeLimit
+  entries-within = sound-entries c (reachable-sound c r)
+
+  -- ---- edges and sides
+
+  -- an edge passes its weight only where one node holds both its sides
+  pub edge-within-weight : (s : ℕ) → s < sideCount c → (grownOver c s ≤ weightOver c s) ⊎ ((holderAt c s ≢ 0) × (holderAt c (opposite s) ≡ holderAt c s))
+  edge-within-weight = reachable-invariant c r .clusters .global .within-weight
+
+  -- in either case its two growths differ by at most its weight
+  pub growths-differ : (s : ℕ) → s < sideCount c → growthAt c s ≤ growthAt c (opposite s) + weightOver c s
+  growths-differ = reachable-invariant c r .clusters .global .differ
+
+  -- a free side has growth 0
+  pub free-side-zero : (s : ℕ) → holderAt c s ≡ 0 → growthAt c s ≡ 0
+  free-side-zero = reachable-invariant c r .clusters .global .free
+
+  -- a side is free just where its vertex is
+  pub side-free-with-vertex : (s : ℕ) → s < sideCount c → (holderAt c s ≡ 0 → vertexHolderAt c (endAt c s) ≡ 0) × (vertexHolderAt c (endAt c s) ≡ 0 → holderAt c s ≡ 0)
+  side-free-with-vertex = free-together c (reachable-invariant c r)
+
+  -- a virtual vertex is never held
+  pub virtual-free : (v : ℕ) → virtualAt c v ≢ 0 → vertexHolderAt c v ≡ 0
+  virtual-free = reachable-invariant c r .clusters .defect-nodes .virtuals
+
+  -- listed sides at one vertex have the same growth
+  pub listed-same-growth : (n : ℕ) → n < nodeCount c → parentOf c n ≡ 0 → (s t : ℕ) → member s (boundaryOf c n) ≡ true → member t (boundaryOf c n) ≡ true → endAt c s ≡ endAt c t → growthAt c s ≡ growthAt c t
+  listed-same-growth = same-growth c (reachable-invariant c r)
+
+  -- ---- after preparation
+
+  -- an outermost node holds every side that it lists, whatever the weights: the mended pass leaves none without a holder
+  pub prepared-boundary-held : (n d : ℕ) → n < nodeCount c → parentOf c n ≡ 0 → BoundaryHeld (prepareNode c n d .state) n
+  prepared-boundary-held = prepared-held c (reachable-invariant c r)
+
+  -- and after preparation for shrinking a listed side of growth 0 stands at a defect
+  pub prepared-zero-at-defect : (n : ℕ) → n < nodeCount c → parentOf c n ≡ 0 → (s : ℕ) → member s (boundaryOf (prepareNode c n down .state) n) ≡ true → growthAt (prepareNode c n down .state) s ≡ 0 → defectAt (prepareNode c n down .state) (endAt (prepareNode c n down .state) s) ≢ 0
+  prepared-zero-at-defect = prepared-grown c (reachable-invariant c r)
+
+  -- ---- refusal 13
+
+  -- 13 is met only without preparing: neither a length that prepares first nor `advance` is refused so
+  pub length-never-refused-13 : (n d : ℕ) → maxUpdateLength c n d true .answer ≢ Refused 13
+  length-never-refused-13 n d = not-thirteen _ (length-refusal c (reachable-invariant c r) n d)
+
+  pub advance-never-refused-13 : (n : ℕ) → advance c n .answer ≢ Refused 13
+  advance-never-refused-13 n = not-thirteen _ (advance-refusal c (reachable-invariant c r) n)

@@ -1,0 +1,21 @@
+-- The proofs, by subject; each subject rests on those above it.
+
+-- the invariant over plain functions: depths, one vertex released, one taken, what is left alone
+pub mod invariant
+-- the invariant of a state, and soundness in parts
+pub mod state
+-- the two passes
+pub mod shrink
+pub mod grow
+-- preparation, in either direction, and the scan of a prepared node
+pub mod prepare
+-- accepted growth
+pub mod Growth
+-- a defect and a blossom inserted
+pub mod insert
+-- every call; so every reachable state
+pub mod Calls
+-- what follows
+pub mod Length
+pub mod Facts
+pub mod WithoutBlossoms

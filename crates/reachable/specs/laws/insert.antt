@@ -1,0 +1,10 @@
+-- Inserting a defect or a blossom keeps the invariant.
+pub mod NewNode
+pub mod DefectState
+pub mod Defect
+pub mod Circle
+pub mod JoinedLists
+pub mod BlossomLabels
+pub mod BlossomState
+pub mod BlossomNumbers
+pub mod Blossom

@@ -1,0 +1,7 @@
+-- Preparation: passes until none is called for.
+pub mod Holders
+pub mod PassDone
+pub mod FinishedState
+pub mod Preparation
+pub mod Scan
+pub mod Ends

@@ -1,0 +1,10 @@
+-- Demand 3 of document 01, about the definitions: the growth table after any list of calls without a blossom is the one worked out from
+-- distances. History and Runs define what Theorems states; the proofs are in laws/.
+pub mod Answers
+pub mod History
+pub mod Runs
+pub mod Theorems
+pub mod Opens
+pub mod Examples
+pub mod Hypotheses
+pub mod laws

@@ -1,0 +1,36 @@
+-- Demand 3 of document 01. A run is an accepted opening and any list of calls in which no blossom is accepted (Runs); its history has each
+-- node's dual variable (History); distances and the table from them are those of crate `distance`.
+use Prim.Native.Nat.{ℕ, _<_}
+use mathlib.Core.Path.{_≡_}
+use mathlib.Core.Logic.{_↔_}
+use mathlib.Core.List.{List}
+use Rattle.graph.specs.Open.{Edge}
+use Rattle.calls.specs.Calls.{growthTable}
+use Rattle.distance.specs.Table.{tableFromDistances}
+use Rattle.distance.specs.Feasible.{Feasible}
+use Rattle.distance.specs.Nearest.{ReachesVirtual}
+use Rattle.table.specs.History.{dualAt, dualsOf}
+use Rattle.table.specs.Runs.{openedGraph, SameVertices, PositiveWeights, Run, end, history, SameNodes}
+use Rattle.table.specs.laws.Runs.{end-matches, end-table, end-feasible, tables-tell-duals}
+
+-- The growth table is the one worked out from distances and the history's dual variables.
+pub table-is-from-distances : (v : ℕ) (edges : List Edge) (virtuals : List ℕ) → PositiveWeights edges
+    → (r : Run v edges virtuals) → growthTable (end r) ≡ tableFromDistances (openedGraph v edges virtuals) (dualsOf v (history r))
+table-is-from-distances v edges virtuals positive r = end-table r positive
+
+-- The nodes are those of the history: as many, and each with its vertex, grow state and dual variable.
+pub nodes-are-recorded : (v : ℕ) (edges : List Edge) (virtuals : List ℕ) (r : Run v edges virtuals) → SameNodes (end r) (history r)
+nodes-are-recorded v edges virtuals r = end-matches r .nodes
+
+-- The dual variables are feasible: two defects are at least as far apart as theirs sum to, and every virtual vertex is at least as far as one.
+pub duals-are-feasible : (v : ℕ) (edges : List Edge) (virtuals : List ℕ) → PositiveWeights edges
+    → (r : Run v edges virtuals) → Feasible (openedGraph v edges virtuals) (dualsOf v (history r))
+duals-are-feasible v edges virtuals positive r = end-feasible r positive
+
+-- Two runs on one graph (the same V, edges in order, weights and virtual vertices; any two N and L) where each vertex reaches a virtual one:
+-- their tables are equal exactly when every vertex has the same dual variable.
+pub tables-equal-exactly-when-duals-are : (v : ℕ) (edges : List Edge) (virtuals others : List ℕ) → SameVertices v virtuals others → PositiveWeights edges
+    → ((a : ℕ) → a < v → ReachesVirtual (openedGraph v edges virtuals) a)
+    → (r : Run v edges virtuals) (s : Run v edges others)
+    → (growthTable (end r) ≡ growthTable (end s)) ↔ ((a : ℕ) → a < v → dualAt (history r) a ≡ dualAt (history s) a)
+tables-equal-exactly-when-duals-are v edges virtuals others same positive reach r s = tables-tell-duals same positive r s reach
