@@ -10,6 +10,7 @@ pub mod Node
 pub mod Form
 pub mod Replace
 pub mod Opening
+pub mod Insert
 pub mod Scans
 pub mod Budget
 pub mod Example

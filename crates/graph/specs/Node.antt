@@ -46,6 +46,11 @@ nodeAt c n = record {
   top = topAmount (overgrownOf c n);
 }
 
+-- a stack with the amount of its top set to x
+unfoldable pub withTop : ℕ → List Overgrown → List Overgrown
+withTop x [] = []
+withTop x (o ∷ os) = record { vertex = o .vertex; amount = x } ∷ os
+
 -- ---- what can be moved without passing the machine's numbers
 
 pub record Movable (d l x : ℕ) : Type 0 where

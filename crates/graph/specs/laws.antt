@@ -5,6 +5,8 @@ pub mod Clear
 pub mod Count
 pub mod Cut
 pub mod Field
+pub mod Form
+pub mod Insert
 pub mod Join
 pub mod List
 pub mod Members
@@ -28,6 +30,7 @@ pub mod State
 pub mod Store
 pub mod Sums
 pub mod Table
+pub mod Top
 pub mod Used
 pub mod Walk
 pub mod Wiring

@@ -15,6 +15,8 @@ pub mod clear; // clearing a block
 pub mod sides; // the sides at a vertex
 pub mod lists; // the lists of a node
 pub mod store; // replacing the lists of a node
+pub mod insert; // one more node
+pub mod top; // the top of an overgrown stack, and a node read as a value
 pub mod sound_graph; // the soundness test of the graph, the vertices and the sides
 pub mod sound_lists; // the soundness test of the nodes' lists
 pub mod sound_nodes; // the soundness test of the nodes

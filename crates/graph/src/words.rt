@@ -1,9 +1,10 @@
 // Words as numbers.
 
 ghost use mathlib.Core.Path.{_≡_};
-ghost use Prim.Native.Nat.{_<_};
+ghost use Prim.Native.Nat.{_<_, _≤_};
 ghost use lib.ListN.{length, set};
-ghost use lib.IntN.{pos};
+ghost use lib.IntN.{pos, natAbs};
+ghost use lib.Signed.{nonNeg};
 ghost use Rattle.graph.specs.Word.{toNat, wordAt};
 
 // The number that a word stands for; the greatest word for a negative one.
@@ -39,4 +40,22 @@ pub fn put(b: &mut [i64], i: usize, x: usize)
     ensures { λ r. ⌜ now (b .exit) ≡ set (now (b .entry)) i (pos x) ⌝ }
 {
     b[i] = to_word(x);
+}
+
+// Whether a signed number is not negative.
+pub fn non_negative(x: i64) -> bool
+    ensures { λ r. ⌜ r ≡ nonNeg x ⌝ }
+{
+    0 <= x
+}
+
+// How far a signed number is from zero.
+pub fn magnitude(x: i64) -> usize
+    ensures { λ r. ⌜ (r ≡ natAbs x) × (r ≤ 9223372036854775808) ⌝ }
+{
+    if x < 0 {
+        (-1 - x) as usize + 1
+    } else {
+        x as usize
+    }
 }

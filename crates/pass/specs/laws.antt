@@ -2,7 +2,6 @@
 pub mod Counts
 pub mod Finish
 pub mod Fits
-pub mod Form
 pub mod Grow
 pub mod GrowSound
 pub mod Growing

@@ -11,8 +11,9 @@ use Rattle.graph.specs.State.{State, nodeCount, boundaryOf, overgrownOf}
 use Rattle.graph.specs.Sound.{entries, entriesOf}
 use Rattle.graph.specs.Rows.{offset}
 use Rattle.graph.specs.Layout.{rowsOf, row, stateOf}
-use Rattle.graph.specs.Form.{Laid, Listed}
+use Rattle.graph.specs.Form.{Laid, Listed, totalFrom}
 use Rattle.graph.specs.laws.Row.{header-get, rows-length}
+use Rattle.graph.specs.laws.Sums.{sum-same}
 use Rattle.graph.specs.laws.List.{startWord, blenWord, olenWord, store-max, lists-of}
 use Rattle.graph.specs.laws.Cut.{sumOf, startAt, restAt, total-sum, starts-at, parts-sum, start-behind}
 
@@ -37,11 +38,6 @@ sum-first : (f : ℕ → ℕ) (n : ℕ) → sumBelow f (suc n) ≡ f 0 + sumBelo
 unfolding sumBelow
 sum-first f zero = omega arith
 sum-first f (suc n) = let ih : sumBelow f n + f n ≡ f 0 + sumBelow (λ i. f (suc i)) n = sum-first f n in omega arith
-
-sum-same : (f g : ℕ → ℕ) (n : ℕ) → ((i : ℕ) → i < n → f i ≡ g i) → sumBelow f n ≡ sumBelow g n
-unfolding sumBelow
-sum-same f g zero h = refl
-sum-same f g (suc n) h = let ih : sumBelow f n ≡ sumBelow g n = sum-same f g n (λ i k. h i (omega arith)) in let e : f n ≡ g n = h n (omega arith) in omega arith
 
 sum-lists : (bs os : List ℕ) → length bs ≡ length os → sumBelow (λ i. getD bs i 0 + getD os i 0) (length bs) ≡ sumOf bs os
 unfolding sumOf sumBelow
@@ -76,10 +72,10 @@ module _ (b : List ℤ) (q : Laid b) (f : Listed b) where
   unfolding Laid offset
   length-os = length-take-le (getD (row (rowsOf b) 0) 4 0) (row (rowsOf b) 17) (omega (arith, rows-length b 17 (omega arith), count-is)) ∙ count-is
 
-  blen-is : (n : ℕ) → n < nodeCount (stateOf b) → getD (blens b) n 0 ≡ blenWord b n
+  pub blen-is : (n : ℕ) → n < nodeCount (stateOf b) → getD (blens b) n 0 ≡ blenWord b n
   blen-is n h = getD-take (getD (row (rowsOf b) 0) 4 0) (row (rowsOf b) 16) n 0 (omega (arith, count-is))
 
-  olen-is : (n : ℕ) → n < nodeCount (stateOf b) → getD (olens b) n 0 ≡ olenWord b n
+  pub olen-is : (n : ℕ) → n < nodeCount (stateOf b) → getD (olens b) n 0 ≡ olenWord b n
   olen-is n h = getD-take (getD (row (rowsOf b) 0) 4 0) (row (rowsOf b) 17) n 0 (omega (arith, count-is))
 
   pub start-is : (n : ℕ) → n < nodeCount (stateOf b) → startWord b n ≡ startAt (blens b) (olens b) n
@@ -91,7 +87,7 @@ module _ (b : List ℤ) (q : Laid b) (f : Listed b) where
       ∙ omega arith
 
   -- all lists have as many words as there are entries
-  sum-entries : sumOf (blens b) (olens b) ≡ entries (stateOf b)
+  pub sum-entries : sumOf (blens b) (olens b) ≡ entries (stateOf b)
   unfolding entries entriesOf
   sum-entries =
       sym (sum-lists (blens b) (olens b) (length-bs ∙ sym length-os))
@@ -101,6 +97,10 @@ module _ (b : List ℤ) (q : Laid b) (f : Listed b) where
 
   parts : (n : ℕ) → n < nodeCount (stateOf b) → startWord b n + (blenWord b n + olenWord b n) + restAt (blens b) (olens b) n ≡ entries (stateOf b)
   parts n h = omega (arith, sum-entries, parts-sum (blens b) (olens b) n (omega (arith, length-bs)) (omega (arith, length-os)), start-is n h, blen-is n h, olen-is n h)
+
+  -- and the next list would start behind them
+  pub entries-total : (n : ℕ) → n ≡ nodeCount (stateOf b) → entries (stateOf b) ≡ totalFrom 0 (take n (row (rowsOf b) 16)) (take n (row (rowsOf b) 17))
+  entries-total n e = rw (e, ← count-is) (sym sum-entries ∙ sym (total-sum 0 (blens b) (olens b) ∙ omega arith))
 
   pub entries-within : entries (stateOf b) ≤ stateOf b .storeLimit
   unfolding Laid Listed

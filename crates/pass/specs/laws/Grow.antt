@@ -25,7 +25,7 @@ use Rattle.pass.specs.Grow.{reaches, growStep, takeStep, growScanned, gr
 use Rattle.pass.specs.laws.Passes.{keeps-grow-step, grow-scanned-keeps, grow-pass-keeps}
 use Rattle.pass.specs.Scratch.{zeroScratch, wiped, Holding}
 use Rattle.pass.specs.laws.Scratch.{holding-zero, zero-holding, wipe-first, wipe-second, wipe-third}
-use Rattle.pass.specs.laws.Form.{formed-shape, formed-vertices}
+use Rattle.graph.specs.laws.Form.{formed-shape, formed-vertices}
 use Rattle.pass.specs.Ready.{Ready, Growable, AfterPass}
 use Rattle.pass.specs.laws.Fits.{OwnSides, grow-scanned-own, Still, still-grow-step, sound-own-sides, sound-grow-fits, sound-boundary-le}
 use Rattle.pass.specs.Growing.{workIn, Working, Worked, OwnKept}

@@ -24,7 +24,7 @@ use Rattle.pass.specs.Prepare.{onePass, Prepared, prepareFrom, prepareNo
 use Rattle.pass.specs.laws.Passes.{Passed}
 use Rattle.pass.specs.laws.Counts.{EndsIn}
 use Rattle.pass.specs.laws.Prepare.{passState, one-passed, one-up, one-down, prepare-more, prepare-last, left, left-le, pass-falls, prepare-fuel, prepare-enough}
-use Rattle.pass.specs.laws.Form.{laid-shape, formed-vertices}
+use Rattle.graph.specs.laws.Form.{laid-shape, formed-vertices}
 use Rattle.pass.specs.Ready.{Ready, Growable, Shrinkable, Preparable, AfterPass, AfterPreparation}
 use Rattle.pass.specs.laws.Ready.{ready-again, sound-shrinkable, growable-again, shrinkable-again}
 

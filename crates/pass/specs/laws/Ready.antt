@@ -25,7 +25,7 @@ use Rattle.pass.specs.Shrink.{belowTops, shrinkPass}
 use Rattle.pass.specs.laws.Passes.{Passed, grow-passed, shrink-passed, shrink-pass-keeps}
 use Rattle.pass.specs.laws.Fits.{Listed, own-length, sound-own-over, shrink-pass-listed, below-tops-le, shrink-over}
 use Rattle.pass.specs.laws.GrowSound.{finish-boundary, finish-overgrown, grow-pass-sound, grow-pass-entries}
-use Rattle.pass.specs.laws.Form.{laid-shape}
+use Rattle.graph.specs.laws.Form.{laid-shape}
 use Rattle.pass.specs.Ready.{Ready, Growable, Shrinkable, AfterPass}
 
 -- ---- the store

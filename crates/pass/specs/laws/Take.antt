@@ -23,7 +23,7 @@ use Rattle.pass.specs.Work.{Work, onState, keep, push, callAnother}
 use Rattle.pass.specs.Grow.{takeSide, takeVertex, takeStep}
 use Rattle.pass.specs.laws.Passes.{Keeps, keeps-take-side, keeps-take-step, keeps-on}
 use Rattle.pass.specs.laws.Fits.{OwnSides, own-length, own-snoc, side-holds, side-held, own-take-side, Siding, siding-step, Still, still-take-side}
-use Rattle.pass.specs.laws.Form.{formed-shape}
+use Rattle.graph.specs.laws.Form.{formed-shape}
 use Rattle.pass.specs.Growing.{workIn, Working, Worked, OwnKept}
 use Rattle.pass.specs.laws.Growing.{kept-sides, kept-overgrown, kept-length, noted-length, over-length, work-push, worked-then, work-keep, work-call, work-block, work-none, Keeping}
 use Rattle.pass.specs.declared.take.GrowProgress.{GrowProgress}
