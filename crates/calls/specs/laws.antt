@@ -1,5 +1,12 @@
 -- Laws about the definitions of `calls`.
 pub mod Accepted
 pub mod Growth
+pub mod Length
+pub mod Moving
+pub mod Read
+pub mod Readable
+pub mod Refuse
+pub mod Replies
+pub mod Scanning
 pub mod Shapes
 pub mod Sounds

@@ -1,0 +1,29 @@
+-- What a call asks of the memory that is lent to it, and what it leaves there.
+use Prim.Native.Nat.{ℕ, _*_}
+use mathlib.Core.Path.{_≡_}
+use mathlib.Core.Bool.{true}
+use mathlib.Core.List.{List, _++_, map}
+use lib.IntN.{ℤ, pos}
+use lib.ListN.{length, drop}
+use Rattle.graph.specs.State.{sideCount}
+use Rattle.graph.specs.Sound.{sound}
+use Rattle.graph.specs.Layout.{stateOf}
+use Rattle.graph.specs.Form.{Formed, Becomes}
+use Rattle.pass.specs.Scratch.{zeroScratch}
+use Rattle.calls.specs.declared.Answer.{Answer}
+use Rattle.calls.specs.Answer.{Reply}
+
+-- a block in form whose state is sound, and a scratch of 3 words for each side that is all zero
+pub record Usable (b t : List ℤ) : Type 0 where
+  pub formed : Formed b
+  pub sounds : sound (stateOf b) ≡ true
+  pub scratch : t ≡ zeroScratch (3 * sideCount (stateOf b))
+
+-- after b₀: the answer is that of the reply, and the block holds its state
+pub record Replies (b₀ b : List ℤ) (a : Answer) (r : Reply) : Type 0 where
+  pub answer : a ≡ r .answer
+  pub block : Becomes b₀ b (r .state)
+
+-- t with the numbers l at its front
+unfoldable pub placed : List ℕ → List ℤ → List ℤ
+placed l t = map pos l ++ drop (length l) t

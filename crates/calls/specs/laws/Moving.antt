@@ -1,0 +1,181 @@
+-- Growth number by number and side by side is growth.
+use Prim.Native.Nat.{ℕ, zero, suc, _+_, _-_, _≤_, _<_}
+use native.Mathlib.Omega.{arith}
+use mathlib.Core.Path.{_≡_, refl, sym, ap, _∙_}
+use mathlib.Core.Logic.{_≢_}
+use mathlib.Core.Bool.{Bool, true, false, _||_}
+use mathlib.Core.List.{List, [], _∷_}
+use lib.IntN.{ℤ}
+use lib.Dec.{eqb, ltb}
+use lib.ListN.{length, getD, set, take}
+use lib.Seq.{set-getD, take-all}
+use borrow.Author.Tests.{ne-eqb}
+use Rattle.graph.specs.Basic.{if_then_else_, fold, any, all, member, distinct}
+use Rattle.graph.specs.State.{State, Overgrown, up, sideCount, nodeCount, growthAt, dualOf, boundaryOf, overgrownOf, withNodes, withDual, withOvergrown}
+use Rattle.graph.specs.Node.{Movable, NodeMovable, moved, movedTop, topAmount, nodeAt, grownNode, withTop}
+use Rattle.graph.specs.Layout.{stateOf}
+use Rattle.graph.specs.Form.{Formed, Becomes, sidesOk}
+use Rattle.graph.specs.Open.{growthLimit}
+use Rattle.graph.specs.laws.State.{fold-more}
+use Rattle.graph.specs.laws.Members.{by-test, clash, member-at, member-cons, distinct-head, distinct-tail}
+use Rattle.calls.specs.Growth.{passesWeight, passesLimit, fallsShort, growCheck, topIs, movedStack, moveSide, growApply}
+use Rattle.calls.specs.Moving.{numberRefuses, nodeRefuses, sideRefuses, refuses, moveNode, SidesMovable, Growing}
+use Rattle.calls.specs.laws.Growth.{Moved, sides-moved, move-out}
+
+-- ---- what refuses it
+
+module _ (c : State) (n d l : ℕ) where
+  pub refused-10 : d ≡ up → any (sideRefuses c n l 10) (boundaryOf c n) ≡ true → 10 ≡ growCheck c n d l
+  unfolding growCheck sideRefuses
+  refused-10 e h = rw (e, h)
+
+  pub refused-12 : d ≡ up → any (sideRefuses c n l 10) (boundaryOf c n) ≡ false → refuses c n l 12 ≡ true → 12 ≡ growCheck c n d l
+  unfolding growCheck sideRefuses refuses nodeRefuses numberRefuses passesLimit
+  refused-12 e h k = rw (e, h, k)
+
+  pub grown-up : d ≡ up → any (sideRefuses c n l 10) (boundaryOf c n) ≡ false → refuses c n l 12 ≡ false → 0 ≡ growCheck c n d l
+  unfolding growCheck sideRefuses refuses nodeRefuses numberRefuses passesLimit
+  grown-up e h k = rw (e, h, k)
+
+  pub refused-11 : d ≢ up → refuses c n l 11 ≡ true → 11 ≡ growCheck c n d l
+  unfolding growCheck sideRefuses refuses nodeRefuses numberRefuses fallsShort
+  refused-11 e k = rw (ne-eqb d up e, k)
+
+  pub grown-down : d ≢ up → refuses c n l 11 ≡ false → 0 ≡ growCheck c n d l
+  unfolding growCheck sideRefuses refuses nodeRefuses numberRefuses fallsShort
+  grown-down e k = rw (ne-eqb d up e, k)
+
+pub top-none : (p : ℕ → Bool) (o : List Overgrown) → length o ≡ 0 → topIs p o ≡ false
+unfolding topIs
+top-none p [] h = refl
+top-none p (x ∷ o) h = absurd (omega arith)
+
+pub top-some : (p : ℕ → Bool) (o : List Overgrown) → length o ≢ 0 → topIs p o ≡ p (topAmount o)
+unfolding topIs topAmount
+top-some p [] h = absurd (h refl)
+top-some p (x ∷ o) h = refl
+
+-- ---- the node
+
+pub node-movable : (c : State) (n d l : ℕ) → Growing c n d l → NodeMovable d l (nodeAt c n)
+unfolding nodeAt
+node-movable c n d l g = record { dual = g .dual; top = g .top }
+
+stack-moved : (d l : ℕ) (o : List Overgrown) → length o ≢ 0 → withTop (movedTop d l (length o) (topAmount o)) o ≡ movedStack d l o
+unfolding withTop movedTop topAmount movedStack
+stack-moved d l [] h = absurd (h refl)
+stack-moved d l (x ∷ o) h = rw (ne-eqb (length (x ∷ o)) 0 h)
+
+stack-empty : (d l : ℕ) (o : List Overgrown) → length o ≡ 0 → movedStack d l o ≡ o
+unfolding movedStack
+stack-empty d l [] h = refl
+stack-empty d l (x ∷ o) h = absurd (omega arith)
+
+module _ (c : State) (n d l : ℕ) where
+  -- with a stack its top is set
+  pub moved-top : length (overgrownOf c n) ≢ 0
+      → withOvergrown (withDual c n (grownNode d l (nodeAt c n) .dual)) n (withTop (grownNode d l (nodeAt c n) .top) (overgrownOf (withDual c n (grownNode d l (nodeAt c n) .dual)) n)) ≡ moveNode c n d l
+  unfolding moveNode nodeAt grownNode withDual withNodes
+  moved-top h = ap (withOvergrown (withDual c n (moved d l (dualOf c n))) n) (stack-moved d l (overgrownOf c n) h)
+
+  -- without one only the dual variable moves
+  pub moved-alone : length (overgrownOf c n) ≡ 0 → withDual c n (grownNode d l (nodeAt c n) .dual) ≡ moveNode c n d l
+  unfolding moveNode nodeAt grownNode withDual withOvergrown withNodes
+  moved-alone h = rw (stack-empty d l (overgrownOf c n) h, set-getD (c .nodes .overgrown) n [])
+
+pub top-fits : (c : State) (n d l : ℕ) → Growing c n d l → length (overgrownOf c n) ≢ 0 → grownNode d l (nodeAt c n) .top < 9007199254740992
+unfolding grownNode nodeAt movedTop
+top-fits c n d l g h = rw (ne-eqb (length (overgrownOf c n)) 0 h) (g .top-small h)
+
+pub same-stack : (b₀ b : List ℤ) (n y : ℕ) → Becomes b₀ b (withDual (stateOf b₀) n y) → overgrownOf (stateOf b) n ≡ overgrownOf (stateOf b₀) n
+unfolding withDual withNodes
+same-stack b₀ b n y p = ap (λ (c : State). overgrownOf c n) (p .state)
+
+module _ (b₀ b₁ : List ℤ) (n d l : ℕ) (p : Becomes b₀ b₁ (withDual (stateOf b₀) n (grownNode d l (nodeAt (stateOf b₀) n) .dual))) where
+  pub dual-then-top : (b : List ℤ) → length (overgrownOf (stateOf b₀) n) ≢ 0
+      → Becomes b₁ b (withOvergrown (stateOf b₁) n (withTop (grownNode d l (nodeAt (stateOf b₀) n) .top) (overgrownOf (stateOf b₁) n))) → Becomes b₀ b (moveNode (stateOf b₀) n d l)
+  dual-then-top b h q = record {
+    formed = q .formed;
+    state = q .state ∙ rw (p .state) (moved-top (stateOf b₀) n d l h);
+    vertices = q .vertices ∙ p .vertices;
+    edges = q .edges ∙ p .edges;
+    sides = q .sides ∙ p .sides;
+    nodes = q .nodes ∙ p .nodes;
+    len = q .len ∙ p .len;
+  }
+
+  pub dual-alone : length (overgrownOf (stateOf b₀) n) ≡ 0 → Becomes b₀ b₁ (moveNode (stateOf b₀) n d l)
+  dual-alone h = rw (moved-alone (stateOf b₀) n d l h) at p
+
+-- ---- the sides
+
+before-not : (l : List ℕ) (i : ℕ) → distinct l ≡ true → i < length l → member (getD l i 0) (take i l) ≡ false
+before-not [] i h k = absurd (omega arith)
+before-not (x ∷ l) zero h k = unfold member any in refl
+before-not (x ∷ l) (suc i) h k =
+    by-test (member (getD l i 0) (x ∷ take i l))
+    (λ e. member-cons (getD l i 0) x (take i l) e
+    (λ q. clash (member x l) (rw q at (member-at l i 0 (omega arith))) (distinct-head x l h))
+    (λ m. clash (member (getD l i 0) (take i l)) m (before-not l i (distinct-tail x l h) (omega arith))))
+    (λ e. e)
+
+-- the state when the first i sides are moved
+abbrev pub movedTo : State → ℕ → ℕ → ℕ → ℕ → State
+movedTo c n d l i = fold (moveSide d l) c (take i (boundaryOf c n))
+
+moved-boundary : (c : State) (n d l i : ℕ) → boundaryOf (movedTo c n d l i) n ≡ boundaryOf c n
+moved-boundary c n d l i = ap (λ x. getD (x .boundary) n []) (sides-moved c d l (take i (boundaryOf c n)) .nodes)
+
+module _ (b₀ b : List ℤ) (n d l i : ℕ) (p : Becomes b₀ b (movedTo (stateOf b₀) n d l i)) where
+  pub same-boundary : boundaryOf (stateOf b) n ≡ boundaryOf (stateOf b₀) n
+  same-boundary = rw (p .state) (moved-boundary (stateOf b₀) n d l i)
+
+  pub same-sides : sidesOk (stateOf b₀) n ≡ true → sidesOk (stateOf b) n ≡ true
+  unfolding sidesOk
+  same-sides h = rw (same-boundary, p .sides) h
+
+  module _ (g : SidesMovable (stateOf b₀) n d l) (k : i < length (boundaryOf (stateOf b₀) n)) where
+    same-growth : growthAt (stateOf b) (getD (boundaryOf (stateOf b₀) n) i 0) ≡ growthAt (stateOf b₀) (getD (boundaryOf (stateOf b₀) n) i 0)
+    same-growth = rw (p .state) (move-out d l (stateOf b₀) (take i (boundaryOf (stateOf b₀) n)) _ (before-not (boundaryOf (stateOf b₀) n) i (g .once) k))
+
+    pub next-movable : (s : ℕ) → s ≡ getD (boundaryOf (stateOf b) n) i 0 → Movable d l (growthAt (stateOf b) s)
+    next-movable s e = rw (e, same-boundary, same-growth) (g .side _ (member-at (boundaryOf (stateOf b₀) n) i 0 k))
+
+    pub next-small : (s : ℕ) → s ≡ getD (boundaryOf (stateOf b) n) i 0 → moved d l (growthAt (stateOf b) s) < 9223372036854775808
+    next-small s e = rw (e, same-boundary, same-growth) (let h : moved d l (growthAt (stateOf b₀) (getD (boundaryOf (stateOf b₀) n) i 0)) ≤ growthLimit = g .side-small _ (member-at (boundaryOf (stateOf b₀) n) i 0 k) in omega arith)
+
+    pub next-moved : (b' : List ℤ) (s : ℕ) → s ≡ getD (boundaryOf (stateOf b) n) i 0 → Becomes b b' (moveSide d l (stateOf b) s) → Becomes b₀ b' (movedTo (stateOf b₀) n d l (i + 1))
+    next-moved b' s e q = record {
+      formed = q .formed;
+      state = q .state ∙ rw (e, same-boundary, p .state) (sym (fold-more (moveSide d l) (stateOf b₀) (boundaryOf (stateOf b₀) n) i 0 k));
+      vertices = q .vertices ∙ p .vertices;
+      edges = q .edges ∙ p .edges;
+      sides = q .sides ∙ p .sides;
+      nodes = q .nodes ∙ p .nodes;
+      len = q .len ∙ p .len;
+    }
+
+-- before and after
+pub none-moved : (b : List ℤ) (n d l : ℕ) → Formed b → Becomes b b (movedTo (stateOf b) n d l 0)
+unfolding fold
+none-moved b n d l f = record { formed = f; state = refl; vertices = refl; edges = refl; sides = refl; nodes = refl; len = refl }
+
+pub all-moved : (b₀ b : List ℤ) (n d l i : ℕ) → length (boundaryOf (stateOf b₀) n) ≤ i → Becomes b₀ b (movedTo (stateOf b₀) n d l i) → Becomes b₀ b (fold (moveSide d l) (stateOf b₀) (boundaryOf (stateOf b₀) n))
+all-moved b₀ b n d l i h p = rw (take-all i (boundaryOf (stateOf b₀) n) h) at p
+
+-- the sides after the node
+pub sides-after : (c : State) (n d l : ℕ) → SidesMovable c n d l → SidesMovable (moveNode c n d l) n d l
+unfolding moveNode withDual withOvergrown withNodes sidesOk
+sides-after c n d l g = record { sides = g .sides; once = g .once; side = g .side; side-small = g .side-small }
+
+pub node-then-sides : (b₀ b₁ b : List ℤ) (n d l : ℕ) → Becomes b₀ b₁ (moveNode (stateOf b₀) n d l) → Becomes b₁ b (fold (moveSide d l) (stateOf b₁) (boundaryOf (stateOf b₁) n)) → Becomes b₀ b (growApply (stateOf b₀) n d l)
+unfolding growApply moveNode withDual withOvergrown withNodes
+node-then-sides b₀ b₁ b n d l p q = record {
+  formed = q .formed;
+  state = q .state ∙ rw (p .state);
+  vertices = q .vertices ∙ p .vertices;
+  edges = q .edges ∙ p .edges;
+  sides = q .sides ∙ p .sides;
+  nodes = q .nodes ∙ p .nodes;
+  len = q .len ∙ p .len;
+}

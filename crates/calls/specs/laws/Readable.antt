@@ -1,0 +1,188 @@
+-- A sound state can be read for the length answer, and so can the state that a preparation of it leaves, in either direction.
+use Prim.Native.Nat.{ℕ, _+_, _-_, _*_, _≤_, _<_}
+use native.Mathlib.Omega.{arith}
+use native.Mathlib.Decide.{ℕ-discrete as decEq, decLt}
+use mathlib.Core.Path.{_≡_, sym}
+use mathlib.Core.Logic.{_≢_}
+use mathlib.Core.Bool.{true, false, _&&_}
+use mathlib.Core.List.{List, [], _∷_}
+use lib.IntN.{ℤ}
+use lib.Dec.{eqb, ltb}
+use lib.ListN.{length, getD, List·getD-eq-default}
+use lib.Seq.{getD-set-same, getD-set-other, set-out}
+use borrow.Author.Tests.{ne-eqb}
+use Rattle.graph.specs.Basic.{all, member}
+use Rattle.graph.specs.State.{State, up, opposite, edgeCount, sideCount, nodeCount, endAt, growthAt, holderAt, sidesAt, defectAt, vertexHolderAt, boundaryOf, overgrownOf, withSides, withHolder, withGrandson, withVertices, withVertexHolder, withVertexGrandson, freeSide, freeVertex, withNodes, withBoundary, withOvergrown}
+use Rattle.graph.specs.Open.{dualLimit, growthLimit}
+use Rattle.graph.specs.Sound.{sound}
+use Rattle.graph.specs.Layout.{stateOf}
+use Rattle.graph.specs.Form.{Formed, sidesOk}
+use Rattle.graph.specs.laws.State.{if-both, fold-keeps}
+use Rattle.graph.specs.laws.Shape.{Shape, node-facts, sound-node}
+use Rattle.graph.specs.laws.Sounds.{Sound, sound-facts}
+use Rattle.pass.specs.Work.{Work, onState, keep, keepOnce, note, callAnother, startPass, finishPass}
+use Rattle.pass.specs.Shrink.{emptyTops, belowTops, dropSide, dropStep, shrinkStep, closed, releaseSide, releaseStep, dropped, shrinkScanned, shrinkPass}
+use Rattle.pass.specs.Prepare.{prepareNode}
+use Rattle.pass.specs.Ready.{Growable}
+use Rattle.pass.specs.laws.Passes.{Passed, passed-refl, passed-trans, shrink-passed}
+use Rattle.pass.specs.laws.Fits.{Listed, shrink-pass-listed}
+use Rattle.pass.specs.laws.GrowSound.{finish-boundary}
+use Rattle.graph.specs.laws.Form.{laid-shape, formed-vertices}
+use Rattle.pass.specs.laws.Prepare.{passState, one-down, prepare-leaves, prepare-passed}
+use Rattle.pass.specs.laws.Ready.{formed-sides}
+use Rattle.pass.specs.laws.Preparing.{formed-ends}
+use Rattle.calls.specs.Refuse.{storeShort}
+use Rattle.calls.specs.Readable.{Readable}
+use Rattle.calls.specs.laws.Sounds.{prepare-up-sound}
+use Rattle.calls.specs.laws.Shapes.{shape-prepared}
+
+-- ---- a sound state
+
+beyond : (l : List ℕ) (i k : ℕ) → length l ≤ i → getD l i 0 ≤ k
+beyond l i k h = rw (List·getD-eq-default l 0 {n = i} h) (omega arith)
+
+pub sound-readable : (c : State) → Shape c → sound c ≡ true → Readable c
+sound-readable c z h =
+    let f : Sound c = sound-facts c h in
+    record {
+      holders = λ s. elim (decLt s (sideCount c)) [ yes b ↦ f .side s b .holder | no b ↦ beyond (c .sides .holder) s (nodeCount c) (omega (arith, z .holder)) ];
+      growths = λ s. elim (decLt s (sideCount c)) [ yes b ↦ f .side s b .growth | no b ↦ beyond (c .sides .growth) s growthLimit (omega (arith, z .growth)) ];
+      duals = λ n. elim (decLt n (nodeCount c)) [ yes b ↦ f .node n b .dual | no b ↦ beyond (c .nodes .dual) n dualLimit (omega (arith, z .dual)) ];
+    }
+
+pub sound-sides-ok : (c : State) → sound c ≡ true → (n : ℕ) → n < nodeCount c → sidesOk c n ≡ true
+unfolding sidesOk
+sound-sides-ok c h n b = node-facts c n (sound-node c h n b) .boundary
+
+-- ---- a shrinking pass holds nothing
+
+-- no holder of a side is above k
+abbrev pub Holders : ℕ → State → Type 0
+Holders k c = (s : ℕ) → holderAt c s ≤ k
+
+module _ (k : ℕ) where
+  holders-free-side : (c : State) (t : ℕ) → Holders k c → Holders k (freeSide c t)
+  unfolding freeSide withGrandson withHolder withSides
+  holders-free-side c t p s =
+      elim (decEq s t) [
+        | no e ↦ rw (getD-set-other (c .sides .holder) t s 0 0 e) (p s)
+        | yes e ↦ elim (decLt t (length (c .sides .holder))) [ yes b ↦ rw (e, getD-set-same (c .sides .holder) t 0 0 b) (omega arith) | no b ↦ rw (set-out (c .sides .holder) t 0 (omega arith)) (p s) ]
+      ]
+
+  holders-free-vertex : (c : State) (v : ℕ) → Holders k c → Holders k (freeVertex c v)
+  unfolding freeVertex withVertexGrandson withVertexHolder withVertices
+  holders-free-vertex c v p = p
+
+  abbrev In : Work → Type 0
+  In w = Holders k (w .state)
+
+  in-keep-once : (w : Work) (s : ℕ) → In w → In (keepOnce w s)
+  unfolding keepOnce keep
+  in-keep-once w s p = if-both In (member s (w .kept)) p p
+
+  in-drop-side : (w : Work) (t : ℕ) → In w → In (dropSide w t)
+  unfolding dropSide callAnother onState
+  in-drop-side w t p = in-keep-once (onState w (freeSide (w .state) t)) (opposite t) (holders-free-side (w .state) t p)
+
+  in-drop-step : (n : ℕ) (w : Work) (v : ℕ) → In w → In (dropStep n w v)
+  unfolding dropStep onState
+  in-drop-step n w v p =
+      if-both In (eqb (vertexHolderAt (w .state) v) (n + 1))
+      (fold-keeps dropSide In in-drop-side (onState w (freeVertex (w .state) v)) (sidesAt (w .state) v) (holders-free-vertex (w .state) v p))
+      p
+
+  in-shrink-step : (w : Work) (s : ℕ) → In w → In (shrinkStep w s)
+  unfolding shrinkStep note
+  in-shrink-step w s p = if-both In (eqb (growthAt (w .state) s) 0 && eqb (defectAt (w .state) (endAt (w .state) s)) 0) p (in-keep-once w s p)
+
+  in-release-side : (n : ℕ) (w : Work) (t : ℕ) → In w → In (releaseSide n w t)
+  unfolding releaseSide callAnother onState
+  in-release-side n w t p =
+      let q : Holders k (freeSide (w .state) t) = holders-free-side (w .state) t p in
+      if-both In (closed n (w .state) t) (in-keep-once (onState w (freeSide (w .state) t)) (opposite t) q) q
+
+  in-release-step : (n : ℕ) (w : Work) (v : ℕ) → In w → In (releaseStep n w v)
+  unfolding releaseStep onState
+  in-release-step n w v p =
+      if-both In (eqb (vertexHolderAt (w .state) v) 0)
+      p
+      (fold-keeps (releaseSide n) In (in-release-side n) (onState w (freeVertex (w .state) v)) (sidesAt (w .state) v) (holders-free-vertex (w .state) v p))
+
+  in-dropped : (c : State) (n : ℕ) → Holders k c → In (dropped c n)
+  unfolding dropped startPass
+  in-dropped c n p = fold-keeps (dropStep n) In (in-drop-step n) (startPass c (belowTops (overgrownOf c n))) (emptyTops (overgrownOf c n)) p
+
+  in-scanned : (c : State) (n : ℕ) → Holders k c → In (shrinkScanned c n)
+  unfolding shrinkScanned
+  in-scanned c n p = fold-keeps shrinkStep In in-shrink-step (dropped c n) (boundaryOf c n) (in-dropped c n p)
+
+  in-pass : (c : State) (n : ℕ) → Holders k c → In (shrinkPass c n)
+  unfolding shrinkPass
+  in-pass c n p = fold-keeps (releaseStep n) In (in-release-step n) (shrinkScanned c n) (shrinkScanned c n .noted) (in-scanned c n p)
+
+  pub shrink-pass-holders : (c : State) (n : ℕ) → Holders k c → Holders k (finishPass (shrinkPass c n) n)
+  unfolding finishPass withOvergrown withBoundary withNodes
+  shrink-pass-holders c n p = in-pass c n p
+
+-- ---- between two shrinking passes over node n, from c₀ on
+
+record Between (n : ℕ) (c₀ c : State) : Type 0 where
+  pub passed : Passed n c₀ c
+  pub holders : Holders (nodeCount c₀) c
+  pub inside : all (λ s. ltb s (2 * edgeCount c₀)) (boundaryOf c n) ≡ true
+
+module _ (n : ℕ) (c₀ : State) (z : Shape c₀) (node : n < nodeCount c₀) (sides : (v : ℕ) → all (λ t. ltb t (2 * edgeCount c₀)) (sidesAt c₀ v) ≡ true) where
+  between-finish : (c : State) → Between n c₀ c → Between n c₀ (finishPass (shrinkPass c n) n)
+  between-finish c p =
+      let w : Work = shrinkPass c n in
+      let l : Listed (edgeCount c₀) c w = shrink-pass-listed (edgeCount c₀) n c (λ v. rw (p .passed .graph) (sides v)) (p .inside) in
+      let x : boundaryOf (finishPass w n) n ≡ w .kept = finish-boundary w n (rw (l .keeps .nodes, p .passed .boundary, z .boundary) node) in
+      record {
+        passed = passed-trans (p .passed) (shrink-passed c n);
+        holders = shrink-pass-holders (nodeCount c₀) c n (p .holders);
+        inside = rw x (l .inside);
+      }
+
+  between-step : (d : ℕ) → d ≢ up → (c : State) → Between n c₀ c → Between n c₀ (passState c n d)
+  between-step d h c p = rw (one-down c n d (ne-eqb d up h)) (between-finish c p)
+
+-- ---- what preparation leaves
+
+module _ (b : List ℤ) (f : Formed b) (n : ℕ) (node : n < nodeCount (stateOf b)) (g : Growable (stateOf b) n) (room : storeShort (stateOf b) (n ∷ []) 1 ≡ false) where
+  z : Shape (stateOf b)
+  z = laid-shape b (f .laid)
+
+  pair : 2 * edgeCount (stateOf b) ≡ sideCount (stateOf b)
+  pair = sym (f .pairs)
+
+  between : (d : ℕ) → d ≢ up → Between n (stateOf b) (prepareNode (stateOf b) n d .state)
+  unfolding sidesOk
+  between d h =
+      let step = between-step n (stateOf b) z node (rw pair (formed-sides b f)) d h in
+      prepare-leaves n d (Between n (stateOf b)) (Between n (stateOf b)) (λ c p q. step c p) (λ c p q. step c p) (stateOf b) (formed-ends b f) (z .vertexHolder)
+      (record { passed = passed-refl n (stateOf b); holders = sound-readable (stateOf b) z (g .sounds) .holders; inside = rw pair (sound-sides-ok (stateOf b) (g .sounds) n node) })
+
+  up-sound : sound (prepareNode (stateOf b) n up .state) ≡ true
+  up-sound = prepare-up-sound (stateOf b) z (g .sounds) (formed-vertices b f) n node (g .outer) room
+
+  pub prepared-readable : (d : ℕ) → Readable (prepareNode (stateOf b) n d .state)
+  prepared-readable d =
+      elim (decEq d up) [
+        | yes e ↦ rw e (sound-readable (prepareNode (stateOf b) n up .state) (shape-prepared (stateOf b) n up z) up-sound)
+        | no e ↦
+            let q : Between n (stateOf b) (prepareNode (stateOf b) n d .state) = between d e in
+            let r : Readable (stateOf b) = sound-readable (stateOf b) z (g .sounds) in
+            record {
+              holders = λ s. rw (q .passed .growState) (q .holders s);
+              growths = λ s. rw (q .passed .growth) (r .growths s);
+              duals = λ m. rw (q .passed .dual) (r .duals m);
+            }
+      ]
+
+  pub prepared-sides-ok : (d : ℕ) → sidesOk (prepareNode (stateOf b) n d .state) n ≡ true
+  unfolding sidesOk
+  prepared-sides-ok d =
+      elim (decEq d up) [
+        | yes e ↦ rw e (sound-sides-ok (prepareNode (stateOf b) n up .state) up-sound n (rw (prepare-passed (stateOf b) n up .growState) node))
+        | no e ↦ let q : Between n (stateOf b) (prepareNode (stateOf b) n d .state) = between d e in rw (q .passed .graph, ← pair) (q .inside)
+      ]

@@ -1,0 +1,51 @@
+-- The tests that refuse a call, as the code makes them.
+use Prim.Native.Nat.{ℕ, _+_, _-_, _*_, _≤_, _<_}
+use native.Mathlib.Omega.{arith}
+use mathlib.Core.Path.{_≡_, refl, sym, _∙_}
+use mathlib.Core.Bool.{Bool, true, false, _||_}
+use mathlib.Core.List.{List, [], _∷_}
+use lib.IntN.{ℤ}
+use lib.Dec.{leb, ltb}
+use Rattle.graph.specs.Basic.{any, member}
+use Rattle.graph.specs.State.{State, sideCount, vertexCount, nodeCount}
+use Rattle.graph.specs.Sound.{entriesOf, entries}
+use Rattle.graph.specs.Layout.{stateOf}
+use Rattle.graph.specs.Form.{Laid}
+use Rattle.calls.specs.Refuse.{badNode, inBlossom, entriesBut, storeShort, nodeRefusal}
+use Rattle.calls.specs.laws.Accepted.{entries-named, entries-none}
+
+-- the store of a block
+pub laid-store : (b : List ℤ) → Laid b → stateOf b .storeLimit ≤ 65536
+unfolding Laid
+laid-store b q = omega (arith, q .counted .store-limit, q .sized .l-max)
+
+-- the entries of one node are some of all
+pub entries-with : (c : State) (n : ℕ) → n < nodeCount c → entries c ≡ entriesBut c (n ∷ []) + entriesOf c n
+entries-with c n h = sym (entries-none c) ∙ entries-named c n [] h (unfold member any in refl)
+
+pub short-node : (c : State) (n u : ℕ) → n < nodeCount c → u + entriesOf c n ≡ entries c → ltb (c .storeLimit) (u + 1 * (sideCount c + vertexCount c)) ≡ storeShort c (n ∷ []) 1
+unfolding storeShort
+short-node c n u h e = let q : u ≡ entriesBut c (n ∷ []) = omega (arith, e, entries-with c n h) in rw q
+
+pub short-new : (c : State) (u : ℕ) → u ≡ entries c → ltb (c .storeLimit) (u + 1 * (sideCount c + vertexCount c)) ≡ storeShort c [] 1
+unfolding storeShort
+short-new c u e = rw (e, ← entries-none c)
+
+-- ---- the refusal of a call on a node
+
+module _ (c : State) (n : ℕ) (wrong short : Bool) where
+  pub refuses-number : leb (nodeCount c) n || wrong ≡ true → 3 ≡ nodeRefusal c n wrong short
+  unfolding nodeRefusal badNode
+  refuses-number e = rw e
+
+  pub refuses-inner : leb (nodeCount c) n || wrong ≡ false → inBlossom c n ≡ true → 6 ≡ nodeRefusal c n wrong short
+  unfolding nodeRefusal badNode
+  refuses-inner e i = rw (e, i)
+
+  pub refuses-store : leb (nodeCount c) n || wrong ≡ false → inBlossom c n ≡ false → short ≡ true → 9 ≡ nodeRefusal c n wrong short
+  unfolding nodeRefusal badNode
+  refuses-store e i s = rw (e, i, s)
+
+  pub refuses-not : leb (nodeCount c) n || wrong ≡ false → inBlossom c n ≡ false → short ≡ false → 0 ≡ nodeRefusal c n wrong short
+  unfolding nodeRefusal badNode
+  refuses-not e i s = rw (e, i, s)
