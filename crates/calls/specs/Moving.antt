@@ -6,10 +6,11 @@ use mathlib.Core.Bool.{Bool, true, _||_}
 use lib.Dec.{ltb, eqb}
 use lib.ListN.{length}
 use Rattle.graph.specs.Basic.{if_then_else_, any, member, distinct}
-use Rattle.graph.specs.State.{State, nodeCount, growthAt, dualOf, boundaryOf, overgrownOf, withDual, withOvergrown}
+use Rattle.graph.specs.State.{State, up, nodeCount, growthAt, dualOf, boundaryOf, overgrownOf, withDual, withOvergrown}
 use Rattle.graph.specs.Open.{dualLimit, growthLimit}
 use Rattle.graph.specs.Node.{Movable, moved, topAmount}
 use Rattle.graph.specs.Form.{sidesOk}
+use Rattle.calls.specs.Readable.{Readable}
 use Rattle.calls.specs.Growth.{passesWeight, topIs, movedStack}
 
 -- a dual variable or an amount calls for refusal k
@@ -39,10 +40,21 @@ pub record SidesMovable (c : State) (n d l : ℕ) : Type 0 where
   pub side : (s : ℕ) → member s (boundaryOf c n) ≡ true → Movable d l (growthAt c s)
   pub side-small : (s : ℕ) → member s (boundaryOf c n) ≡ true → moved d l (growthAt c s) ≤ growthLimit
 
--- and of node n: the same of its dual variable and its top amount
+-- of the top amount, if there is one: the same
+pub record TopMoves (c : State) (n d l : ℕ) : Type 0 where
+  pub movable : length (overgrownOf c n) ≢ 0 → Movable d l (topAmount (overgrownOf c n))
+  pub small : d ≡ up → length (overgrownOf c n) ≢ 0 → topAmount (overgrownOf c n) + l ≤ dualLimit
+
+-- and of node n: the same of its dual variable too
 pub record Growing (c : State) (n d l : ℕ) : Type 0 where
   pub dual : Movable d l (dualOf c n)
   pub dual-small : moved d l (dualOf c n) ≤ dualLimit
-  pub top : length (overgrownOf c n) ≢ 0 → Movable d l (topAmount (overgrownOf c n))
-  pub top-small : length (overgrownOf c n) ≢ 0 → moved d l (topAmount (overgrownOf c n)) < 9007199254740992
+  pub top : TopMoves c n d l
   pub each : SidesMovable c n d l
+
+-- a prepared state: it can be read, and the boundary of node n lists sides, each once
+pub record Prepared (c : State) (n : ℕ) : Type 0 where
+  pub readable : Readable c
+  pub node : n < nodeCount c
+  pub sides : sidesOk c n ≡ true
+  pub once : distinct (boundaryOf c n) ≡ true

@@ -1,16 +1,21 @@
 // The calls on a sound block with a scratch that is all zero.
 
 ghost use mathlib.Core.Path.{_≡_};
+ghost use Prim.Native.Nat.{_≤_};
+ghost use lib.IntN.{natAbs};
 ghost use Rattle.graph.specs.Layout.{stateOf};
 ghost use Rattle.graph.specs.Form.{Formed};
 ghost use Rattle.graph.specs.Opening.{Cleared};
 ghost use Rattle.calls.specs.Reply.{Usable, Replies};
-ghost use Rattle.calls.specs.Calls.{setGrowState, prepareDualNodeGrowth, maxUpdateLength, clear};
+ghost use Rattle.calls.specs.Moving.{Prepared};
+ghost use Rattle.calls.specs.Calls.{setGrowState, prepareDualNodeGrowth, maxUpdateLength, growPrepared, growToward, growDualNode, clear};
 use crate::Answer;
+use crate::growth;
 use crate::refuse;
 use crate::scan;
 use graph::clear;
 use graph::node;
+use graph::words;
 use pass::prepare;
 
 // Node n gets the grow state x.
@@ -59,6 +64,59 @@ pub fn compute_maximum_update_length_dual_node(
         return scan::scan(b, n, d);
     }
     scan::scan(b, n, d)
+}
+
+// A prepared node n grows by l in direction d, or is refused.
+fn grow_prepared(b: &mut [i64], n: usize, d: usize, l: usize) -> Answer
+    requires { ⌜ Formed (now b) × Prepared (stateOf (now b)) n × (l ≤ 9223372036854775808) ⌝ }
+    ensures { λ r. ⌜ Replies (now (b .entry)) (now (b .exit)) r (growPrepared (stateOf (now (b .entry))) n d l) ⌝ }
+{
+    let k = growth::grow_check(b, n, d, l);
+    if k != 0 {
+        return Answer::Refused(k);
+    }
+    growth::grow_apply(b, n, d, l);
+    Answer::Done
+}
+
+// Node n is prepared and grows by l in direction d, or is refused.
+fn grow_toward(b: &mut [i64], t: &mut [i64], n: usize, d: usize, l: usize) -> Answer
+    requires { ⌜ Usable (now b) (now t) × (l ≤ 9223372036854775808) ⌝ }
+    ensures { λ r. ⌜ Replies (now (b .entry)) (now (b .exit)) r (growToward (stateOf (now (b .entry))) n d l) × (now (t .exit) ≡ now (t .entry)) ⌝ }
+{
+    let k = refuse::node_refusal(b, n, false, true);
+    if k != 0 {
+        return Answer::Refused(k);
+    }
+    prepare::prepare_dual_node_growth(b, t, n, d);
+    grow_prepared(b, n, d, l)
+}
+
+// Node n grows by 0: nothing changes.
+fn grow_none(b: &mut [i64], n: usize, length: i64) -> Answer
+    requires { ⌜ Formed (now b) × (natAbs length ≡ 0) ⌝ }
+    ensures { λ r. ⌜ Replies (now (b .entry)) (now (b .exit)) r (growDualNode (stateOf (now (b .entry))) n length) ⌝ }
+{
+    let k = refuse::node_refusal(b, n, false, false);
+    if k != 0 {
+        return Answer::Refused(k);
+    }
+    Answer::Done
+}
+
+// Node n grows by a length: below 0 it shrinks.
+pub fn grow_dual_node(b: &mut [i64], t: &mut [i64], n: usize, length: i64) -> Answer
+    requires { ⌜ Usable (now b) (now t) ⌝ }
+    ensures { λ r. ⌜ Replies (now (b .entry)) (now (b .exit)) r (growDualNode (stateOf (now (b .entry))) n length) × (now (t .exit) ≡ now (t .entry)) ⌝ }
+{
+    let l = words::magnitude(length);
+    if l == 0 {
+        return grow_none(b, n, length);
+    }
+    if words::non_negative(length) {
+        return grow_toward(b, t, n, 1, l);
+    }
+    grow_toward(b, t, n, 0, l)
 }
 
 // Everything but the graph is emptied.

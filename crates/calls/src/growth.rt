@@ -4,13 +4,13 @@ ghost use mathlib.Core.Path.{_≡_};
 ghost use mathlib.Core.Bool.{true};
 ghost use Prim.Native.Nat.{_<_, _≤_};
 ghost use Rattle.graph.specs.Basic.{any, fold};
-ghost use Rattle.graph.specs.State.{sideCount, nodeCount, boundaryOf, growthAt};
+ghost use Rattle.graph.specs.State.{sideCount, nodeCount, boundaryOf, overgrownOf, growthAt, withOvergrown};
 ghost use Rattle.graph.specs.Node.{Movable, moved};
 ghost use Rattle.graph.specs.Layout.{stateOf};
 ghost use Rattle.graph.specs.Form.{Formed, Becomes, sidesOk};
 ghost use Rattle.calls.specs.Readable.{Readable};
-ghost use Rattle.calls.specs.Growth.{passesWeight, growCheck, moveSide, growApply};
-ghost use Rattle.calls.specs.Moving.{numberRefuses, nodeRefuses, sideRefuses, refuses, moveNode, SidesMovable, Growing};
+ghost use Rattle.calls.specs.Growth.{passesWeight, growCheck, movedStack, moveSide, growApply};
+ghost use Rattle.calls.specs.Moving.{numberRefuses, nodeRefuses, sideRefuses, refuses, moveNode, TopMoves, SidesMovable, Growing};
 use graph::dual_node;
 use graph::dual_node::DualNode;
 use graph::edge;
@@ -125,16 +125,25 @@ pub fn grow_check(b: &[i64], n: usize, d: usize, l: usize) -> usize
 
 // ---- the growth
 
+// The top amount of node n is moved, if there is one.
+fn move_top(b: &mut [i64], n: usize, d: usize, l: usize)
+    requires { ⌜ Formed (now b) × (n < nodeCount (stateOf (now b))) × TopMoves (stateOf (now b)) n d l ⌝ }
+    ensures { λ r. ⌜ Becomes (now (b .entry)) (now (b .exit)) (withOvergrown (stateOf (now (b .entry))) n (movedStack d l (overgrownOf (stateOf (now (b .entry))) n))) ⌝ }
+{
+    if lists::overgrown_len(b, n) != 0 {
+        let x = top::amount(b, n);
+        top::set_amount(b, n, dual_node::move_number(d, l, x));
+    }
+}
+
 // The dual variable and the top amount of node n are moved.
 fn move_node(b: &mut [i64], n: usize, d: usize, l: usize)
     requires { ⌜ Formed (now b) × (n < nodeCount (stateOf (now b))) × Growing (stateOf (now b)) n d l ⌝ }
     ensures { λ r. ⌜ Becomes (now (b .entry)) (now (b .exit)) (moveNode (stateOf (now (b .entry))) n d l) ⌝ }
 {
-    let grown = top::node(b, n).grown(d, l);
-    node::set_dual(b, n, grown.dual);
-    if grown.overgrown != 0 {
-        top::set_amount(b, n, grown.top);
-    }
+    let y = node::dual(b, n);
+    node::set_dual(b, n, dual_node::move_number(d, l, y));
+    move_top(b, n, d, l);
 }
 
 // Side s is moved.

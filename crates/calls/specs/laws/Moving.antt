@@ -1,6 +1,7 @@
 -- Growth number by number and side by side is growth.
 use Prim.Native.Nat.{ℕ, zero, suc, _+_, _-_, _≤_, _<_}
 use native.Mathlib.Omega.{arith}
+use native.Mathlib.Decide.{ℕ-discrete as decEq}
 use mathlib.Core.Path.{_≡_, refl, sym, ap, _∙_}
 use mathlib.Core.Logic.{_≢_}
 use mathlib.Core.Bool.{Bool, true, false, _||_}
@@ -9,17 +10,19 @@ use lib.IntN.{ℤ}
 use lib.Dec.{eqb, ltb}
 use lib.ListN.{length, getD, set, take}
 use lib.Seq.{set-getD, take-all}
-use borrow.Author.Tests.{ne-eqb}
+use borrow.Author.Tests.{eq-eqb, ne-eqb, ltb-false}
 use Rattle.graph.specs.Basic.{if_then_else_, fold, any, all, member, distinct}
 use Rattle.graph.specs.State.{State, Overgrown, up, sideCount, nodeCount, growthAt, dualOf, boundaryOf, overgrownOf, withNodes, withDual, withOvergrown}
-use Rattle.graph.specs.Node.{Movable, NodeMovable, moved, movedTop, topAmount, nodeAt, grownNode, withTop}
+use Rattle.graph.specs.Node.{Movable, moved, topAmount, withTop}
 use Rattle.graph.specs.Layout.{stateOf}
 use Rattle.graph.specs.Form.{Formed, Becomes, sidesOk}
-use Rattle.graph.specs.Open.{growthLimit}
+use Rattle.graph.specs.Open.{dualLimit, growthLimit}
 use Rattle.graph.specs.laws.State.{fold-more}
+use Rattle.graph.specs.laws.Row.{becomes-none}
 use Rattle.graph.specs.laws.Members.{by-test, clash, member-at, member-cons, distinct-head, distinct-tail}
 use Rattle.calls.specs.Growth.{passesWeight, passesLimit, fallsShort, growCheck, topIs, movedStack, moveSide, growApply}
-use Rattle.calls.specs.Moving.{numberRefuses, nodeRefuses, sideRefuses, refuses, moveNode, SidesMovable, Growing}
+use Rattle.calls.specs.Moving.{numberRefuses, nodeRefuses, sideRefuses, refuses, moveNode, TopMoves, SidesMovable, Growing, Prepared}
+use Rattle.calls.specs.laws.Accepted.{GrowAccepted, grow-accepted, ShrinkAccepted, shrink-accepted}
 use Rattle.calls.specs.laws.Growth.{Moved, sides-moved, move-out}
 
 -- ---- what refuses it
@@ -55,57 +58,96 @@ unfolding topIs topAmount
 top-some p [] h = absurd (h refl)
 top-some p (x ∷ o) h = refl
 
+-- ---- what is not refused can be moved
+
+moved-up : (d l x : ℕ) → d ≡ up → moved d l x ≡ x + l
+unfolding moved
+moved-up d l x e = rw e
+
+moved-down : (d l x : ℕ) → d ≢ up → moved d l x ≡ x - l
+unfolding moved
+moved-down d l x e = rw (ne-eqb d up e)
+
+pub growing-of : (c : State) (n d l : ℕ) → Prepared c n → growCheck c n d l ≡ 0 → Growing c n d l
+growing-of c n d l p ok =
+    elim (decEq d up) [
+      | yes e ↦
+          let g : GrowAccepted c n l = grow-accepted c n d l (eq-eqb d up e) ok in
+          let top : length (overgrownOf c n) ≢ 0 → topAmount (overgrownOf c n) + l ≤ dualLimit = λ h. ltb-false _ _ (sym (top-some (λ a. ltb dualLimit (a + l)) (overgrownOf c n) h) ∙ g .top) in
+          record {
+            dual = record { rises = λ u. omega (arith, g .dual); falls = λ u. absurd (u e) };
+            dual-small = rw (moved-up d l (dualOf c n) e) (g .dual);
+            top = record { movable = λ h. record { rises = λ u. omega (arith, top h); falls = λ u. absurd (u e) }; small = λ u h. top h };
+            each = record {
+              sides = p .sides;
+              once = p .once;
+              side = λ s m. record { rises = λ u. omega (arith, g .growth s m); falls = λ u. absurd (u e) };
+              side-small = λ s m. rw (moved-up d l (growthAt c s) e) (g .growth s m);
+            };
+          }
+      | no e ↦
+          let g : ShrinkAccepted c n l = shrink-accepted c n d l (ne-eqb d up e) ok in
+          let top : length (overgrownOf c n) ≢ 0 → l ≤ topAmount (overgrownOf c n) = λ h. ltb-false _ _ (sym (top-some (λ a. ltb a l) (overgrownOf c n) h) ∙ g .top) in
+          record {
+            dual = record { rises = λ u. absurd (e u); falls = λ u. g .dual };
+            dual-small = rw (moved-down d l (dualOf c n) e) (omega (arith, p .readable .duals n));
+            top = record { movable = λ h. record { rises = λ u. absurd (e u); falls = λ u. top h }; small = λ u h. absurd (e u) };
+            each = record {
+              sides = p .sides;
+              once = p .once;
+              side = λ s m. record { rises = λ u. absurd (e u); falls = λ u. g .growth s m };
+              side-small = λ s m. rw (moved-down d l (growthAt c s) e) (omega (arith, p .readable .growths s));
+            };
+          }
+    ]
+
 -- ---- the node
 
-pub node-movable : (c : State) (n d l : ℕ) → Growing c n d l → NodeMovable d l (nodeAt c n)
-unfolding nodeAt
-node-movable c n d l g = record { dual = g .dual; top = g .top }
-
-stack-moved : (d l : ℕ) (o : List Overgrown) → length o ≢ 0 → withTop (movedTop d l (length o) (topAmount o)) o ≡ movedStack d l o
-unfolding withTop movedTop topAmount movedStack
-stack-moved d l [] h = absurd (h refl)
-stack-moved d l (x ∷ o) h = rw (ne-eqb (length (x ∷ o)) 0 h)
+stack-moved : (d l : ℕ) (o : List Overgrown) → withTop (moved d l (topAmount o)) o ≡ movedStack d l o
+unfolding withTop topAmount movedStack
+stack-moved d l [] = refl
+stack-moved d l (x ∷ o) = refl
 
 stack-empty : (d l : ℕ) (o : List Overgrown) → length o ≡ 0 → movedStack d l o ≡ o
 unfolding movedStack
 stack-empty d l [] h = refl
 stack-empty d l (x ∷ o) h = absurd (omega arith)
 
-module _ (c : State) (n d l : ℕ) where
-  -- with a stack its top is set
-  pub moved-top : length (overgrownOf c n) ≢ 0
-      → withOvergrown (withDual c n (grownNode d l (nodeAt c n) .dual)) n (withTop (grownNode d l (nodeAt c n) .top) (overgrownOf (withDual c n (grownNode d l (nodeAt c n) .dual)) n)) ≡ moveNode c n d l
-  unfolding moveNode nodeAt grownNode withDual withNodes
-  moved-top h = ap (withOvergrown (withDual c n (moved d l (dualOf c n))) n) (stack-moved d l (overgrownOf c n) h)
+-- a moved amount fits, if the amount does
+pub top-fits : (c : State) (n d l : ℕ) → TopMoves c n d l → length (overgrownOf c n) ≢ 0 → topAmount (overgrownOf c n) < 9007199254740992 → moved d l (topAmount (overgrownOf c n)) < 9007199254740992
+top-fits c n d l g h k =
+    elim (decEq d up) [
+      | yes e ↦ rw (moved-up d l (topAmount (overgrownOf c n)) e) (omega (arith, g .small e h))
+      | no e ↦ rw (moved-down d l (topAmount (overgrownOf c n)) e) (omega (arith, k))
+    ]
 
-  -- without one only the dual variable moves
-  pub moved-alone : length (overgrownOf c n) ≡ 0 → withDual c n (grownNode d l (nodeAt c n) .dual) ≡ moveNode c n d l
-  unfolding moveNode nodeAt grownNode withDual withOvergrown withNodes
-  moved-alone h = rw (stack-empty d l (overgrownOf c n) h, set-getD (c .nodes .overgrown) n [])
+-- with a stack its top is set
+pub top-moved : (b₀ b : List ℤ) (n d l x : ℕ) → x ≡ moved d l (topAmount (overgrownOf (stateOf b₀) n))
+    → Becomes b₀ b (withOvergrown (stateOf b₀) n (withTop x (overgrownOf (stateOf b₀) n))) → Becomes b₀ b (withOvergrown (stateOf b₀) n (movedStack d l (overgrownOf (stateOf b₀) n)))
+top-moved b₀ b n d l x e p = rw (e, stack-moved d l (overgrownOf (stateOf b₀) n)) at p
 
-pub top-fits : (c : State) (n d l : ℕ) → Growing c n d l → length (overgrownOf c n) ≢ 0 → grownNode d l (nodeAt c n) .top < 9007199254740992
-unfolding grownNode nodeAt movedTop
-top-fits c n d l g h = rw (ne-eqb (length (overgrownOf c n)) 0 h) (g .top-small h)
+-- without one nothing is
+pub top-still : (b : List ℤ) (n d l : ℕ) → Formed b → length (overgrownOf (stateOf b) n) ≡ 0 → Becomes b b (withOvergrown (stateOf b) n (movedStack d l (overgrownOf (stateOf b) n)))
+unfolding withOvergrown withNodes
+top-still b n d l f h = becomes-none b _ f (sym (rw (stack-empty d l (overgrownOf (stateOf b) n) h, set-getD (stateOf b .nodes .overgrown) n [])))
 
-pub same-stack : (b₀ b : List ℤ) (n y : ℕ) → Becomes b₀ b (withDual (stateOf b₀) n y) → overgrownOf (stateOf b) n ≡ overgrownOf (stateOf b₀) n
+-- moving the dual variable leaves the stack
+pub top-later : (c : State) (n d l y : ℕ) → TopMoves c n d l → TopMoves (withDual c n y) n d l
 unfolding withDual withNodes
-same-stack b₀ b n y p = ap (λ (c : State). overgrownOf c n) (p .state)
+top-later c n d l y g = record { movable = g .movable; small = g .small }
 
-module _ (b₀ b₁ : List ℤ) (n d l : ℕ) (p : Becomes b₀ b₁ (withDual (stateOf b₀) n (grownNode d l (nodeAt (stateOf b₀) n) .dual))) where
-  pub dual-then-top : (b : List ℤ) → length (overgrownOf (stateOf b₀) n) ≢ 0
-      → Becomes b₁ b (withOvergrown (stateOf b₁) n (withTop (grownNode d l (nodeAt (stateOf b₀) n) .top) (overgrownOf (stateOf b₁) n))) → Becomes b₀ b (moveNode (stateOf b₀) n d l)
-  dual-then-top b h q = record {
-    formed = q .formed;
-    state = q .state ∙ rw (p .state) (moved-top (stateOf b₀) n d l h);
-    vertices = q .vertices ∙ p .vertices;
-    edges = q .edges ∙ p .edges;
-    sides = q .sides ∙ p .sides;
-    nodes = q .nodes ∙ p .nodes;
-    len = q .len ∙ p .len;
-  }
-
-  pub dual-alone : length (overgrownOf (stateOf b₀) n) ≡ 0 → Becomes b₀ b₁ (moveNode (stateOf b₀) n d l)
-  dual-alone h = rw (moved-alone (stateOf b₀) n d l h) at p
+pub dual-then-top : (b₀ b₁ b : List ℤ) (n d l y : ℕ) → y ≡ moved d l (dualOf (stateOf b₀) n) → Becomes b₀ b₁ (withDual (stateOf b₀) n y)
+    → Becomes b₁ b (withOvergrown (stateOf b₁) n (movedStack d l (overgrownOf (stateOf b₁) n))) → Becomes b₀ b (moveNode (stateOf b₀) n d l)
+unfolding moveNode withDual withNodes
+dual-then-top b₀ b₁ b n d l y e p q = record {
+  formed = q .formed;
+  state = q .state ∙ rw (p .state, e);
+  vertices = q .vertices ∙ p .vertices;
+  edges = q .edges ∙ p .edges;
+  sides = q .sides ∙ p .sides;
+  nodes = q .nodes ∙ p .nodes;
+  len = q .len ∙ p .len;
+}
 
 -- ---- the sides
 

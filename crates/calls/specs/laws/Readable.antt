@@ -11,14 +11,14 @@ use lib.Dec.{eqb, ltb}
 use lib.ListN.{length, getD, List·getD-eq-default}
 use lib.Seq.{getD-set-same, getD-set-other, set-out}
 use borrow.Author.Tests.{ne-eqb}
-use Rattle.graph.specs.Basic.{all, member}
-use Rattle.graph.specs.State.{State, up, opposite, edgeCount, sideCount, nodeCount, endAt, growthAt, holderAt, sidesAt, defectAt, vertexHolderAt, boundaryOf, overgrownOf, withSides, withHolder, withGrandson, withVertices, withVertexHolder, withVertexGrandson, freeSide, freeVertex, withNodes, withBoundary, withOvergrown}
+use Rattle.graph.specs.Basic.{all, member, distinct}
+use Rattle.graph.specs.State.{State, up, opposite, edgeCount, sideCount, nodeCount, endAt, growthAt, holderAt, sidesAt, defectAt, vertexHolderAt, parentOf, boundaryOf, overgrownOf, withSides, withHolder, withGrandson, withVertices, withVertexHolder, withVertexGrandson, freeSide, freeVertex, withNodes, withBoundary, withOvergrown}
 use Rattle.graph.specs.Open.{dualLimit, growthLimit}
 use Rattle.graph.specs.Sound.{sound}
 use Rattle.graph.specs.Layout.{stateOf}
 use Rattle.graph.specs.Form.{Formed, sidesOk}
 use Rattle.graph.specs.laws.State.{if-both, fold-keeps}
-use Rattle.graph.specs.laws.Shape.{Shape, node-facts, sound-node}
+use Rattle.graph.specs.laws.Shape.{Shape, node-facts, sound-node, own-facts}
 use Rattle.graph.specs.laws.Sounds.{Sound, sound-facts}
 use Rattle.pass.specs.Work.{Work, onState, keep, keepOnce, note, callAnother, startPass, finishPass}
 use Rattle.pass.specs.Shrink.{emptyTops, belowTops, dropSide, dropStep, shrinkStep, closed, releaseSide, releaseStep, dropped, shrinkScanned, shrinkPass}
@@ -53,6 +53,9 @@ sound-readable c z h =
 pub sound-sides-ok : (c : State) → sound c ≡ true → (n : ℕ) → n < nodeCount c → sidesOk c n ≡ true
 unfolding sidesOk
 sound-sides-ok c h n b = node-facts c n (sound-node c h n b) .boundary
+
+pub sound-once : (c : State) → sound c ≡ true → (n : ℕ) → n < nodeCount c → parentOf c n ≡ 0 → distinct (boundaryOf c n) ≡ true
+sound-once c h n b o = own-facts c n (node-facts c n (sound-node c h n b) .own o) .sides-once
 
 -- ---- a shrinking pass holds nothing
 
@@ -130,6 +133,7 @@ record Between (n : ℕ) (c₀ c : State) : Type 0 where
   pub passed : Passed n c₀ c
   pub holders : Holders (nodeCount c₀) c
   pub inside : all (λ s. ltb s (2 * edgeCount c₀)) (boundaryOf c n) ≡ true
+  pub once : distinct (boundaryOf c n) ≡ true
 
 module _ (n : ℕ) (c₀ : State) (z : Shape c₀) (node : n < nodeCount c₀) (sides : (v : ℕ) → all (λ t. ltb t (2 * edgeCount c₀)) (sidesAt c₀ v) ≡ true) where
   between-finish : (c : State) → Between n c₀ c → Between n c₀ (finishPass (shrinkPass c n) n)
@@ -141,6 +145,7 @@ module _ (n : ℕ) (c₀ : State) (z : Shape c₀) (node : n < nodeCount c₀) (
         passed = passed-trans (p .passed) (shrink-passed c n);
         holders = shrink-pass-holders (nodeCount c₀) c n (p .holders);
         inside = rw x (l .inside);
+        once = rw x (l .once);
       }
 
   between-step : (d : ℕ) → d ≢ up → (c : State) → Between n c₀ c → Between n c₀ (passState c n d)
@@ -160,7 +165,7 @@ module _ (b : List ℤ) (f : Formed b) (n : ℕ) (node : n < nodeCount (stateOf 
   between d h =
       let step = between-step n (stateOf b) z node (rw pair (formed-sides b f)) d h in
       prepare-leaves n d (Between n (stateOf b)) (Between n (stateOf b)) (λ c p q. step c p) (λ c p q. step c p) (stateOf b) (formed-ends b f) (z .vertexHolder)
-      (record { passed = passed-refl n (stateOf b); holders = sound-readable (stateOf b) z (g .sounds) .holders; inside = rw pair (sound-sides-ok (stateOf b) (g .sounds) n node) })
+      (record { passed = passed-refl n (stateOf b); holders = sound-readable (stateOf b) z (g .sounds) .holders; inside = rw pair (sound-sides-ok (stateOf b) (g .sounds) n node); once = sound-once (stateOf b) (g .sounds) n node (g .outer) })
 
   up-sound : sound (prepareNode (stateOf b) n up .state) ≡ true
   up-sound = prepare-up-sound (stateOf b) z (g .sounds) (formed-vertices b f) n node (g .outer) room
@@ -185,4 +190,13 @@ module _ (b : List ℤ) (f : Formed b) (n : ℕ) (node : n < nodeCount (stateOf 
       elim (decEq d up) [
         | yes e ↦ rw e (sound-sides-ok (prepareNode (stateOf b) n up .state) up-sound n (rw (prepare-passed (stateOf b) n up .growState) node))
         | no e ↦ let q : Between n (stateOf b) (prepareNode (stateOf b) n d .state) = between d e in rw (q .passed .graph, ← pair) (q .inside)
+      ]
+
+  pub prepared-once : (d : ℕ) → distinct (boundaryOf (prepareNode (stateOf b) n d .state) n) ≡ true
+  prepared-once d =
+      elim (decEq d up) [
+        | yes e ↦
+            let q = prepare-passed (stateOf b) n up in
+            rw e (sound-once (prepareNode (stateOf b) n up .state) up-sound n (rw (q .growState) node) (rw (q .parent) (g .outer)))
+        | no e ↦ between d e .once
       ]

@@ -1,0 +1,55 @@
+// The line of an answer.
+
+ghost use mathlib.Core.Path.{_≡_};
+ghost use mathlib.Core.List.{[], _∷_};
+ghost use Prim.Native.Nat.{_≤_};
+ghost use lib.ListN.{length};
+ghost use Rattle.calls.specs.Answer.{flag};
+ghost use Rattle.calls.specs.declared.Answer.the-variants.{NonZeroGrow};
+ghost use Rattle.records.specs.Lines.{line, wordsOf};
+ghost use Rattle.records.specs.Write.{Told};
+use crate::lines;
+use crate::lines::Out;
+use crate::signed_text;
+use crate::text;
+use calls::Answer;
+
+// 1 or 0.
+fn flag(e: bool) -> usize
+    ensures { λ r. ⌜ (r ≡ flag e) × (r ≤ 1) ⌝ }
+{
+    if e { 1 } else { 0 }
+}
+
+// The line of an answer that a node may grow by x.
+fn free(lines: &mut [u8], o: Out, k: usize, x: i64, e: bool) -> Out
+    requires { ⌜ o .at ≤ length (now lines) ⌝ }
+    ensures { λ r. ⌜ Told (now (lines .entry)) (o .at) (o .full) (now (lines .exit)) (r .at) (r .full) (line k (wordsOf (NonZeroGrow x e)) ∷ []) ⌝ }
+{
+    let mut w = [0u8; 32];
+    let m = text::word(&mut w, 0, b"free ");
+    let n = signed_text::signed(&mut w, m, x);
+    let ns = [flag(e)];
+    lines::tell(lines, o, k, &w[0..n], &ns)
+}
+
+// The line of an answer to record k goes behind the others.
+pub fn answer(lines: &mut [u8], o: Out, k: usize, a: Answer) -> Out
+    requires { ⌜ o .at ≤ length (now lines) ⌝ }
+    ensures { λ r. ⌜ Told (now (lines .entry)) (o .at) (o .full) (now (lines .exit)) (r .at) (r .full) (line k (wordsOf a) ∷ []) ⌝ }
+{
+    match a {
+        Answer::NonZeroGrow(x, e) => free(lines, o, k, x, e),
+        Answer::Unlimited(e) => lines::tell_one(lines, o, k, b"free -1", flag(e)),
+        Answer::Conflicting(p, g, n, h) => lines::tell_four(lines, o, k, b"conflict", p, g, n, h),
+        Answer::TouchingVirtual(n, g, v) => lines::tell_four(lines, o, k, b"virtual", n, g, v, 0),
+        Answer::BlossomNeedExpand(n) => lines::tell_one(lines, o, k, b"expand", n),
+        Answer::VertexShrinkStop(n) => lines::tell_one(lines, o, k, b"stop", n),
+        Answer::VertexShrinkStopPeer(n, p, g) => lines::tell_three(lines, o, k, b"stop", n, p, g),
+        Answer::Done => lines::tell(lines, o, k, b"done", &[]),
+        Answer::Node(n) => lines::tell_one(lines, o, k, b"node", n),
+        Answer::Prepared(n) => lines::tell_one(lines, o, k, b"prepared", n),
+        Answer::Vertex(v) => lines::tell_one(lines, o, k, b"vertex", v),
+        Answer::Refused(n) => lines::tell_one(lines, o, k, b"refused", n),
+    }
+}
