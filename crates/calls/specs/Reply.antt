@@ -5,7 +5,7 @@ use mathlib.Core.Bool.{true}
 use mathlib.Core.List.{List, _++_, map}
 use lib.IntN.{ℤ, pos}
 use lib.ListN.{length, drop}
-use Rattle.graph.specs.State.{sideCount}
+use Rattle.graph.specs.State.{vertexCount, edgeCount, sideCount}
 use Rattle.graph.specs.Sound.{sound}
 use Rattle.graph.specs.Layout.{stateOf}
 use Rattle.graph.specs.Form.{Formed, Becomes}
@@ -23,6 +23,16 @@ pub record Usable (b t : List ℤ) : Type 0 where
 pub record Replies (b₀ b : List ℤ) (a : Answer) (r : Reply) : Type 0 where
   pub answer : a ≡ r .answer
   pub block : Becomes b₀ b (r .state)
+
+-- the same where one node more may stand: the block is in form, holds the state of the reply, and its graph has the same counts
+pub record RepliesInsert (b₀ b : List ℤ) (a : Answer) (r : Reply) : Type 0 where
+  pub answer : a ≡ r .answer
+  pub formed : Formed b
+  pub state : stateOf b ≡ r .state
+  pub vertices : vertexCount (stateOf b) ≡ vertexCount (stateOf b₀)
+  pub edges : edgeCount (stateOf b) ≡ edgeCount (stateOf b₀)
+  pub sides : sideCount (stateOf b) ≡ sideCount (stateOf b₀)
+  pub len : length b ≡ length b₀
 
 -- t with the numbers l at its front
 unfoldable pub placed : List ℕ → List ℤ → List ℤ

@@ -1,5 +1,6 @@
 -- Laws about the definitions of `calls`.
 pub mod Accepted
+pub mod Defect
 pub mod Growth
 pub mod Length
 pub mod Moving

@@ -1,0 +1,236 @@
+-- Laws of the insertion of a defect.
+use Prim.Native.Nat.{ℕ, _+_, _*_, _≤_, _<_}
+use native.Mathlib.Numerals.{add-one}
+use native.Mathlib.Omega.{arith}
+use mathlib.Core.Path.{_≡_, refl, sym, ap, subst, _∙_}
+use mathlib.Core.Logic.{_≢_}
+use mathlib.Core.Bool.{true, false, not, _||_}
+use mathlib.Core.List.{List, [], _∷_, _++_}
+use lib.IntN.{ℤ, pos}
+use lib.Dec.{leb, ltb, eqb}
+use lib.ListN.{length, getD, set, take}
+use lib.Seq.{length-take-le, take-suc, take-all}
+use borrow.Author.Tests.{lt-ltb, eq-eqb, ne-eqb, le-leb, lt-leb}
+use Rattle.graph.specs.Basic.{if_then_else_, fold, any}
+use Rattle.graph.specs.State.{State, defectVertex, vertexCount, sideCount, nodeCount, holderAt, sidesAt, virtualAt, defectAt, vertexHolderAt, withVertices, withSides, withHolder, withGrandson, withDefect, withVertexHolder, withVertexGrandson, withNode, heldSide, heldVertex}
+use Rattle.graph.specs.Sound.{entriesOf, entries}
+use Rattle.graph.specs.Word.{numbersAt}
+use Rattle.graph.specs.Layout.{stateOf, classFrom}
+use Rattle.graph.specs.Form.{Laid, Formed, Becomes}
+use Rattle.graph.specs.Insert.{Inserted}
+use Rattle.graph.specs.laws.State.{Kept, kept-refl, kept-trans, kept-held-side, fold-more, fold-done, fold-keeps}
+use Rattle.graph.specs.laws.Row.{becomes-none, becomes-then}
+use Rattle.graph.specs.laws.SidesAt.{around-of, rising-of}
+use Rattle.pass.specs.Scratch.{zeroScratch, wiped, Holding}
+use Rattle.pass.specs.laws.Scratch.{holding-zero, zero-holding, hold-first, first-numbers, wipe-first}
+use Rattle.pass.specs.laws.Growing.{kept-sides}
+use Rattle.calls.specs.declared.Answer.the-variants.{Node, Refused}
+use Rattle.calls.specs.Answer.{says}
+use Rattle.calls.specs.Refuse.{storeShort, unless}
+use Rattle.calls.specs.Insert.{occupied, defectRefusal, holdStep, defectPut, insertDefect}
+use Rattle.calls.specs.Reply.{Usable, RepliesInsert}
+use Rattle.calls.specs.laws.Accepted.{DefectAccepted, defect-accepted, store-room, entries-none}
+
+-- ---- what refuses it
+
+-- a word that stands for a node or none
+pub some-node : {h x : ℕ} → h ≡ x → h ≢ 0 → not (eqb x 0) ≡ true
+some-node {h} {x} e n = rw (← e, ne-eqb h 0 n)
+
+pub no-node : {h x : ℕ} → h ≡ x → h ≡ 0 → not (eqb x 0) ≡ false
+no-node {h} {x} e n = rw (← e, eq-eqb h 0 n)
+
+module _ (c : State) (v : ℕ) where
+  pub occupied-there : not (eqb (virtualAt c v) 0) || not (eqb (defectAt c v) 0) || not (eqb (vertexHolderAt c v) 0) ≡ true → true ≡ occupied c v
+  unfolding occupied
+  occupied-there h = rw h
+
+  pub occupied-around : not (eqb (virtualAt c v) 0) || not (eqb (defectAt c v) 0) || not (eqb (vertexHolderAt c v) 0) ≡ false → any (λ t. not (eqb (holderAt c t) 0)) (sidesAt c v) ≡ occupied c v
+  unfolding occupied
+  occupied-around h = rw h
+
+module _ (c : State) (v x : ℕ) where
+  pub defect-refusal-3 : leb (vertexCount c) v || ltb 2 x ≡ true → 3 ≡ defectRefusal c v x
+  unfolding defectRefusal
+  defect-refusal-3 h = rw h
+
+  module _ (e : leb (vertexCount c) v || ltb 2 x ≡ false) where
+    pub defect-refusal-5 : occupied c v ≡ true → 5 ≡ defectRefusal c v x
+    unfolding defectRefusal
+    defect-refusal-5 h = rw (e, h)
+
+    module _ (o : occupied c v ≡ false) where
+      pub defect-refusal-8 : c .nodeLimit ≤ nodeCount c → 8 ≡ defectRefusal c v x
+      unfolding defectRefusal
+      defect-refusal-8 h = rw (e, o, le-leb (c .nodeLimit) (nodeCount c) h)
+
+      pub defect-refusal-9 : nodeCount c < c .nodeLimit → storeShort c [] 1 ≡ true → 9 ≡ defectRefusal c v x
+      unfolding defectRefusal
+      defect-refusal-9 k h = rw (e, o, lt-leb (c .nodeLimit) (nodeCount c) k, h)
+
+      pub defect-refusal-0 : nodeCount c < c .nodeLimit → storeShort c [] 1 ≡ false → 0 ≡ defectRefusal c v x
+      unfolding defectRefusal
+      defect-refusal-0 k h = rw (e, o, lt-leb (c .nodeLimit) (nodeCount c) k, h)
+
+-- ---- the sides at the vertex
+
+-- the first i sides at v are held by node n, and stand at the front of the scratch
+pub record HeldSides (b₀ b t : List ℤ) (n v i : ℕ) : Type 0 where
+  pub inside : v < vertexCount (stateOf b₀)
+  pub below : i ≤ length (sidesAt (stateOf b₀) v)
+  pub room : length (sidesAt (stateOf b₀) v) ≤ sideCount (stateOf b₀)
+  pub kept : Kept (stateOf b₀) (stateOf b)
+  pub block : Becomes b₀ b (fold (holdStep n) (stateOf b₀) (take i (sidesAt (stateOf b₀) v)))
+  pub holding : Holding t (sideCount (stateOf b₀)) (take i (sidesAt (stateOf b₀) v)) [] []
+
+-- no vertex has more sides than there are
+pub sides-room : (b : List ℤ) (v : ℕ) → Formed b → v < vertexCount (stateOf b) → length (sidesAt (stateOf b) v) ≤ sideCount (stateOf b)
+sides-room b v f h = let r = around-of b v (f .laid) (rising-of b (f .wired)) h in omega (arith, r .size, r .within)
+
+pub held-none : {b t : List ℤ} (n v : ℕ) → Formed b → v < vertexCount (stateOf b) → t ≡ zeroScratch (3 * sideCount (stateOf b)) → HeldSides b b t n v 0
+unfolding fold
+held-none {b} {t} n v f h e = record {
+  inside = h;
+  below = omega arith;
+  room = sides-room b v f h;
+  kept = kept-refl (stateOf b);
+  block = becomes-none b (stateOf b) f refl;
+  holding = holding-zero t (sideCount (stateOf b)) e;
+}
+
+module _ {b₀ b t : List ℤ} {n v i : ℕ} (q : HeldSides b₀ b t n v i) where
+  -- the sides at v are still those
+  pub held-same : sidesAt (stateOf b) v ≡ sidesAt (stateOf b₀) v
+  held-same = kept-sides (q .kept) v
+
+  pub held-more : {b' : List ℤ} (s : ℕ) → i < length (sidesAt (stateOf b₀) v) → s ≡ getD (sidesAt (stateOf b₀) v) i 0 → Becomes b b' (heldSide (stateOf b) s n (n + 1)) → HeldSides b₀ b' (set t i (pos s)) n v (i + 1)
+  unfolding holdStep
+  held-more {b'} s h e x =
+      let l : List ℕ = sidesAt (stateOf b₀) v in
+      let m : ℕ = sideCount (stateOf b₀) in
+      let k : length (take i l) ≡ i = length-take-le i l (q .below) in
+      let r : length l ≤ m = q .room in
+      let z : heldSide (stateOf b) s n (n + 1) ≡ fold (holdStep n) (stateOf b₀) (take (i + 1) l) = rw (q .block .state, e) (sym (fold-more (holdStep n) (stateOf b₀) l i 0 h)) in
+      let y : take (i + 1) l ≡ take i l ++ (s ∷ []) = rw (add-one, e) (take-suc l i 0 h) in
+      let w : Holding (set t i (pos s)) m (take i l ++ (s ∷ [])) [] [] = rw k at (hold-first (q .holding) s (omega (arith, k, h, r))) in
+      record {
+        inside = q .inside;
+        below = omega (arith, h);
+        room = r;
+        kept = kept-trans (q .kept) (rw (x .state) (kept-held-side (stateOf b) s n (n + 1)));
+        block = subst (Becomes b₀ b') z (becomes-then (q .block) x);
+        holding = rw y w;
+      }
+
+  -- the scratch is as long as it was
+  pub held-size : {t₀ : List ℤ} → t₀ ≡ zeroScratch (3 * sideCount (stateOf b₀)) → length t ≡ length t₀
+  held-size {t₀} e = q .holding .size ∙ sym (holding-zero t₀ (sideCount (stateOf b₀)) e .size)
+
+  pub held-all-block : length (sidesAt (stateOf b₀) v) ≤ i → Becomes b₀ b (fold (holdStep n) (stateOf b₀) (sidesAt (stateOf b₀) v))
+  held-all-block h = rw (← fold-done (holdStep n) (stateOf b₀) (sidesAt (stateOf b₀) v) i h) (q .block)
+
+  pub held-all-scratch : length (sidesAt (stateOf b₀) v) ≤ i → Holding t (sideCount (stateOf b₀)) (sidesAt (stateOf b₀) v) [] []
+  held-all-scratch h = rw (take-all i (sidesAt (stateOf b₀) v) h) at (q .holding)
+
+-- ---- the vertex with its sides
+
+-- the state with node n holding the defect at v and the sides there
+abbrev pub heldDefect : State → ℕ → ℕ → State
+heldDefect c v n = fold (holdStep n) (heldVertex (withDefect c v 1) v n (n + 1)) (sidesAt c v)
+
+module _ {b₀ b₁ b₂ : List ℤ} (v n : ℕ) (p : Becomes b₀ b₁ (withDefect (stateOf b₀) v 1)) (q : Becomes b₁ b₂ (heldVertex (stateOf b₁) v n (n + 1))) where
+  vertex-state : stateOf b₂ ≡ heldVertex (withDefect (stateOf b₀) v 1) v n (n + 1)
+  vertex-state = q .state ∙ ap (λ (c : State). heldVertex c v n (n + 1)) (p .state)
+
+  vertex-sides : sidesAt (stateOf b₂) v ≡ sidesAt (stateOf b₀) v
+  unfolding heldVertex withVertexGrandson withVertexHolder withDefect withVertices
+  vertex-sides = ap (λ (c : State). sidesAt c v) vertex-state
+
+  pub defect-block : {b₃ : List ℤ} → Becomes b₂ b₃ (fold (holdStep n) (stateOf b₂) (sidesAt (stateOf b₂) v)) → Becomes b₀ b₃ (heldDefect (stateOf b₀) v n)
+  defect-block {b₃} r =
+      let z : fold (holdStep n) (stateOf b₂) (sidesAt (stateOf b₂) v) ≡ heldDefect (stateOf b₀) v n = rw (vertex-sides, vertex-state) in
+      subst (Becomes b₀ b₃) z (becomes-then (becomes-then p q) r)
+
+  pub defect-scratch : {t : List ℤ} → Holding t (sideCount (stateOf b₂)) (sidesAt (stateOf b₂) v) [] [] → Holding t (sideCount (stateOf b₀)) (sidesAt (stateOf b₀) v) [] []
+  defect-scratch h = rw (vertex-sides, q .sides, p .sides) at h
+
+  pub defect-count : {l : ℕ} → l ≡ length (sidesAt (stateOf b₂) v) → l ≡ length (sidesAt (stateOf b₀) v)
+  defect-count e = e ∙ ap (λ (l : List ℕ). length l) vertex-sides
+
+-- ---- the node
+
+-- the graph, the nodes and the limits are the same
+record Unmoved (c d : State) : Type 0 where
+  graph : d .graph ≡ c .graph
+  nodes : d .nodes ≡ c .nodes
+  nodeLimit : d .nodeLimit ≡ c .nodeLimit
+  storeLimit : d .storeLimit ≡ c .storeLimit
+
+unmoved-step : (n : ℕ) (c d : State) (t : ℕ) → Unmoved c d → Unmoved c (holdStep n d t)
+unfolding holdStep heldSide withGrandson withHolder withSides
+unmoved-step n c d t p = record { graph = p .graph; nodes = p .nodes; nodeLimit = p .nodeLimit; storeLimit = p .storeLimit }
+
+unmoved-vertex : (n : ℕ) (c : State) (v : ℕ) → Unmoved c (heldVertex (withDefect c v 1) v n (n + 1))
+unfolding heldVertex withVertexGrandson withVertexHolder withDefect withVertices
+unmoved-vertex n c v = record { graph = refl; nodes = refl; nodeLimit = refl; storeLimit = refl }
+
+unmoved-defect : (n : ℕ) (c : State) (v : ℕ) → Unmoved c (heldDefect c v n)
+unmoved-defect n c v = fold-keeps (holdStep n) (Unmoved c) (unmoved-step n c) (heldVertex (withDefect c v 1) v n (n + 1)) (sidesAt c v) (unmoved-vertex n c v)
+
+unmoved-entries : {c d : State} → Unmoved c d → entries d ≡ entries c
+unfolding entries entriesOf
+unmoved-entries p = rw (p .nodes)
+
+-- how many nodes a block may have
+laid-nodes : (b : List ℤ) → Laid b → stateOf b .nodeLimit ≤ 1024
+unfolding Laid
+laid-nodes b q = omega (arith, q .counted .node-limit, q .sized .n-max)
+
+class-defect : (m v : ℕ) → v < m → classFrom m v ≡ defectVertex v
+unfolding classFrom
+class-defect m v h = rw (lt-ltb v m h)
+
+module _ {b t : List ℤ} (u : Usable b t) (v x k : ℕ) (e : k ≡ defectRefusal (stateOf b) v x) where
+  pub defect-refused : k ≢ 0 → RepliesInsert b b (Refused k) (insertDefect (stateOf b) v x)
+  unfolding insertDefect unless says
+  defect-refused h = rw (← e, ne-eqb k 0 h) (record { answer = refl; formed = u .formed; state = refl; vertices = refl; edges = refl; sides = refl; len = refl })
+
+  module _ (h : k ≡ 0) where
+    taken : DefectAccepted (stateOf b) v x
+    taken = defect-accepted (stateOf b) v x (sym e ∙ h)
+
+    pub defect-inside : v < vertexCount (stateOf b)
+    defect-inside = taken .inside
+
+    pub defect-small : nodeCount (stateOf b) < 1024
+    defect-small = omega (arith, taken .count, laid-nodes b (u .formed .laid))
+
+    pub defect-class-small : v < 9223372036854775808
+    defect-class-small = omega (arith, taken .inside, u .formed .vertices-max)
+
+    pub defect-state-small : x < 9223372036854775808
+    defect-state-small = omega (arith, taken .growState)
+
+    module _ (n l : ℕ) {b₃ t₃ : List ℤ} (en : n ≡ nodeCount (stateOf b)) (p : Becomes b b₃ (heldDefect (stateOf b) v n)) (g : Holding t₃ (sideCount (stateOf b)) (sidesAt (stateOf b) v) [] []) (el : l ≡ length (sidesAt (stateOf b) v)) where
+      still : Unmoved (stateOf b) (stateOf b₃)
+      still = rw (p .state) (unmoved-defect n (stateOf b) v)
+
+      pub defect-count-left : nodeCount (stateOf b₃) < stateOf b₃ .nodeLimit
+      defect-count-left = omega (arith, p .nodes, still .nodeLimit, taken .count)
+
+      pub defect-read : l ≤ length t₃
+      defect-read = omega (arith, el, g .keeps, g .size)
+
+      pub defect-room : entries (stateOf b₃) + l ≤ stateOf b₃ .storeLimit
+      defect-room = omega (arith, el, g .keeps, unmoved-entries still, still .storeLimit, store-room (stateOf b) [] 1 (taken .room), entries-none (stateOf b))
+
+      pub defect-done : {b₄ : List ℤ} → Inserted b₃ b₄ (withNode (stateOf b₃) (classFrom (vertexCount (stateOf b₃)) v) x (numbersAt t₃ 0 l)) → RepliesInsert b b₄ (Node n) (insertDefect (stateOf b) v x)
+      unfolding insertDefect unless defectPut
+      defect-done {b₄} r =
+          let y : classFrom (vertexCount (stateOf b₃)) v ≡ defectVertex v = class-defect (vertexCount (stateOf b₃)) v (omega (arith, p .vertices, taken .inside)) in
+          let w : numbersAt t₃ 0 l ≡ sidesAt (stateOf b) v = rw el (first-numbers g) in
+          let z : withNode (stateOf b₃) (classFrom (vertexCount (stateOf b₃)) v) x (numbersAt t₃ 0 l) ≡ withNode (heldDefect (stateOf b) v (nodeCount (stateOf b))) (defectVertex v) x (sidesAt (stateOf b) v) = rw (y, w, p .state, en) in
+          rw (← e, eq-eqb k 0 h) (record { answer = ap Node en; formed = r .formed; state = r .state ∙ z; vertices = r .vertices ∙ p .vertices; edges = r .edges ∙ p .edges; sides = r .sides ∙ p .sides; len = r .len ∙ p .len })
+
+      pub defect-wiped : {t₅ : List ℤ} → t₅ ≡ wiped t₃ 0 l → t₅ ≡ t
+      defect-wiped {t₅} i = i ∙ rw el (zero-holding _ (sideCount (stateOf b)) (wipe-first g)) ∙ sym (u .scratch)

@@ -1,0 +1,116 @@
+// Insertion of a defect.
+
+ghost use mathlib.Core.Path.{_≡_};
+ghost use mathlib.Core.Bool.{not};
+ghost use mathlib.Core.List.{[]};
+ghost use Prim.Native.Nat.{_+_, _*_, _<_};
+ghost use lib.Dec.{eqb};
+ghost use lib.ListN.{length};
+ghost use Rattle.graph.specs.Basic.{fold, any};
+ghost use Rattle.graph.specs.State.{vertexCount, sideCount, holderAt, sidesAt, withDefect, heldVertex};
+ghost use Rattle.graph.specs.Layout.{stateOf};
+ghost use Rattle.graph.specs.Form.{Formed, Becomes};
+ghost use Rattle.pass.specs.Scratch.{zeroScratch, Holding};
+ghost use Rattle.calls.specs.Insert.{occupied, defectRefusal, holdStep, insertDefect};
+ghost use Rattle.calls.specs.Reply.{Usable, RepliesInsert};
+use crate::Answer;
+use crate::refuse;
+use graph::insert;
+use graph::rows;
+use graph::side;
+use graph::sides;
+use graph::vertex;
+use graph::words;
+use pass::scratch;
+
+// Whether some side at vertex v is held.
+fn held_side(b: &[i64], v: usize) -> bool
+    requires { ⌜ Formed (now b) × (v < vertexCount (stateOf (now b))) ⌝ }
+    ensures { λ r. ⌜ r ≡ any (λ t. not (eqb (holderAt (stateOf (now (b .entry))) t) 0)) (sidesAt (stateOf (now (b .entry))) v) ⌝ }
+{
+    let l = sides::sides_len(b, v);
+    let mut i = 0;
+    while i < l {
+        let s = sides::vertex_side(b, v, i);
+        if side::holder(b, s) != 0 {
+            return true;
+        } else {
+            i += 1;
+        }
+    }
+    false
+}
+
+// Whether vertex v is virtual, a defect, held, or has a held side.
+fn occupied(b: &[i64], v: usize) -> bool
+    requires { ⌜ Formed (now b) × (v < vertexCount (stateOf (now b))) ⌝ }
+    ensures { λ r. ⌜ r ≡ occupied (stateOf (now (b .entry))) v ⌝ }
+{
+    if (vertex::virtual_flag(b, v) != 0)
+        | (vertex::defect_flag(b, v) != 0)
+        | (vertex::holder(b, v) != 0)
+    {
+        true
+    } else {
+        held_side(b, v)
+    }
+}
+
+// What refuses a defect at vertex v in grow state x: 0 or the number.
+fn defect_refusal(b: &[i64], v: usize, x: usize) -> usize
+    requires { ⌜ Formed (now b) ⌝ }
+    ensures { λ r. ⌜ r ≡ defectRefusal (stateOf (now (b .entry))) v x ⌝ }
+{
+    if (rows::vertex_count(b) <= v) | (2 < x) {
+        return 3;
+    }
+    if occupied(b, v) {
+        return 5;
+    }
+    if rows::node_limit(b) <= rows::node_count(b) {
+        return 8;
+    }
+    if refuse::store_short_new(b) { 9 } else { 0 }
+}
+
+// The sides at vertex v are held by node n, and written at the front of t; how many they are.
+fn hold_sides(b: &mut [i64], t: &mut [i64], v: usize, n: usize) -> usize
+    requires { ⌜ Formed (now b) × (v < vertexCount (stateOf (now b))) × (n < 1024) × (now t ≡ zeroScratch (3 * sideCount (stateOf (now b)))) ⌝ }
+    ensures { λ r. ⌜ Becomes (now (b .entry)) (now (b .exit)) (fold (holdStep n) (stateOf (now (b .entry))) (sidesAt (stateOf (now (b .entry))) v)) × Holding (now (t .exit)) (sideCount (stateOf (now (b .entry)))) (sidesAt (stateOf (now (b .entry))) v) [] [] × (r ≡ length (sidesAt (stateOf (now (b .entry))) v)) ⌝ }
+{
+    let l = sides::sides_len(b, v);
+    let mut i = 0;
+    while i < l {
+        let s = sides::vertex_side(b, v, i);
+        side::hold(b, s, n, n + 1);
+        words::put(t, i, s);
+        i += 1;
+    }
+    l
+}
+
+// Vertex v becomes a defect that node n holds, with the sides there, which are written at the front of t; how many they are.
+fn hold_defect(b: &mut [i64], t: &mut [i64], v: usize, n: usize) -> usize
+    requires { ⌜ Formed (now b) × (v < vertexCount (stateOf (now b))) × (n < 1024) × (now t ≡ zeroScratch (3 * sideCount (stateOf (now b)))) ⌝ }
+    ensures { λ r. ⌜ Becomes (now (b .entry)) (now (b .exit)) (fold (holdStep n) (heldVertex (withDefect (stateOf (now (b .entry))) v 1) v n (n + 1)) (sidesAt (stateOf (now (b .entry))) v)) × Holding (now (t .exit)) (sideCount (stateOf (now (b .entry)))) (sidesAt (stateOf (now (b .entry))) v) [] [] × (r ≡ length (sidesAt (stateOf (now (b .entry))) v)) ⌝ }
+{
+    vertex::set_defect(b, v, 1);
+    vertex::hold(b, v, n, n + 1);
+    hold_sides(b, t, v, n)
+}
+
+// The next node is a defect at vertex v, in grow state x.
+pub fn insert_defect(b: &mut [i64], t: &mut [i64], v: usize, x: usize) -> Answer
+    requires { ⌜ Usable (now b) (now t) ⌝ }
+    ensures { λ r. ⌜ RepliesInsert (now (b .entry)) (now (b .exit)) r (insertDefect (stateOf (now (b .entry))) v x) × (now (t .exit) ≡ now (t .entry)) ⌝ }
+{
+    let k = defect_refusal(b, v, x);
+    if k != 0 {
+        return Answer::Refused(k);
+    }
+    let n = rows::node_count(b);
+    let l = hold_defect(b, t, v, n);
+    insert::push_node(b, v, x, t, l);
+    scratch::wipe(t, 0, l);
+    Answer::Node(n)
+}
