@@ -2,8 +2,11 @@
 
 ghost use mathlib.Core.Path.{_≡_};
 ghost use mathlib.Core.Bool.{true};
+ghost use mathlib.Core.List.{map};
+ghost use lib.Dec.{ltb};
+ghost use Rattle.graph.specs.Word.{toNat};
 ghost use Prim.Native.Nat.{_<_, _≤_};
-ghost use Rattle.graph.specs.Basic.{any, fold};
+ghost use Rattle.graph.specs.Basic.{all, any, fold};
 ghost use Rattle.graph.specs.State.{sideCount, nodeCount, boundaryOf, overgrownOf, growthAt, withOvergrown};
 ghost use Rattle.graph.specs.Node.{Movable, moved};
 ghost use Rattle.graph.specs.Layout.{stateOf};
@@ -18,6 +21,7 @@ use graph::lists;
 use graph::node;
 use graph::side;
 use graph::top;
+use graph::words;
 
 // ---- what refuses it
 
@@ -45,15 +49,14 @@ fn side_refuses(b: &[i64], n: usize, l: usize, k: usize, s: usize) -> bool
     }
 }
 
-// Whether some side of the boundary of node n calls for refusal k.
-fn some_side_refuses(b: &[i64], n: usize, l: usize, k: usize) -> bool
-    requires { ⌜ Formed (now b) × Readable (stateOf (now b)) × (n < nodeCount (stateOf (now b))) × (l ≤ 9223372036854775808) × (sidesOk (stateOf (now b)) n ≡ true) ⌝ }
-    ensures { λ r. ⌜ r ≡ any (sideRefuses (stateOf (now (b .entry))) n l k) (boundaryOf (stateOf (now (b .entry))) n) ⌝ }
+// Whether some side of a boundary, handed on as its stretch of the list store, calls for refusal k.
+fn some_side_refuses(b: &[i64], boundary: &[i64], n: usize, l: usize, k: usize) -> bool
+    requires { ⌜ Formed (now b) × Readable (stateOf (now b)) × (n < nodeCount (stateOf (now b))) × (l ≤ 9223372036854775808) × (all (λ s. ltb s (sideCount (stateOf (now b)))) (map toNat (now boundary)) ≡ true) ⌝ }
+    ensures { λ r. ⌜ r ≡ any (sideRefuses (stateOf (now (b .entry))) n l k) (map toNat (now (boundary .entry))) ⌝ }
 {
-    let m = lists::boundary_len(b, n);
     let mut i = 0;
-    while i < m {
-        let s = lists::boundary_side(b, n, i);
+    while i < boundary.len() {
+        let s = words::word(boundary, i);
         if side_refuses(b, n, l, k, s) {
             return true;
         } else {
@@ -61,6 +64,15 @@ fn some_side_refuses(b: &[i64], n: usize, l: usize, k: usize) -> bool
         }
     }
     false
+}
+
+// Whether some side of the boundary of node n calls for refusal k.
+fn boundary_refuses(b: &[i64], n: usize, l: usize, k: usize) -> bool
+    requires { ⌜ Formed (now b) × Readable (stateOf (now b)) × (n < nodeCount (stateOf (now b))) × (l ≤ 9223372036854775808) × (sidesOk (stateOf (now b)) n ≡ true) ⌝ }
+    ensures { λ r. ⌜ r ≡ any (sideRefuses (stateOf (now (b .entry))) n l k) (boundaryOf (stateOf (now (b .entry))) n) ⌝ }
+{
+    let boundary = lists::boundary(b, n);
+    some_side_refuses(b, boundary, n, l, k)
 }
 
 // Whether a dual variable or an amount calls for refusal k: 12, or else 11.
@@ -99,7 +111,7 @@ fn refuses(b: &[i64], n: usize, l: usize, k: usize) -> bool
     if node_refuses(b, n, l, k) {
         true
     } else {
-        some_side_refuses(b, n, l, k)
+        boundary_refuses(b, n, l, k)
     }
 }
 
@@ -109,7 +121,7 @@ pub fn grow_check(b: &[i64], n: usize, d: usize, l: usize) -> usize
     ensures { λ r. ⌜ r ≡ growCheck (stateOf (now (b .entry))) n d l ⌝ }
 {
     if d == 1 {
-        if some_side_refuses(b, n, l, 10) {
+        if boundary_refuses(b, n, l, 10) {
             10
         } else if refuses(b, n, l, 12) {
             12

@@ -2,35 +2,35 @@ use borrow.Author.Needs.{needs}
 use native.Mathlib.Omega.{arith}
 use Prim.Native.Nat.{_-_, _≤_}
 use mathlib.Core.Path.{_≡_, refl, sym, _∙_}
-use lib.ListN.{drop}
+use mathlib.Core.List.{map}
+use lib.ListN.{length, drop, length-map}
 use Rattle.graph.specs.Basic.{any}
-use Rattle.graph.specs.State.{boundaryOf}
+use Rattle.graph.specs.State.{sideCount}
+use Rattle.graph.specs.Word.{toNat}
 use Rattle.graph.specs.Layout.{stateOf}
-use Rattle.calls.specs.Moving.{sideRefuses}
 use Rattle.pass.specs.laws.Grow.{any-here, any-on, any-end}
+use Rattle.calls.specs.Moving.{sideRefuses}
+use Rattle.calls.specs.laws.Scanning.{word-entry, word-below}
 use Rattle.calls.proofs.growth.some_side_refuses.Statement.{statement}
 use Rattle.calls.proofs.growth.some_side_refuses.Tie as tie
 
 abbrev Inv-loop : tie.InvT-loop
-Inv-loop b n l k m i₀ i = (i ≤ m) × (any (sideRefuses (stateOf b) n l k) (drop i (boundaryOf (stateOf b) n)) ≡ any (sideRefuses (stateOf b) n l k) (boundaryOf (stateOf b) n))
+Inv-loop b boundary n l k i₀ i = (i ≤ length boundary) × (any (sideRefuses (stateOf b) n l k) (drop i (map toNat boundary)) ≡ any (sideRefuses (stateOf b) n l k) (map toNat boundary))
 
 abbrev μ-loop : tie.MeasureT-loop
-μ-loop b n l k m i₀ i = m - i
-
-boundary-len-requires : tie.Need-boundary-len-requires Inv-loop μ-loop
-boundary-len-requires c κs = search needs
+μ-loop b boundary n l k i₀ i = length boundary - i
 
 loop-holds : tie.Need-loop-holds Inv-loop μ-loop
 loop-holds c = (omega arith, refl)
 
-boundary-side-requires : tie.Need-boundary-side-requires Inv-loop μ-loop
-boundary-side-requires c κs = search needs
+word-requires : tie.Need-word-requires Inv-loop μ-loop
+word-requires c κs = search needs
 
 side-refuses-requires : tie.Need-side-refuses-requires Inv-loop μ-loop
-side-refuses-requires c κs = search needs
+side-refuses-requires c κs = let s = c .before .before .before in (s .pre .0, s .pre .1, s .pre .2, s .pre .3, rw (c .word .ensures .0) (word-below (sideCount (stateOf (s .args .b .now))) (s .args .boundary .now) (c .before .before .loop .i) (s .pre .4) (c .before .loop-test .taken)))
 
 returns : tie.Need-returns Inv-loop μ-loop
-returns c = let d = c .before .before .before .before .loop in let a = c .before .before .before .before .before .before .args in any-here (sideRefuses (stateOf (a .b .now)) (a .n) (a .l) (a .k)) (boundaryOf (stateOf (a .b .now)) (a .n)) (d .i) (d .inv .1) (omega arith) (rw (c .before .before .boundary-side .ensures .0) at (sym (c .before .side-refuses .ensures) ∙ c .if1 .taken))
+returns c = let a = c .before .before .before .before .before .args in any-here (sideRefuses (stateOf (a .b .now)) (a .n) (a .l) (a .k)) (map toNat (a .boundary .now)) (c .before .before .before .before .loop .i) (c .before .before .before .before .loop .inv .1) (rw (length-map (a .boundary .now) toNat) (c .before .before .before .loop-test .taken)) (rw (c .before .before .word .ensures .0 ∙ word-entry (a .boundary .now) (c .before .before .before .before .loop .i)) at (sym (c .before .side-refuses .ensures) ∙ c .if1 .taken))
 
 add-i : tie.Need-add-i Inv-loop μ-loop
 add-i c = search needs
@@ -39,10 +39,10 @@ loop-less : tie.Need-loop-less Inv-loop μ-loop
 loop-less c = search needs
 
 loop-again : tie.Need-loop-again Inv-loop μ-loop
-loop-again c = let d = c .before .before .before .before .loop in let a = c .before .before .before .before .before .before .args in (omega arith, any-on (sideRefuses (stateOf (a .b .now)) (a .n) (a .l) (a .k)) (boundaryOf (stateOf (a .b .now)) (a .n)) (d .i) (d .inv .1) (omega arith) (rw (c .before .before .boundary-side .ensures .0) at (sym (c .before .side-refuses .ensures) ∙ c .if1 .left)))
+loop-again c = let a = c .before .before .before .before .before .args in (omega (arith, c .before .before .before .loop-test .taken), any-on (sideRefuses (stateOf (a .b .now)) (a .n) (a .l) (a .k)) (map toNat (a .boundary .now)) (c .before .before .before .before .loop .i) (c .before .before .before .before .loop .inv .1) (rw (length-map (a .boundary .now) toNat) (c .before .before .before .loop-test .taken)) (rw (c .before .before .word .ensures .0 ∙ word-entry (a .boundary .now) (c .before .before .before .before .loop .i)) at (sym (c .before .side-refuses .ensures) ∙ c .if1 .left)))
 
 returns-2 : tie.Need-returns-2 Inv-loop μ-loop
-returns-2 c = let d = c .before .loop in let a = c .before .before .before .args in any-end (sideRefuses (stateOf (a .b .now)) (a .n) (a .l) (a .k)) (boundaryOf (stateOf (a .b .now)) (a .n)) (d .i) (d .inv .1) (omega arith)
+returns-2 c = let a = c .before .before .args in any-end (sideRefuses (stateOf (a .b .now)) (a .n) (a .l) (a .k)) (map toNat (a .boundary .now)) (c .before .loop .i) (c .before .loop .inv .1) (rw (length-map (a .boundary .now) toNat) (omega arith))
 
 pub some-side-refuses-spec : {M : Type 1} → statement M
 some-side-refuses-spec =
@@ -50,9 +50,8 @@ some-side-refuses-spec =
     (tie.spec
     Inv-loop
     μ-loop
-    boundary-len-requires
     loop-holds
-    boundary-side-requires
+    word-requires
     side-refuses-requires
     returns
     add-i
