@@ -9,6 +9,7 @@ pub mod Growth
 pub mod Moving
 pub mod Insert
 pub mod Calls
+pub mod Lent
 pub mod Examples
 pub mod Opens
 pub mod laws

@@ -42,7 +42,3 @@ nodeRefusal c n wrong short =
 -- the answer k, if it is a refusal, with nothing changed; or else the reply r
 unfoldable pub unless : ℕ → State → Reply → Reply
 unless k c r = if eqb k 0 then r else says (Refused k) c
-
--- a call on lent memory: `fits` says that block and scratch have their exact lengths and the sizes are in range, `good` that the block is sound
-unfoldable pub guarded : Bool → Bool → State → Reply → Reply
-guarded fits good c r = if not fits then says (Refused 1) c else if not good then says (Refused 2) c else r

@@ -143,6 +143,14 @@ blockSound b = leb (countOf b) (nOf b) && packed b && risingTo (row (rowsOf b) 4
 unfoldable pub memoryFits : List ℤ → List ℤ → Bool
 memoryFits b t = sized b && eqb (length t) (scratchLength (eOf b))
 
+-- 0, or the refusal of the block b, where `fits` says that the lengths are right
+unfoldable pub blockRefusal : Bool → List ℤ → ℕ
+blockRefusal fits b = if fits then (if blockSound b then 0 else 2) else 1
+
 -- 0, or the refusal
 unfoldable pub memoryRefusal : List ℤ → List ℤ → ℕ
-memoryRefusal b t = if memoryFits b t then (if blockSound b then 0 else 2) else 1
+memoryRefusal b t = blockRefusal (memoryFits b t) b
+
+-- the same where a list of m words is lent too, which must be k for each edge
+unfoldable pub listRefusal : List ℤ → List ℤ → ℕ → ℕ → ℕ
+listRefusal b t m k = blockRefusal (memoryFits b t && eqb m (k * eOf b)) b

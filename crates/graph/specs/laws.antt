@@ -10,6 +10,7 @@ pub mod Insert
 pub mod Join
 pub mod List
 pub mod Members
+pub mod Memory
 pub mod Move
 pub mod Number
 pub mod Open

@@ -40,7 +40,7 @@ pub fn amount(b: &[i64], n: usize) -> usize
 // Node n as a value.
 pub fn node(b: &[i64], n: usize) -> DualNode
     requires { ⌜ Formed (now b) × (n < nodeCount (stateOf (now b))) ⌝ }
-    ensures { λ r. ⌜ r ≡ nodeAt (stateOf (now (b .entry))) n ⌝ }
+    ensures { λ r. ⌜ (r ≡ nodeAt (stateOf (now (b .entry))) n) × (r .top < 9007199254740992) ⌝ }
 {
     DualNode {
         class: node::class(b, n),

@@ -5,7 +5,7 @@ ghost use Prim.Native.Nat.{_+_, _≤_};
 ghost use Rattle.graph.specs.State.{vertexCount};
 ghost use Rattle.graph.specs.Layout.{stateOf};
 ghost use Rattle.pass.specs.Prepare.{onePass, prepareNode};
-ghost use Rattle.pass.specs.Ready.{Ready, Growable, Preparable, AfterPass, AfterPreparation};
+ghost use Rattle.pass.specs.Ready.{Ready, Preparable, AfterPass, AfterPreparation};
 use crate::grow;
 use crate::shrink;
 
@@ -21,10 +21,10 @@ pub fn prepare_dual_node_growth_single(b: &mut [i64], t: &mut [i64], n: usize, d
     }
 }
 
-// Node n is prepared in direction d: the number of passes, at most V + 1.
+// Node n is prepared in direction d: the number of passes, at most V + 1. It can be prepared so again.
 pub fn prepare_dual_node_growth(b: &mut [i64], t: &mut [i64], n: usize, d: usize) -> usize
-    requires { ⌜ Ready (now b) (now t) n × Growable (stateOf (now b)) n ⌝ }
-    ensures { λ r. ⌜ AfterPreparation (now (b .entry)) (now (b .exit)) (now (t .entry)) (now (t .exit)) (prepareNode (stateOf (now (b .entry))) n d) r × (r ≤ vertexCount (stateOf (now (b .entry))) + 1) ⌝ }
+    requires { ⌜ Ready (now b) (now t) n × Preparable (stateOf (now b)) n d ⌝ }
+    ensures { λ r. ⌜ AfterPreparation (now (b .entry)) (now (b .exit)) (now (t .entry)) (now (t .exit)) (prepareNode (stateOf (now (b .entry))) n d) r × (r ≤ vertexCount (stateOf (now (b .entry))) + 1) × Preparable (stateOf (now (b .exit))) n d ⌝ }
 {
     let mut passes = 0;
     let mut more = true;

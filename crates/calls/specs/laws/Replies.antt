@@ -15,7 +15,8 @@ use Rattle.graph.specs.Layout.{stateOf}
 use Rattle.graph.specs.Form.{Formed, Becomes, sidesOk}
 use Rattle.graph.specs.laws.Row.{becomes-none}
 use Rattle.pass.specs.Prepare.{prepareNode}
-use Rattle.pass.specs.Ready.{Ready, Growable, AfterPreparation}
+use Rattle.pass.specs.Ready.{Ready, Growable, Preparable, AfterPreparation}
+use Rattle.pass.specs.laws.Preparing.{sound-preparable}
 use Rattle.graph.specs.laws.Form.{laid-shape}
 use Rattle.calls.specs.declared.Answer.{Answer}
 use Rattle.calls.specs.declared.Answer.the-variants.{Done, Refused}
@@ -73,6 +74,9 @@ module _ {b t : List ℤ} (u : Usable b t) (n : ℕ) (wrong : Bool) (a : NodeAcc
 
   pub accepted-growable : Growable (stateOf b) n
   accepted-growable = record { sounds = u .sounds; outer = a .outer }
+
+  pub accepted-able : (d : ℕ) → Preparable (stateOf b) n d
+  accepted-able d = sound-preparable b (u .formed) n d (a .inside) accepted-growable
 
   -- what is prepared can be scanned
   module _ {b' t' : List ℤ} (d : ℕ) {k : ℕ} (p : AfterPreparation b b' t t' (prepareNode (stateOf b) n d) k) where

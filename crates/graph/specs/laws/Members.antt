@@ -8,7 +8,8 @@ use mathlib.Core.Logic.{_≢_}
 use mathlib.Core.Bool.{Bool, true, false, _&&_, _||_, not}
 use mathlib.Core.List.{List, [], _∷_, _++_, map, append-nil}
 use lib.Dec.{eqb, leb, ltb}
-use lib.ListN.{length, getD, length-append}
+use lib.ListN.{length, getD, drop, length-append, drop-of-length-le}
+use lib.Seq.{drop-cons}
 use borrow.Author.Tests.{eqb-true, eqb-false, eq-eqb, ne-eqb, ltb-true, ltb-false, lt-ltb, le-ltb, leb-true, not-true, not-false}
 use Rattle.graph.specs.Basic.{if_then_else_, all, any, only, member, below, distinct, allBelow}
 use Rattle.graph.specs.laws.State.{if-cases, and-left, and-right}
@@ -310,3 +311,21 @@ distinct-length (suc m) l h k =
     lt-ltb x m (omega arith)) in
     let ih : length (only (other m) l) ≤ m = distinct-length m (only (other m) l) (distinct-only (other m) l h) smaller in
     omega (arith, length-without m l h)
+
+-- ---- whether some entry passes a test, looked for from the first on
+
+-- f holds of no entry before entry i of l
+module _ (f : ℕ → Bool) (l : List ℕ) (i : ℕ) (e : any f (drop i l) ≡ any f l) where
+  rest : i < length l → any f (drop i l) ≡ (f (getD l i 0) || any f (drop (i + 1) l))
+  unfolding any
+  rest h = rw (add-one, drop-cons l i 0)
+
+  pub any-here : i < length l → f (getD l i 0) ≡ true → true ≡ any f l
+  any-here h p = sym (rest h ∙ rw p) ∙ e
+
+  pub any-on : i < length l → f (getD l i 0) ≡ false → any f (drop (i + 1) l) ≡ any f l
+  any-on h p = sym (rest h ∙ rw p) ∙ e
+
+  pub any-end : length l ≤ i → false ≡ any f l
+  unfolding any
+  any-end h = rw (drop-of-length-le l h) at e

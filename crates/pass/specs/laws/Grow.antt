@@ -7,8 +7,8 @@ use mathlib.Core.Bool.{Bool, true, false, _||_}
 use mathlib.Core.List.{List, [], _∷_, _++_, append-nil, append-assoc}
 use lib.IntN.{ℤ, pos}
 use lib.Dec.{ltb}
-use lib.ListN.{length, set, getD, drop, length-append, drop-of-length-le}
-use lib.Seq.{drop-cons, set-getD}
+use lib.ListN.{length, set, getD, drop, length-append}
+use lib.Seq.{set-getD}
 use Rattle.graph.specs.Basic.{fold, any, all}
 use Rattle.graph.specs.State.{State, Overgrown, opposite, sideCount, nodeCount, grandsonAt, boundaryOf, overgrownOf, heldSide, withNodes, withBoundary, withOvergrown}
 use Rattle.graph.specs.Sound.{entries, entriesOf}
@@ -32,24 +32,6 @@ use Rattle.pass.specs.Growing.{workIn, Working, Worked, OwnKept}
 use Rattle.pass.specs.laws.Growing.{kept-overgrown, kept-length, noted-length, pushed-length, over-length, worked-then, work-keep, work-note, work-block, Keeping, Looped}
 use Rattle.pass.specs.laws.Take.{own-worked}
 use Rattle.pass.specs.declared.take.GrowProgress.{GrowProgress}
-
--- ---- a boundary that reaches something, or not
-
--- f holds of no entry before entry i of l
-module _ (f : ℕ → Bool) (l : List ℕ) (i : ℕ) (e : any f (drop i l) ≡ any f l) where
-  rest : i < length l → any f (drop i l) ≡ (f (getD l i 0) || any f (drop (i + 1) l))
-  unfolding any
-  rest h = rw (add-one, drop-cons l i 0)
-
-  pub any-here : i < length l → f (getD l i 0) ≡ true → true ≡ any f l
-  any-here h p = sym (rest h ∙ rw p) ∙ e
-
-  pub any-on : i < length l → f (getD l i 0) ≡ false → any f (drop (i + 1) l) ≡ any f l
-  any-on h p = sym (rest h ∙ rw p) ∙ e
-
-  pub any-end : length l ≤ i → false ≡ any f l
-  unfolding any
-  any-end h = rw (drop-of-length-le l h) at e
 
 -- ---- the scan
 

@@ -71,7 +71,7 @@ remaining false d c = 0
 absurd-bool : {X : Type 0} → _≡_ {A = Bool} true false → X
 absurd-bool e = absurd (subst T e tt)
 
-pub preparing-none : (b t : List ℤ) (n d : ℕ) → Ready b t n → Growable (stateOf b) n → Preparing b b t t n d 0 true
+pub preparing-none : (b t : List ℤ) (n d : ℕ) → Ready b t n → Preparable (stateOf b) n d → Preparing b b t t n d 0 true
 unfolding prepareNode
 preparing-none b t n d q g =
     let l : length (stateOf b .vertices .vertexHolder) ≡ vertexCount (stateOf b) = laid-shape b (q .formed .laid) .vertexHolder in
@@ -79,7 +79,7 @@ preparing-none b t n d q g =
       block = becomes-none b (stateOf b) (q .formed) refl;
       scratch = refl;
       ready = q;
-      able = sound-preparable b (q .formed) n d (q .node) g;
+      able = g;
       goes = λ e. prepare-fuel (suc (left d (stateOf b))) (suc (vertexCount (stateOf b))) (stateOf b) n d 0 (formed-ends b (q .formed)) (omega arith) (omega (arith, left-le d (stateOf b), l));
       ends = λ e. absurd-bool e;
       room = λ e. omega (arith, left-le d (stateOf b), l);

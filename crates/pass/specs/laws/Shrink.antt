@@ -27,21 +27,6 @@ use Rattle.pass.specs.laws.Mark.{marks-none}
 use Rattle.pass.specs.laws.Shrinking.{busy-of, does-same}
 use Rattle.pass.specs.declared.keep.Progress.{Progress}
 
--- ---- whether some entry passes a test, looked for from the first on
-
-module _ (p : ℕ → Bool) (l : List ℕ) (i : ℕ) where
-  pub any-found : i < length l → p (getD l i 0) ≡ true → any p (drop i l) ≡ true
-  unfolding any
-  any-found h e = rw (drop-cons l i 0 h, e)
-
-  pub any-more : i < length l → p (getD l i 0) ≡ false → any p (drop i l) ≡ any p (drop (i + 1) l)
-  unfolding any
-  any-more h e = rw (add-one, drop-cons l i 0 h, e)
-
-  pub any-end : length l ≤ i → any p (drop i l) ≡ false
-  unfolding any
-  any-end h = rw (drop-of-length-le l h)
-
 -- ---- over the boundary
 
 pub boundary-fits : (c : State) (n : ℕ) → Shrinkable c n → length (boundaryOf c n) ≤ sideCount c

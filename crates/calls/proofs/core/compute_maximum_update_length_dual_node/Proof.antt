@@ -1,5 +1,5 @@
 use mathlib.Core.Path.{refl}
-use Rattle.calls.specs.laws.Replies.{length-refused, length-accepted, length-first, length-plain, length-prepared, accepted-ready, accepted-growable, prepared-read, prepared-node, prepared-sides, usable-readable, usable-sides}
+use Rattle.calls.specs.laws.Replies.{length-refused, length-accepted, length-first, length-plain, length-prepared, accepted-ready, accepted-able, prepared-read, prepared-node, prepared-sides, usable-readable, usable-sides}
 use borrow.Author.Needs.{needs}
 use Rattle.calls.proofs.core.compute_maximum_update_length_dual_node.Statement.{statement}
 use Rattle.calls.proofs.core.compute_maximum_update_length_dual_node.Tie as tie
@@ -14,7 +14,7 @@ returns : tie.Need-returns
 returns c = let s = c .before .before .before in (length-refused (s .pre) (s .args .n) (s .args .d) _ (s .args .first) (c .before .node-refusal .ensures) (c .if1 .taken), refl)
 
 prepare-dual-node-growth-requires : tie.Need-prepare-dual-node-growth-requires
-prepare-dual-node-growth-requires c κs = let s = c .before .before .before .before .before .before in let a = length-first (s .pre) (s .args .n) (s .args .d) _ (s .args .first) (c .before .before .before .before .node-refusal .ensures) (c .before .before .if2 .taken) (c .before .before .before .if1 .left) in (accepted-ready (s .pre) (s .args .n) _ a, accepted-growable (s .pre) (s .args .n) _ a)
+prepare-dual-node-growth-requires c κs = let s = c .before .before .before .before .before .before in let a = length-first (s .pre) (s .args .n) (s .args .d) _ (s .args .first) (c .before .before .before .before .node-refusal .ensures) (c .before .before .if2 .taken) (c .before .before .before .if1 .left) in (accepted-ready (s .pre) (s .args .n) _ a, accepted-able (s .pre) (s .args .n) _ a (s .args .d))
 
 scan-requires : tie.Need-scan-requires
 scan-requires c κs = let e = c .before .before .before .before .before .before in let s = e .before .before .before .before in let a = length-first (s .pre) (s .args .n) (s .args .d) _ (s .args .first) (e .before .before .node-refusal .ensures) (e .if2 .taken) (e .before .if1 .left) in let p = c .before .before .before .prepare-dual-node-growth .ensures .0 in (p .block .formed, prepared-read (s .pre) (s .args .n) _ a (s .args .d) p, prepared-node (s .pre) (s .args .n) _ a (s .args .d) p, prepared-sides (s .pre) (s .args .n) _ a (s .args .d) p)

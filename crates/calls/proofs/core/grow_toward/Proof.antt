@@ -1,5 +1,5 @@
 use mathlib.Core.Path.{refl}
-use Rattle.calls.specs.laws.Replies.{accepted-ready, accepted-growable, prepared-grows, toward-refused, toward-accepted, toward-done}
+use Rattle.calls.specs.laws.Replies.{accepted-ready, accepted-able, prepared-grows, toward-refused, toward-accepted, toward-done}
 use borrow.Author.Needs.{needs}
 use Rattle.calls.proofs.core.grow_toward.Statement.{statement}
 use Rattle.calls.proofs.core.grow_toward.Tie as tie
@@ -14,7 +14,7 @@ returns : tie.Need-returns
 returns c = let s = c .before .before .before in (toward-refused (s .pre .0) (s .args .n) (s .args .d) (s .args .l) _ (c .before .node-refusal .ensures) (c .if1 .taken), refl)
 
 prepare-dual-node-growth-requires : tie.Need-prepare-dual-node-growth-requires
-prepare-dual-node-growth-requires c κs = let s = c .before .before .before .before .before in let a = toward-accepted (s .pre .0) (s .args .n) (s .args .d) (s .args .l) _ (c .before .before .before .node-refusal .ensures) (c .before .before .if1 .left) in (accepted-ready (s .pre .0) (s .args .n) _ a, accepted-growable (s .pre .0) (s .args .n) _ a)
+prepare-dual-node-growth-requires c κs = let s = c .before .before .before .before .before in let a = toward-accepted (s .pre .0) (s .args .n) (s .args .d) (s .args .l) _ (c .before .before .before .node-refusal .ensures) (c .before .before .if1 .left) in (accepted-ready (s .pre .0) (s .args .n) _ a, accepted-able (s .pre .0) (s .args .n) _ a (s .args .d))
 
 grow-prepared-requires : tie.Need-grow-prepared-requires
 grow-prepared-requires c κs = let s = c .before .before .before .before .before .before .before .before .before in let a = toward-accepted (s .pre .0) (s .args .n) (s .args .d) (s .args .l) _ (c .before .before .before .before .before .before .before .node-refusal .ensures) (c .before .before .before .before .before .before .if1 .left) in let p = c .before .before .before .prepare-dual-node-growth .ensures .0 in (p .block .formed, prepared-grows (s .pre .0) (s .args .n) _ a (s .args .d) p, s .pre .1)

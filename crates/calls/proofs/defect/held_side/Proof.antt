@@ -8,7 +8,7 @@ use lib.ListN.{drop}
 use Rattle.graph.specs.Basic.{any}
 use Rattle.graph.specs.State.{holderAt, sidesAt}
 use Rattle.graph.specs.Layout.{stateOf}
-use Rattle.pass.specs.laws.Grow.{any-here, any-on, any-end}
+use Rattle.graph.specs.laws.Members.{any-here, any-on, any-end}
 use Rattle.calls.specs.laws.Defect.{some-node, no-node}
 use Rattle.calls.proofs.defect.held_side.Statement.{statement}
 use Rattle.calls.proofs.defect.held_side.Tie as tie

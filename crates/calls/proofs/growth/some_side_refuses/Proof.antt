@@ -8,7 +8,7 @@ use Rattle.graph.specs.Basic.{any}
 use Rattle.graph.specs.State.{sideCount}
 use Rattle.graph.specs.Word.{toNat}
 use Rattle.graph.specs.Layout.{stateOf}
-use Rattle.pass.specs.laws.Grow.{any-here, any-on, any-end}
+use Rattle.graph.specs.laws.Members.{any-here, any-on, any-end}
 use Rattle.calls.specs.Moving.{sideRefuses}
 use Rattle.calls.specs.laws.Scanning.{word-entry, word-below}
 use Rattle.calls.proofs.growth.some_side_refuses.Statement.{statement}

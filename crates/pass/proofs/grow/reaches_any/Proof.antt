@@ -6,7 +6,7 @@ use Rattle.graph.specs.Basic.{any}
 use Rattle.graph.specs.State.{boundaryOf}
 use Rattle.graph.specs.Layout.{stateOf}
 use Rattle.pass.specs.Grow.{reaches}
-use Rattle.pass.specs.laws.Grow.{any-here, any-on, any-end}
+use Rattle.graph.specs.laws.Members.{any-here, any-on, any-end}
 use borrow.Author.Needs.{needs}
 use Rattle.pass.proofs.grow.reaches_any.Statement.{statement}
 use Rattle.pass.proofs.grow.reaches_any.Tie as tie

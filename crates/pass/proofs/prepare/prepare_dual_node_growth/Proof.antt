@@ -35,7 +35,7 @@ same-length-2 : tie.Need-same-length-2 Inv-loop μ-loop
 same-length-2 c = search needs
 
 returns : tie.Need-returns Inv-loop μ-loop
-returns c = let p = c .before .loop .inv in (preparing-all (rw (c .loop-test .left) at p), p .most)
+returns c = let p = c .before .loop .inv in (preparing-all (rw (c .loop-test .left) at p), p .most, p .able)
 
 pub prepare-dual-node-growth-spec : {M : Type 1} → statement M
 prepare-dual-node-growth-spec =

@@ -1,13 +1,13 @@
 use borrow.Author.Needs.{needs}
 use native.Mathlib.Omega.{arith}
 use Prim.Native.Nat.{_-_, _≤_}
-use mathlib.Core.Path.{_≡_, refl, sym, ap, _∙_}
+use mathlib.Core.Path.{_≡_, refl, sym, _∙_}
 use lib.ListN.{drop}
 use Rattle.graph.specs.Basic.{any}
 use Rattle.graph.specs.State.{boundaryOf}
 use Rattle.graph.specs.Layout.{stateOf}
 use Rattle.pass.specs.Shrinking.{emptied}
-use Rattle.pass.specs.laws.Shrink.{any-found, any-more, any-end}
+use Rattle.graph.specs.laws.Members.{any-here, any-on, any-end}
 use Rattle.pass.proofs.shrink.any_emptied.Statement.{statement}
 use Rattle.pass.proofs.shrink.any_emptied.Tie as tie
 
@@ -30,7 +30,9 @@ emptied-requires : tie.Need-emptied-requires Inv-loop μ-loop
 emptied-requires c κs = search needs
 
 returns : tie.Need-returns Inv-loop μ-loop
-returns c = sym (any-found (emptied (stateOf (c .before .before .before .before .before .before .args .b .now))) (boundaryOf (stateOf (c .before .before .before .before .before .before .args .b .now)) (c .before .before .before .before .before .before .args .n)) (c .before .before .before .before .loop .i) (omega arith) (ap (emptied (stateOf (c .before .before .before .before .before .before .args .b .now))) (sym (c .before .before .boundary-side .ensures .0)) ∙ sym (c .before .emptied .ensures) ∙ c .if1 .taken)) ∙ c .before .before .before .before .loop .inv .1
+returns c = let d = c .before .before .before .before .loop in
+    let a = c .before .before .before .before .before .before .args in
+    any-here (emptied (stateOf (a .b .now))) (boundaryOf (stateOf (a .b .now)) (a .n)) (d .i) (d .inv .1) (omega arith) (rw (c .before .before .boundary-side .ensures .0) at (sym (c .before .emptied .ensures) ∙ c .if1 .taken))
 
 add-i : tie.Need-add-i Inv-loop μ-loop
 add-i c = search needs
@@ -39,10 +41,14 @@ loop-less : tie.Need-loop-less Inv-loop μ-loop
 loop-less c = search needs
 
 loop-again : tie.Need-loop-again Inv-loop μ-loop
-loop-again c = (omega arith, sym (any-more (emptied (stateOf (c .before .before .before .before .before .before .args .b .now))) (boundaryOf (stateOf (c .before .before .before .before .before .before .args .b .now)) (c .before .before .before .before .before .before .args .n)) (c .before .before .before .before .loop .i) (omega arith) (ap (emptied (stateOf (c .before .before .before .before .before .before .args .b .now))) (sym (c .before .before .boundary-side .ensures .0)) ∙ sym (c .before .emptied .ensures) ∙ c .if1 .left)) ∙ c .before .before .before .before .loop .inv .1)
+loop-again c = let d = c .before .before .before .before .loop in
+    let a = c .before .before .before .before .before .before .args in
+    (omega arith, any-on (emptied (stateOf (a .b .now))) (boundaryOf (stateOf (a .b .now)) (a .n)) (d .i) (d .inv .1) (omega arith) (rw (c .before .before .boundary-side .ensures .0) at (sym (c .before .emptied .ensures) ∙ c .if1 .left)))
 
 returns-2 : tie.Need-returns-2 Inv-loop μ-loop
-returns-2 c = sym (any-end (emptied (stateOf (c .before .before .before .args .b .now))) (boundaryOf (stateOf (c .before .before .before .args .b .now)) (c .before .before .before .args .n)) (c .before .loop .i) (omega arith)) ∙ c .before .loop .inv .1
+returns-2 c = let d = c .before .loop in
+    let a = c .before .before .before .args in
+    any-end (emptied (stateOf (a .b .now))) (boundaryOf (stateOf (a .b .now)) (a .n)) (d .i) (d .inv .1) (omega arith)
 
 pub any-emptied-spec : {M : Type 1} → statement M
 any-emptied-spec =
