@@ -10,13 +10,13 @@ same-length : tie.Need-same-length
 same-length c = search needs
 
 returns : tie.Need-returns
-returns c = let s = c .before .before .before in none-refused (s .args .b .now) (s .args .n) _ (s .args .length) (s .pre .1) (c .before .node-refusal .ensures) (s .pre .0) (c .if1 .taken)
+returns c = let s = c .before .before .before in none-refused (s .args .b .now) (s .args .n) (s .args .d) _ (s .args .length) (s .pre .1) (c .before .node-refusal .ensures) (s .pre .0) (c .if1 .taken)
 
 same-length-2 : tie.Need-same-length-2
 same-length-2 c = search needs
 
 returns-2 : tie.Need-returns-2
-returns-2 c = let s = c .before .before .before in none-done (s .args .b .now) (s .args .n) _ (s .args .length) (s .pre .1) (c .before .node-refusal .ensures) (s .pre .0) (c .if1 .left)
+returns-2 c = let s = c .before .before .before in none-done (s .args .b .now) (s .args .n) (s .args .d) _ (s .args .length) (s .pre .1) (c .before .node-refusal .ensures) (s .pre .0) (c .if1 .left)
 
 pub grow-none-spec : {M : Type 1} → statement M
 grow-none-spec =
