@@ -112,7 +112,7 @@ VertexRead b t n a = a ≡ lentReply b t (representativeVertex (stateOf b) n) .a
 -- From the lent list to list': done and filled, or refused with the number k and left.
 pub record ListRead (b list list' filled : List ℤ) (k : ℕ) (a : Answer) : Type 0 where
   pub answer : a ≡ unless k (stateOf b) (says Done (stateOf b)) .answer
-  pub list : list' ≡ (if eqb k 0 then filled else list)
+  pub listed : list' ≡ (if eqb k 0 then filled else list)
 
 -- the growth of every side, in a list of two words for each edge
 abbrev pub TableRead : List ℤ → List ℤ → List ℤ → List ℤ → Answer → Type 0
