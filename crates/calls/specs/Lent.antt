@@ -1,20 +1,24 @@
 -- A call on memory that a host lends: what it answers, and what block and scratch hold afterwards.
 use Prim.Native.Nat.{ℕ}
 use mathlib.Core.Path.{_≡_}
-use mathlib.Core.Bool.{Bool, false, _&&_, not}
-use mathlib.Core.List.{List, [], _∷_}
-use lib.IntN.{ℤ, natAbs}
+use mathlib.Core.Bool.{Bool, true, false, _&&_, not}
+use mathlib.Core.List.{List, [], _∷_, map}
+use lib.IntN.{ℤ, pos, natAbs}
 use lib.Dec.{ltb, eqb}
 use lib.ListN.{length}
 use Rattle.graph.specs.Basic.{if_then_else_}
 use Rattle.graph.specs.State.{State, stay, shrinking, up, growStateOf}
-use Rattle.graph.specs.Layout.{stateOf, memoryRefusal}
+use Rattle.graph.specs.Word.{toNat}
+use Rattle.graph.specs.Layout.{stateOf, memoryRefusal, listRefusal}
 use Rattle.graph.specs.Form.{Formed}
 use Rattle.pass.specs.Scratch.{zeroScratch}
 use Rattle.calls.specs.declared.Answer.{Answer}
-use Rattle.calls.specs.Answer.{Reply}
+use Rattle.calls.specs.declared.Answer.the-variants.{Done}
+use Rattle.calls.specs.Answer.{Reply, says}
 use Rattle.calls.specs.Refuse.{nodeRefusal, storeShort, unless}
-use Rattle.calls.specs.Insert.{defectRefusal, blossomRefusal}
+use Rattle.calls.specs.Reply.{placed}
+use Rattle.calls.specs.Insert.{defectRefusal, blossomRefusal, insertDefect, insertBlossom}
+use Rattle.calls.specs.Calls.{setGrowState, prepareDualNodeGrowth, maxUpdateLength, growDualNode, advance, growthTable, contacts, representativeVertex, clear}
 
 -- the reply r of a call on the block b, unless block and scratch are refused
 unfoldable pub lentReply : List ℤ → List ℤ → Reply → Reply
@@ -69,3 +73,51 @@ growWrites c n l = not (eqb (natAbs l) 0) && preparable c n
 -- advance of a node that is not Stay
 unfoldable pub advanceWrites : State → ℕ → Bool
 advanceWrites c n = not (eqb (growStateOf c n) stay) && preparable c n
+
+-- ---- what each public function promises
+-- b and t are block and scratch before, b' and t' after, a the answer; numbers and lists beside them stand between
+
+abbrev pub DefectCalled : List ℤ → List ℤ → ℕ → ℕ → List ℤ → List ℤ → Answer → Type 0
+DefectCalled b t v x b' t' a = CalledWithScratch b t b' t' a (defectWrites (stateOf b) v x) (insertDefect (stateOf b) v x)
+
+-- a word of the circle that is below 0 names no node
+abbrev pub BlossomCalled : List ℤ → List ℤ → ℕ → List ℤ → List ℤ → List ℤ → Answer → Type 0
+BlossomCalled b t x circle b' t' a = CalledWithScratch b t b' t' a (blossomWrites (stateOf b) x (map toNat circle)) (insertBlossom (stateOf b) x (map toNat circle))
+
+-- the scratch is only read
+abbrev pub StateCalled : List ℤ → List ℤ → ℕ → ℕ → List ℤ → Answer → Type 0
+StateCalled b t n x b' a = Called b t b' a (stateWrites (stateOf b) n x) (setGrowState (stateOf b) n x)
+
+abbrev pub PrepareCalled : List ℤ → List ℤ → ℕ → ℕ → List ℤ → List ℤ → Answer → Type 0
+PrepareCalled b t n d b' t' a = CalledWithScratch b t b' t' a (prepareWrites (stateOf b) n d) (prepareDualNodeGrowth (stateOf b) n d)
+
+abbrev pub LengthCalled : List ℤ → List ℤ → ℕ → ℕ → Bool → List ℤ → List ℤ → Answer → Type 0
+LengthCalled b t n d first b' t' a = CalledWithScratch b t b' t' a (lengthWrites (stateOf b) n d first) (maxUpdateLength (stateOf b) n d first)
+
+abbrev pub GrowCalled : List ℤ → List ℤ → ℕ → ℤ → List ℤ → List ℤ → Answer → Type 0
+GrowCalled b t n l b' t' a = CalledWithScratch b t b' t' a (growWrites (stateOf b) n l) (growDualNode (stateOf b) n l)
+
+abbrev pub AdvanceCalled : List ℤ → List ℤ → ℕ → List ℤ → List ℤ → Answer → Type 0
+AdvanceCalled b t n b' t' a = CalledWithScratch b t b' t' a (advanceWrites (stateOf b) n) (advance (stateOf b) n)
+
+-- the scratch is only read
+abbrev pub ClearCalled : List ℤ → List ℤ → List ℤ → Answer → Type 0
+ClearCalled b t b' a = Called b t b' a true (clear (stateOf b))
+
+-- ---- the three that only read block and scratch
+
+abbrev pub VertexRead : List ℤ → List ℤ → ℕ → Answer → Type 0
+VertexRead b t n a = a ≡ lentReply b t (representativeVertex (stateOf b) n) .answer
+
+-- From the lent list to list': done and filled, or refused with the number k and left.
+pub record ListRead (b list list' filled : List ℤ) (k : ℕ) (a : Answer) : Type 0 where
+  pub answer : a ≡ unless k (stateOf b) (says Done (stateOf b)) .answer
+  pub listed : list' ≡ (if eqb k 0 then filled else list)
+
+-- the growth of every side, in a list of two words for each edge
+abbrev pub TableRead : List ℤ → List ℤ → List ℤ → List ℤ → Answer → Type 0
+TableRead b t list list' a = ListRead b list list' (map pos (growthTable (stateOf b))) (listRefusal b t (length list) 2) a
+
+-- the full edges, at the front of a list of one word for each edge; the rest of it is left
+abbrev pub ContactsRead : List ℤ → List ℤ → List ℤ → List ℤ → Answer → Type 0
+ContactsRead b t list list' a = ListRead b list list' (placed (contacts (stateOf b)) list) (listRefusal b t (length list) 1) a

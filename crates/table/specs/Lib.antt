@@ -4,6 +4,7 @@ pub mod Answers
 pub mod History
 pub mod Runs
 pub mod Theorems
+pub mod Steps
 pub mod Opens
 pub mod Examples
 pub mod Hypotheses

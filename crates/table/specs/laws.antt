@@ -7,3 +7,4 @@ pub mod Opening
 pub mod History
 pub mod Duals
 pub mod Runs
+pub mod Whole
