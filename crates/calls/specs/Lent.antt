@@ -43,10 +43,6 @@ pub record CalledWithScratch (b t b' t' : List ℤ) (a : Answer) (writes : Bool)
 
 -- ---- which calls write
 
--- node n can be prepared
-unfoldable pub preparable : State → ℕ → Bool
-preparable c n = eqb (nodeRefusal c n false (storeShort c (n ∷ []) 1)) 0
-
 -- an accepted insertion writes
 unfoldable pub defectWrites : State → ℕ → ℕ → Bool
 defectWrites c v x = eqb (defectRefusal c v x) 0
@@ -58,9 +54,9 @@ blossomWrites c x circle = eqb (blossomRefusal c x circle) 0
 unfoldable pub stateWrites : State → ℕ → ℕ → Bool
 stateWrites c n x = eqb (nodeRefusal c n (ltb shrinking x) false) 0
 
--- preparation, where the direction is one
+-- preparation
 unfoldable pub prepareWrites : State → ℕ → ℕ → Bool
-prepareWrites c n d = not (ltb up d) && preparable c n
+prepareWrites c n d = eqb (nodeRefusal c n (ltb up d) (storeShort c (n ∷ []) 1)) 0
 
 -- a length that prepares first
 unfoldable pub lengthWrites : State → ℕ → ℕ → Bool → Bool
@@ -68,11 +64,11 @@ lengthWrites c n d first = first && prepareWrites c n d
 
 -- growth by another length than 0
 unfoldable pub growWrites : State → ℕ → ℤ → Bool
-growWrites c n l = not (eqb (natAbs l) 0) && preparable c n
+growWrites c n l = not (eqb (natAbs l) 0) && prepareWrites c n up
 
 -- advance of a node that is not Stay
 unfoldable pub advanceWrites : State → ℕ → Bool
-advanceWrites c n = not (eqb (growStateOf c n) stay) && preparable c n
+advanceWrites c n = not (eqb (growStateOf c n) stay) && prepareWrites c n up
 
 -- ---- what each public function promises
 -- b and t are block and scratch before, b' and t' after, a the answer; numbers and lists beside them stand between
@@ -121,3 +117,7 @@ TableRead b t list list' a = ListRead b list list' (map pos (growthTable (stateO
 -- the full edges, at the front of a list of one word for each edge; the rest of it is left
 abbrev pub ContactsRead : List ℤ → List ℤ → List ℤ → List ℤ → Answer → Type 0
 ContactsRead b t list list' a = ListRead b list list' (placed (contacts (stateOf b)) list) (listRefusal b t (length list) 1) a
+
+-- how many they are
+abbrev pub ContactsCounted : List ℤ → List ℤ → List ℤ → ℕ → Type 0
+ContactsCounted b t list k = k ≡ (if eqb (listRefusal b t (length list) 1) 0 then length (contacts (stateOf b)) else 0)

@@ -4,6 +4,7 @@ pub mod Advance
 pub mod Defect
 pub mod Growth
 pub mod Length
+pub mod Lent
 pub mod Moving
 pub mod Read
 pub mod Readable

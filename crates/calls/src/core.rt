@@ -1,10 +1,11 @@
 // The calls on a sound block with a scratch that is all zero.
 
 ghost use mathlib.Core.Path.{_≡_};
-ghost use mathlib.Core.Bool.{false};
+ghost use mathlib.Core.Bool.{true, false};
 ghost use Prim.Native.Nat.{_≤_};
 ghost use lib.IntN.{natAbs};
 ghost use lib.Signed.{nonNeg};
+ghost use Rattle.graph.specs.Sound.{sound};
 ghost use Rattle.graph.specs.Layout.{stateOf};
 ghost use Rattle.graph.specs.Form.{Formed};
 ghost use Rattle.graph.specs.Opening.{Cleared};
@@ -46,7 +47,32 @@ pub fn prepare_dual_node_growth(b: &mut [i64], t: &mut [i64], n: usize, d: usize
     Answer::Prepared(p)
 }
 
-// How far node n may grow in direction d; `first` says whether it is prepared first. It can be prepared so again.
+// How far node n may grow in direction d, as it is.
+pub fn length_unprepared(b: &[i64], n: usize, d: usize) -> Answer
+    requires { ⌜ Formed (now b) × (sound (stateOf (now b)) ≡ true) ⌝ }
+    ensures { λ r. ⌜ Replies (now (b .entry)) (now (b .entry)) r (maxUpdateLength (stateOf (now (b .entry))) n d false) ⌝ }
+{
+    let k = refuse::node_refusal(b, n, 1 < d, false);
+    if k != 0 {
+        return Answer::Refused(k);
+    }
+    scan::scan(b, n, d)
+}
+
+// How far node n may grow in direction d, prepared first. It can be prepared so again.
+pub fn length_prepared(b: &mut [i64], t: &mut [i64], n: usize, d: usize) -> Answer
+    requires { ⌜ Usable (now b) (now t) ⌝ }
+    ensures { λ r. ⌜ Replies (now (b .entry)) (now (b .exit)) r (maxUpdateLength (stateOf (now (b .entry))) n d true) × (now (t .exit) ≡ now (t .entry)) × Steady (now (b .exit)) (now (t .exit)) n d ⌝ }
+{
+    let k = refuse::node_refusal(b, n, 1 < d, true);
+    if k != 0 {
+        return Answer::Refused(k);
+    }
+    prepare::prepare_dual_node_growth(b, t, n, d);
+    scan::scan(b, n, d)
+}
+
+// How far node n may grow in direction d; `first` says whether it is prepared first.
 pub fn compute_maximum_update_length_dual_node(
     b: &mut [i64],
     t: &mut [i64],
@@ -55,17 +81,12 @@ pub fn compute_maximum_update_length_dual_node(
     first: bool,
 ) -> Answer
     requires { ⌜ Usable (now b) (now t) ⌝ }
-    ensures { λ r. ⌜ Replies (now (b .entry)) (now (b .exit)) r (maxUpdateLength (stateOf (now (b .entry))) n d first) × (now (t .exit) ≡ now (t .entry)) × Steady (now (b .exit)) (now (t .exit)) n d ⌝ }
+    ensures { λ r. ⌜ Replies (now (b .entry)) (now (b .exit)) r (maxUpdateLength (stateOf (now (b .entry))) n d first) × (now (t .exit) ≡ now (t .entry)) ⌝ }
 {
-    let k = refuse::node_refusal(b, n, 1 < d, first);
-    if k != 0 {
-        return Answer::Refused(k);
-    }
     if first {
-        prepare::prepare_dual_node_growth(b, t, n, d);
-        return scan::scan(b, n, d);
+        return length_prepared(b, t, n, d);
     }
-    scan::scan(b, n, d)
+    length_unprepared(b, n, d)
 }
 
 // A prepared node n grows by l in direction d, or is refused.
@@ -95,9 +116,9 @@ fn grow_toward(b: &mut [i64], t: &mut [i64], n: usize, d: usize, l: usize) -> An
 }
 
 // Node n grows by 0, in whatever direction: nothing changes.
-fn grow_none(b: &mut [i64], n: usize, d: usize, length: i64) -> Answer
+pub fn grow_none(b: &[i64], n: usize, d: usize, length: i64) -> Answer
     requires { ⌜ Formed (now b) × (natAbs length ≡ 0) ⌝ }
-    ensures { λ r. ⌜ Replies (now (b .entry)) (now (b .exit)) r (growDualNode (stateOf (now (b .entry))) n (along d length)) ⌝ }
+    ensures { λ r. ⌜ Replies (now (b .entry)) (now (b .entry)) r (growDualNode (stateOf (now (b .entry))) n (along d length)) ⌝ }
 {
     let k = refuse::node_refusal(b, n, false, false);
     if k != 0 {

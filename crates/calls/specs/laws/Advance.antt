@@ -1,15 +1,16 @@
 -- Laws of advance: a shrinking length is not below 0, and growth along the direction of the grow state is what the definition asks for.
-use Prim.Native.Nat.{ℕ, _-_}
+use Prim.Native.Nat.{ℕ, _-_, _≤_}
 use native.Mathlib.Decide.{ℕ-discrete as decEq}
 use mathlib.Core.Path.{_≡_, refl, sym, ap, _∙_}
 use mathlib.Core.Logic.{_≢_}
-use mathlib.Core.Bool.{Bool, true, false, _&&_}
+use mathlib.Core.Bool.{Bool, true, false, _&&_, not}
 use mathlib.Core.List.{List, [], _∷_}
 use lib.IntN.{ℤ, pos, negsuc}
 use lib.Signed.{nonNeg}
 use lib.Dec.{ltb, eqb}
+use lib.ListN.{List·getD-eq-default}
 use borrow.Author.Tests.{eq-eqb, ne-eqb}
-use Rattle.graph.specs.State.{State, NodeClass, defectVertex, blossom, up, stay, growing, opposite, sidesAt, growthAt, holderAt, grandsonAt, classOf, growStateOf, dualOf, boundaryOf, overgrownOf}
+use Rattle.graph.specs.State.{State, NodeClass, defectVertex, blossom, up, stay, growing, opposite, nodeCount, sidesAt, growthAt, holderAt, grandsonAt, classOf, growStateOf, dualOf, boundaryOf, overgrownOf}
 use Rattle.graph.specs.Layout.{stateOf}
 use Rattle.graph.specs.Form.{Formed}
 use Rattle.graph.specs.laws.State.{if-both, fold-keeps}
@@ -165,3 +166,7 @@ module _ (b : List ℤ) (n k : ℕ) (e : k ≡ nodeRefusal (stateOf b) n false f
     pub advance-moves : {b' : List ℤ} {a : Answer} → x ≢ 0 → Replies b b' a (advanceBy n x (maxUpdateLength (stateOf b) n (toward x) true)) → Replies b b' a (advance (stateOf b) n)
     unfolding advance
     advance-moves z p = rw (← e) (replies-accepted k h (rw (← s, ne-eqb x stay z) p))
+
+-- a number that names no node is read as Stay
+pub state-beyond : (b : List ℤ) (n : ℕ) → Formed b → nodeCount (stateOf b) ≤ n → false ≡ not (eqb (growStateOf (stateOf b) n) stay)
+state-beyond b n f h = rw (List·getD-eq-default (stateOf b .nodes .growState) 0 {n = n} h)

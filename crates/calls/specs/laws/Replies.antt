@@ -11,6 +11,7 @@ use lib.Signed.{nonNeg}
 use lib.Dec.{ltb, eqb}
 use borrow.Author.Tests.{eq-eqb, ne-eqb}
 use Rattle.graph.specs.State.{State, up, down, shrinking, nodeCount, withGrowState}
+use Rattle.graph.specs.Sound.{sound}
 use Rattle.graph.specs.Layout.{stateOf}
 use Rattle.graph.specs.Form.{Formed, Becomes, sidesOk}
 use Rattle.graph.specs.laws.Row.{becomes-none, becomes-then}
@@ -128,31 +129,31 @@ module _ {b t : List ℤ} (u : Usable b t) (n d k : ℕ) (e : k ≡ nodeRefusal 
 
 -- ---- length
 
-module _ {b t : List ℤ} (u : Usable b t) (n d k : ℕ) (first : Bool) (e : k ≡ nodeRefusal (stateOf b) n (ltb up d) (first && storeShort (stateOf b) (n ∷ []) 1)) where
+module _ {b : List ℤ} (f : Formed b) (n d k : ℕ) (first : Bool) (e : k ≡ nodeRefusal (stateOf b) n (ltb up d) (first && storeShort (stateOf b) (n ∷ []) 1)) where
   pub length-refused : k ≢ 0 → Replies b b (Refused k) (maxUpdateLength (stateOf b) n d first)
   unfolding maxUpdateLength
-  length-refused h = rw (← e) (replies-refused b (record { answer = scan (readied (stateOf b) n d first) n d; state = readied (stateOf b) n d first }) k (u .formed) h)
+  length-refused h = rw (← e) (replies-refused b (record { answer = scan (readied (stateOf b) n d first) n d; state = readied (stateOf b) n d first }) k f h)
 
   pub length-accepted : k ≡ 0 → NodeAccepted (stateOf b) n (ltb up d) (first && storeShort (stateOf b) (n ∷ []) 1)
   length-accepted h = node-accepted (stateOf b) n (ltb up d) (first && storeShort (stateOf b) (n ∷ []) 1) (sym e ∙ h)
 
   pub length-first : first ≡ true → k ≡ 0 → NodeAccepted (stateOf b) n (ltb up d) (storeShort (stateOf b) (n ∷ []) 1)
-  length-first f h = let a = length-accepted h in record { inside = a .inside; right = a .right; outer = a .outer; room = rw f at (a .room) }
+  length-first g h = let a = length-accepted h in record { inside = a .inside; right = a .right; outer = a .outer; room = rw g at (a .room) }
 
   -- as it is
   pub length-plain : {a : Answer} → first ≡ false → k ≡ 0 → a ≡ scan (stateOf b) n d → Replies b b a (maxUpdateLength (stateOf b) n d first)
   unfolding maxUpdateLength readied
-  length-plain f h p = rw (← e) (replies-accepted k h (rw f (record { answer = p; block = becomes-none b (stateOf b) (u .formed) refl })))
+  length-plain g h p = rw (← e) (replies-accepted k h (rw g (record { answer = p; block = becomes-none b (stateOf b) f refl })))
 
   -- prepared first
-  pub length-prepared : {a : Answer} {b' t' : List ℤ} {j : ℕ} → first ≡ true → k ≡ 0 → AfterPreparation b b' t t' (prepareNode (stateOf b) n d) j → a ≡ scan (stateOf b') n d → Replies b b' a (maxUpdateLength (stateOf b) n d first)
+  pub length-prepared : {a : Answer} {t b' t' : List ℤ} {j : ℕ} → first ≡ true → k ≡ 0 → AfterPreparation b b' t t' (prepareNode (stateOf b) n d) j → a ≡ scan (stateOf b') n d → Replies b b' a (maxUpdateLength (stateOf b) n d first)
   unfolding maxUpdateLength readied
-  length-prepared f h p q = rw (← e) (replies-accepted k h (rw f (record { answer = q ∙ ap (λ c. scan c n d) (p .block .state); block = p .block })))
+  length-prepared g h p q = rw (← e) (replies-accepted k h (rw g (record { answer = q ∙ ap (λ c. scan c n d) (p .block .state); block = p .block })))
 
 -- ---- a sound state is scanned as it is
 
-pub usable-sides : {b t : List ℤ} → Usable b t → (n : ℕ) → n < nodeCount (stateOf b) → sidesOk (stateOf b) n ≡ true
-usable-sides {b} u n h = sound-sides-ok (stateOf b) (u .sounds) n h
+pub sound-scanned : {b : List ℤ} → Formed b → sound (stateOf b) ≡ true → (n : ℕ) → n < nodeCount (stateOf b) → Readable (stateOf b) × (sidesOk (stateOf b) n ≡ true)
+sound-scanned {b} f s n h = (sound-readable (stateOf b) (laid-shape b (f .laid)) s, sound-sides-ok (stateOf b) s n h)
 
 -- ---- growth
 

@@ -36,9 +36,9 @@ others c n x (Refused k) h = refl
 direction-requires : tie.Need-direction-requires
 direction-requires c κs = search needs
 
-compute-maximum-update-length-dual-node-requires :
-    tie.Need-compute-maximum-update-length-dual-node-requires
-compute-maximum-update-length-dual-node-requires c κs = search needs
+length-prepared-requires :
+    tie.Need-length-prepared-requires
+length-prepared-requires c κs = search needs
 
 enum-known-answer : tie.Need-enum-known-answer
 enum-known-answer c = search needs
@@ -50,10 +50,10 @@ same-length-2 : tie.Need-same-length-2
 same-length-2 c = search needs
 
 returns : tie.Need-returns
-returns c = let s = c .before .before .before .before .before .before .before in let r = c .before .before .before .compute-maximum-update-length-dual-node in let p = r .ensures in let d = c .before .before .before .before .before .before .direction .ensures .0 in (advance-other (s .args .n) (s .args .x) (rw d at (p .0)) (others _ (s .args .n) (s .args .x) (r .result) (c .match .keys2)), p .1)
+returns c = let s = c .before .before .before .before .before .before .before in let r = c .before .before .before .length-prepared in let p = r .ensures in let d = c .before .before .before .before .before .before .direction .ensures .0 in (advance-other (s .args .n) (s .args .x) (rw d at (p .0)) (others _ (s .args .n) (s .args .x) (r .result) (c .match .keys2)), p .1)
 
 grow-along-requires : tie.Need-grow-along-requires
-grow-along-requires c κs = let r = c .before .before .before .before .before .before .before .compute-maximum-update-length-dual-node in let a = c .before .before .before .answer .given in let s = c .before .before .before .before .before .before .before .before .before .before .before in let d = c .before .before .before .before .before .before .before .before .before .before .direction in (r .ensures .2, d .ensures .1, λ e. length-below (stateOf (s .args .b .now)) (s .args .n) (d .result) true (sym (a .1) ∙ r .ensures .0 .answer) (rw (toZ-ofZ (sfits-of ((rw (a .1) at (r .ok)) .1 .1 .1 .1 .0 .1))) at e))
+grow-along-requires c κs = let r = c .before .before .before .before .before .before .before .length-prepared in let a = c .before .before .before .answer .given in let s = c .before .before .before .before .before .before .before .before .before .before .before in let d = c .before .before .before .before .before .before .before .before .before .before .direction in (r .ensures .2, d .ensures .1, λ e. length-below (stateOf (s .args .b .now)) (s .args .n) (d .result) true (sym (a .1) ∙ r .ensures .0 .answer) (rw (toZ-ofZ (sfits-of ((rw (a .1) at (r .ok)) .1 .1 .1 .1 .0 .1))) at e))
 
 same-length-3 : tie.Need-same-length-3
 same-length-3 c = search needs
@@ -62,14 +62,14 @@ same-length-4 : tie.Need-same-length-4
 same-length-4 c = search needs
 
 returns-2 : tie.Need-returns-2
-returns-2 c = let f = c .before .before .before in let r = f .before .before .before .before .before .before .before .compute-maximum-update-length-dual-node in let a = f .before .before .before .answer .given in let s = f .before .before .before .before .before .before .before .before .before .before .before in let d = f .before .before .before .before .before .before .before .before .before .before .direction in let g = c .before .before .grow-along .ensures in (advance-free (s .args .n) (s .args .x) (rw (d .ensures .0) at (r .ensures .0)) (a .1) (rw (d .ensures .0, toZ-ofZ (sfits-of ((rw (a .1) at (r .ok)) .1 .1 .1 .1 .0 .1))) at (g .0)), g .1 ∙ r .ensures .1)
+returns-2 c = let f = c .before .before .before in let r = f .before .before .before .before .before .before .before .length-prepared in let a = f .before .before .before .answer .given in let s = f .before .before .before .before .before .before .before .before .before .before .before in let d = f .before .before .before .before .before .before .before .before .before .before .direction in let g = c .before .before .grow-along .ensures in (advance-free (s .args .n) (s .args .x) (rw (d .ensures .0) at (r .ensures .0)) (a .1) (rw (d .ensures .0, toZ-ofZ (sfits-of ((rw (a .1) at (r .ok)) .1 .1 .1 .1 .0 .1))) at (g .0)), g .1 ∙ r .ensures .1)
 
 pub advance-by-spec : {M : Type 1} → statement M
 advance-by-spec =
     tie.close
     (tie.spec
     direction-requires
-    compute-maximum-update-length-dual-node-requires
+    length-prepared-requires
     enum-known-answer
     same-length
     same-length-2

@@ -1,11 +1,9 @@
 use mathlib.Core.Bool.{false}
-use mathlib.Core.Path.{_≡_, refl, sym, ap, subst, _∙_}
-use lib.IntN.{ℤ, natAbs}
+use mathlib.Core.Path.{_≡_, refl, sym, ap, _∙_}
+use lib.IntN.{natAbs}
 use lib.Signed.{nonNeg}
 use mir.Facts.{toZ-ofZ}
 use Rattle.graph.specs.Layout.{stateOf}
-use Rattle.calls.specs.Calls.{growDualNode}
-use Rattle.calls.specs.Reply.{along, Replies}
 use Rattle.calls.specs.laws.Replies.{along-forth, along-back, steady-other}
 use borrow.Author.Needs.{needs}
 use Rattle.calls.proofs.core.grow_along.Statement.{statement}
@@ -21,7 +19,7 @@ same-length : tie.Need-same-length
 same-length c = search needs
 
 returns : tie.Need-returns
-returns c = let s = c .before .before .before .before .before in (subst (λ (z : ℤ). Replies (s .args .b .now) (c .before .grow-none .last .0) (c .before .grow-none .result) (growDualNode (stateOf (s .args .b .now)) (s .args .n) (along (s .args .d) z))) (toZ-ofZ (s .fits .length)) (c .before .grow-none .ensures), refl)
+returns c = let s = c .before .before .before .before in (rw (toZ-ofZ (s .fits .length)) at (c .grow-none .ensures), refl)
 
 non-negative-requires : tie.Need-non-negative-requires
 non-negative-requires c κs = search needs
