@@ -1,5 +1,7 @@
 -- Laws about the definitions of `calls`.
 pub mod Accepted
+pub mod Blossom
+pub mod Circle
 pub mod Defect
 pub mod Growth
 pub mod Length

@@ -1,0 +1,1 @@
+-- Laws of the insertion of a blossom: preparing and joining its members.
