@@ -10,7 +10,7 @@ use lib.IntN.{ℤ}
 use lib.Dec.{leb, ltb, eqb}
 use lib.ListN.{length, getD, set, drop, replicate, length-map, drop-of-length-le}
 use lib.Seq.{drop-cons}
-use borrow.Author.Tests.{lt-ltb, le-leb, lt-leb, leb-false, eq-eqb, ne-eqb}
+use borrow.Author.Tests.{lt-ltb, le-leb, lt-leb, leb-false, not-false, eq-eqb, ne-eqb}
 use mathlib.Core.Logic.{_≢_}
 use Rattle.graph.specs.Basic.{if_then_else_, all, any, member, distinct, sumBelow}
 use Rattle.graph.specs.State.{State, vertexCount, sideCount, nodeCount}
@@ -20,7 +20,7 @@ use Rattle.graph.specs.Layout.{stateOf}
 use Rattle.graph.specs.Form.{Formed}
 use Rattle.graph.specs.Scans.{onceAll}
 use Rattle.graph.specs.laws.Used.{entries-within}
-use Rattle.graph.specs.laws.Members.{by-test, all-from, all-member, member-at, member-head, member-tail, distinct-head, distinct-tail, distinct-length}
+use Rattle.graph.specs.laws.Members.{by-test, or-neither-right, all-from, all-member, member-at, member-head, member-tail, distinct-head, distinct-tail, distinct-length}
 use Rattle.graph.specs.laws.Stamp.{Stamped, stamped-none, stamped-more, stamped-fails, stamped-all}
 use Rattle.graph.specs.laws.Opened.{getD-zeros}
 use Rattle.calls.specs.Refuse.{badNode, inBlossom, entriesUnless, entriesBut, storeShort}
@@ -91,6 +91,11 @@ module _ {l : List ℕ} {i : ℕ} {m : List ℕ} (s : Met l i m) where
     met-twice f = ap not (stamped-fails 1 (λ x. true) l i m s y h e small (rw (eq-eqb (getD m y 0) 1 f)) ∙ once-is l)
 
 -- ---- the count
+
+-- a circle has no repeat
+pub circle-once : (ms : List ℕ) → noCircle ms ≡ false → distinct ms ≡ true
+unfolding noCircle
+circle-once ms h = not-false (distinct ms) (or-neither-right (eqb (length ms % 2) 0 || ltb (length ms) 3) (not (distinct ms)) h)
 
 module _ (l : List ℤ) where
   pub no-circle-count : eqb (length l % 2) 0 || ltb (length l) 3 ≡ true → true ≡ noCircle (map toNat l)
