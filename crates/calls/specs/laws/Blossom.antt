@@ -381,8 +381,52 @@ module _ {b₀ b t₀ t : List ℤ} {circle : List ℕ} {n i k : ℕ} (p : Membe
         }
 
 -- the members of a circle that was prepared
-pub circle-joined : {b₀ b b' t t' : List ℤ} {circle : List ℕ} {n k : ℕ} → n ≡ nodeCount (stateOf b₀) → Becomes b₀ b (fold prepareStep (stateOf b₀) circle) → JoinedIn b b' t' n k (fold (joinStep n) (joinedIn b t 0) circle) → JoinedIn b₀ b' t' n k (joinCircle (stateOf b₀) circle)
+pub circle-joined : {b₀ b b' t' : List ℤ} {n k : ℕ} (t : List ℤ) (circle : List ℕ) → n ≡ nodeCount (stateOf b₀) → Becomes b₀ b (fold prepareStep (stateOf b₀) circle) → JoinedIn b b' t' n k (fold (joinStep n) (joinedIn b t 0) circle) → JoinedIn b₀ b' t' n k (joinCircle (stateOf b₀) circle)
 unfolding joinCircle numbersAt
-circle-joined {b₀} {b} {b'} {t} {t'} {circle} {n} {k} e q x =
+circle-joined {b₀} {b} {b'} {t'} {n} {k} t circle e q x =
     let z : fold (joinStep n) (joinedIn b t 0) circle ≡ joinCircle (stateOf b₀) circle = rw (q .state, e) in
     subst (JoinedIn b₀ b' t' n k) z (joined-after q x)
+
+-- ---- the node
+
+class-blossom : (v m : ℕ) → classFrom v (v + m) ≡ blossom m
+unfolding classFrom
+class-blossom v m = let z : v + m - v ≡ m = omega arith in rw (le-ltb (v + m) v (omega arith), z)
+
+module _ {b t : List ℤ} (u : Usable b t) (x k : ℕ) (circle : List ℕ) (e : k ≡ blossomRefusal (stateOf b) x circle) where
+  pub blossom-refused : k ≢ 0 → RepliesInsert b b (Refused k) (insertBlossom (stateOf b) x circle)
+  unfolding insertBlossom unless says
+  blossom-refused h = rw (← e, ne-eqb k 0 h) (record { answer = refl; formed = u .formed; state = refl; vertices = refl; edges = refl; sides = refl; len = refl })
+
+  module _ (h : k ≡ 0) where
+    taken : BlossomAccepted (stateOf b) x circle
+    taken = blossom-accepted (stateOf b) x circle (sym e ∙ h)
+
+    pub blossom-joinable : Joinable (stateOf b) circle
+    blossom-joinable = accepted-joinable u taken
+
+    pub blossom-state-small : x < 9223372036854775808
+    blossom-state-small = omega (arith, taken .growState)
+
+    -- the circle has a first member, which is a node
+    pub blossom-some : 0 < length circle
+    blossom-some = omega (arith, taken .three)
+
+    pub blossom-first : getD circle 0 0 < 1024
+    blossom-first = omega (arith, taken .inside (getD circle 0 0) (member-at circle 0 0 blossom-some), u .formed .nodes-max)
+
+    module _ (n l : ℕ) {b₃ t₃ : List ℤ} (en : n ≡ nodeCount (stateOf b)) (p : JoinedIn b b₃ t₃ n l (joinCircle (stateOf b) circle)) where
+      pub blossom-room : Joinable (stateOf b₃) circle → entries (stateOf b₃) + l ≤ stateOf b₃ .storeLimit
+      blossom-room j = omega (arith, joinable-room j, joined-most p, p .block .sides)
+
+      pub blossom-done : {b₄ : List ℤ} (class : ℕ) → class ≡ vertexCount (stateOf b₃) + getD circle 0 0 → Inserted b₃ b₄ (withNode (stateOf b₃) (classFrom (vertexCount (stateOf b₃)) class) x (numbersAt t₃ 0 l)) → RepliesInsert b b₄ (Node n) (insertBlossom (stateOf b) x circle)
+      unfolding insertBlossom unless blossomPut
+      blossom-done {b₄} class ec r =
+          let j : Joining = joinCircle (stateOf b) circle in
+          let y : classFrom (vertexCount (stateOf b₃)) class ≡ blossom (getD circle 0 0) = rw ec (class-blossom (vertexCount (stateOf b₃)) (getD circle 0 0)) in
+          let w : numbersAt t₃ 0 l ≡ j .sides = rw (p .count) (first-numbers (p .holding)) in
+          let z : withNode (stateOf b₃) (classFrom (vertexCount (stateOf b₃)) class) x (numbersAt t₃ 0 l) ≡ withNode (j .state) (blossom (getD circle 0 0)) x (j .sides) = rw (y, w, p .block .state) in
+          rw (← e, eq-eqb k 0 h) (record { answer = ap Node en; formed = r .formed; state = r .state ∙ z; vertices = r .vertices ∙ p .block .vertices; edges = r .edges ∙ p .block .edges; sides = r .sides ∙ p .block .sides; len = r .len ∙ p .block .len })
+
+      pub blossom-wiped : {t₅ : List ℤ} → t₅ ≡ wiped t₃ 0 l → t₅ ≡ t
+      blossom-wiped {t₅} i = i ∙ rw (p .count) (zero-holding _ (sideCount (stateOf b)) (wipe-first (p .holding))) ∙ sym (u .scratch)

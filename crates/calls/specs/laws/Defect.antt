@@ -182,7 +182,7 @@ unfolding entries entriesOf
 unmoved-entries p = rw (p .nodes)
 
 -- how many nodes a block may have
-laid-nodes : (b : List ℤ) → Laid b → stateOf b .nodeLimit ≤ 1024
+pub laid-nodes : (b : List ℤ) → Laid b → stateOf b .nodeLimit ≤ 1024
 unfolding Laid
 laid-nodes b q = omega (arith, q .counted .node-limit, q .sized .n-max)
 
