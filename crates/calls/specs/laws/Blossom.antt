@@ -1,69 +1,42 @@
 -- Laws of the insertion of a blossom: preparing and joining its members.
 use Prim.Native.Nat.{ℕ, _+_, _-_, _*_, _≤_, _<_}
-use native.Mathlib.Numerals.{add-one}
 use native.Mathlib.Omega.{arith}
 use native.Mathlib.Decide.{ℕ-discrete as decEq}
 use mathlib.Core.Path.{_≡_, refl, sym, ap, subst, _∙_}
 use mathlib.Core.Logic.{_≢_}
 use mathlib.Core.Bool.{true, false}
-use mathlib.Core.List.{List, [], _∷_, _++_, map}
+use mathlib.Core.List.{List, [], _∷_, _++_}
 use lib.IntN.{ℤ, pos}
 use lib.Dec.{ltb, eqb}
-use lib.ListN.{length, getD, set, take, length-append, length-map, length-set}
+use lib.ListN.{length, getD, set, take, length-append, length-set}
 use borrow.Author.Tests.{lt-ltb, le-ltb, eq-eqb, ne-eqb}
-use Rattle.graph.specs.Basic.{if_then_else_, fold, all, member, distinct}
-use Rattle.graph.specs.State.{State, Graph, Overgrown, blossom, vertexCount, sideCount, nodeCount, holderAt, boundaryOf, overgrownOf, withSides, withNodes, withHolder, withGrowState, withParent, withNode, up, stay, down}
+use Rattle.graph.specs.Basic.{fold, all, member, distinct}
+use Rattle.graph.specs.State.{State, blossom, vertexCount, sideCount, nodeCount, holderAt, boundaryOf, withSides, withNodes, withHolder, withGrowState, withParent, withNode}
 use Rattle.graph.specs.Sound.{entriesOf, entries}
-use Rattle.graph.specs.Word.{toNat, wordAt, numbersAt}
+use Rattle.graph.specs.Word.{numbersAt}
 use Rattle.graph.specs.Layout.{stateOf, classFrom}
 use Rattle.graph.specs.Form.{Formed, Becomes, sidesOk}
 use Rattle.graph.specs.Insert.{Inserted}
-use Rattle.graph.specs.laws.State.{if-both, fold-none, fold-more, fold-done, fold-keeps, holder-same, holder-other}
-use Rattle.graph.specs.laws.Members.{by-test, clash, all-snoc, member-at, member-append, member-cons, member-nil, distinct-snoc, distinct-length}
+use Rattle.graph.specs.laws.State.{if-both, fold-more, fold-done, fold-keeps, holder-same, holder-other}
+use Rattle.graph.specs.laws.Members.{by-test, all-snoc, member-at, member-append, member-cons, member-nil, distinct-snoc, distinct-length}
 use Rattle.graph.specs.laws.Shape.{Shape}
-use Rattle.graph.specs.laws.Form.{laid-shape, formed-vertices}
+use Rattle.graph.specs.laws.Form.{laid-shape}
 use Rattle.graph.specs.laws.Row.{becomes-none, becomes-then}
-use Rattle.pass.specs.Scratch.{zeroScratch, wiped, Holding}
+use Rattle.pass.specs.Scratch.{zeroScratch, wiped}
 use Rattle.pass.specs.Prepare.{prepareNode}
 use Rattle.pass.specs.Ready.{Ready, Shrinkable, Preparable, AfterPreparation}
 use Rattle.pass.specs.laws.Scratch.{holding-zero, zero-holding, hold-first, first-numbers, wipe-first}
 use Rattle.pass.specs.laws.Passes.{Passed}
 use Rattle.pass.specs.laws.Prepare.{prepare-passed}
-use Rattle.pass.specs.laws.Ready.{sound-shrinkable}
 use Rattle.calls.specs.declared.Answer.the-variants.{Node, Refused}
 use Rattle.calls.specs.Answer.{says}
 use Rattle.calls.specs.Refuse.{entriesUnless, entriesBut, unless}
 use Rattle.calls.specs.Insert.{Joining, blossomRefusal, prepareStep, joinSide, seated, joinStep, joinCircle, blossomPut, insertBlossom}
 use Rattle.calls.specs.Circle.{Joinable, JoinedIn, joinedIn}
 use Rattle.calls.specs.Reply.{Usable, RepliesInsert}
-use Rattle.calls.specs.laws.Accepted.{BlossomAccepted, blossom-accepted, store-room, entries-passed}
-use Rattle.calls.specs.laws.Circle.{entries-members}
-
--- ---- a circle that may be joined
-
--- the lists of a node that may be shrunk hold at most 2 E sides and V vertices
-shrinkable-entries : (c : State) (m : ℕ) → Shrinkable c m → entriesOf c m ≤ sideCount c + vertexCount c
-unfolding entriesOf sidesOk
-shrinkable-entries c m s = omega (arith, distinct-length (sideCount c) (boundaryOf c m) (s .once) (s .sides), s .size)
-
--- the store has room for 2 E + V entries more
-pub joinable-room : {c : State} {circle : List ℕ} → Joinable c circle → entries c + (sideCount c + vertexCount c) ≤ c .storeLimit
-joinable-room {c} {circle} j =
-    let s : ℕ = sideCount c + vertexCount c in
-    let k : entries c ≤ entriesBut c circle + length circle * s = entries-members c s circle (j .once) (j .inside) (λ m h. shrinkable-entries c m (j .lists m h)) in
-    let r : entriesBut c circle + (length circle + 1) * s ≤ c .storeLimit = j .room in
-    let q : (length circle + 1) * s ≡ length circle * s + s = omega arith in
-    omega (arith, k, r, q)
-
--- an accepted circle in a sound state
-pub accepted-joinable : {b t : List ℤ} {x : ℕ} {circle : List ℕ} → Usable b t → BlossomAccepted (stateOf b) x circle → Joinable (stateOf b) circle
-accepted-joinable {b} {t} {x} {circle} u a = record {
-  inside = a .inside;
-  once = a .once;
-  lists = λ m h. sound-shrinkable (stateOf b) (laid-shape b (u .formed .laid)) (formed-vertices b (u .formed)) m (a .inside m h) (record { sounds = u .sounds; outer = a .outer m h });
-  count = a .count;
-  room = store-room (stateOf b) circle (length circle + 1) (a .room);
-}
+use Rattle.calls.specs.laws.Accepted.{BlossomAccepted, blossom-accepted, entries-passed}
+use Rattle.calls.specs.laws.Circle.{joinable-room, accepted-joinable}
+use Rattle.calls.specs.laws.Defect.{SameLists, same-refl}
 
 -- ---- preparing
 
@@ -130,22 +103,6 @@ module _ {b₀ b t : List ℤ} {circle : List ℕ} {i : ℕ} (q : Preparing b₀
         }
 
 -- ---- what joining leaves alone
-
--- the graph, the nodes' lists and their number, and the limits are the same
-record SameLists (c d : State) : Type 0 where
-  graph : d .graph ≡ c .graph
-  boundary : d .nodes .boundary ≡ c .nodes .boundary
-  overgrown : d .nodes .overgrown ≡ c .nodes .overgrown
-  count : nodeCount d ≡ nodeCount c
-  nodeLimit : d .nodeLimit ≡ c .nodeLimit
-  storeLimit : d .storeLimit ≡ c .storeLimit
-
-same-refl : (c : State) → SameLists c c
-same-refl c = record { graph = refl; boundary = refl; overgrown = refl; count = refl; nodeLimit = refl; storeLimit = refl }
-
-same-entries : {c d : State} → SameLists c d → entries d ≡ entries c
-unfolding entries entriesOf
-same-entries p = rw (p .count, p .boundary, p .overgrown)
 
 same-entries-but : {c d : State} → SameLists c d → (named : List ℕ) → entriesBut d named ≡ entriesBut c named
 unfolding entriesBut entriesUnless entriesOf

@@ -2,30 +2,34 @@
 use Prim.Native.Nat.{ℕ, zero, suc, _+_, _*_, _%_, _≤_, _<_}
 use native.Mathlib.Numerals.{add-one}
 use native.Mathlib.Omega.{arith}
-use native.Mathlib.Nat.{mul-suc}
-use mathlib.Core.Path.{_≡_, refl, sym, ap, _∙_}
+use mathlib.Core.Path.{_≡_, refl, ap, _∙_}
 use mathlib.Core.Bool.{Bool, true, false, not, _&&_, _||_}
 use mathlib.Core.List.{List, [], _∷_, map}
 use lib.IntN.{ℤ}
-use lib.Dec.{leb, ltb, eqb}
+use lib.Dec.{ltb, eqb}
 use lib.ListN.{length, getD, set, drop, replicate, length-map, drop-of-length-le}
 use lib.Seq.{drop-cons}
 use borrow.Author.Tests.{lt-ltb, le-leb, lt-leb, leb-false, not-false, eq-eqb, ne-eqb}
 use mathlib.Core.Logic.{_≢_}
-use Rattle.graph.specs.Basic.{if_then_else_, all, any, member, distinct, sumBelow}
-use Rattle.graph.specs.State.{State, vertexCount, sideCount, nodeCount}
+use Rattle.graph.specs.Basic.{all, any, member, distinct, sumBelow}
+use Rattle.graph.specs.State.{State, vertexCount, sideCount, nodeCount, boundaryOf}
 use Rattle.graph.specs.Sound.{entriesOf, entries}
 use Rattle.graph.specs.Word.{toNat, wordAt}
 use Rattle.graph.specs.Layout.{stateOf}
-use Rattle.graph.specs.Form.{Formed}
+use Rattle.graph.specs.Form.{Formed, sidesOk}
 use Rattle.graph.specs.Scans.{onceAll}
+use Rattle.graph.specs.laws.Form.{laid-shape, formed-vertices}
 use Rattle.graph.specs.laws.Used.{entries-within}
-use Rattle.graph.specs.laws.Members.{by-test, or-neither-right, all-from, all-member, member-at, member-head, member-tail, distinct-head, distinct-tail, distinct-length}
+use Rattle.graph.specs.laws.Members.{by-test, or-neither-right, all-from, member-at, member-head, member-tail, distinct-head, distinct-tail, distinct-length}
 use Rattle.graph.specs.laws.Stamp.{Stamped, stamped-none, stamped-more, stamped-fails, stamped-all}
 use Rattle.graph.specs.laws.Opened.{getD-zeros}
+use Rattle.pass.specs.Ready.{Shrinkable}
+use Rattle.pass.specs.laws.Ready.{sound-shrinkable}
 use Rattle.calls.specs.Refuse.{badNode, inBlossom, entriesUnless, entriesBut, storeShort}
 use Rattle.calls.specs.Insert.{noCircle, blossomRefusal}
-use Rattle.calls.specs.laws.Accepted.{none-member, entries-named, entries-none}
+use Rattle.calls.specs.Circle.{Joinable}
+use Rattle.calls.specs.Reply.{Usable}
+use Rattle.calls.specs.laws.Accepted.{BlossomAccepted, none-member, store-room, entries-named, entries-none}
 use Rattle.calls.specs.laws.Refuse.{laid-store}
 use Rattle.calls.specs.laws.Scanning.{word-entry}
 
@@ -185,3 +189,29 @@ module _ (c : State) (x : ℕ) (ms : List ℕ) where
           pub blossom-refusal-0 : storeShort c ms (length ms + 1) ≡ false → 0 ≡ blossomRefusal c x ms
           unfolding blossomRefusal
           blossom-refusal-0 h = rw (e, o, q, lt-leb (c .nodeLimit) (nodeCount c) k, h)
+
+-- ---- a circle that may be joined
+
+-- the lists of a node that may be shrunk hold at most 2 E sides and V vertices
+shrinkable-entries : (c : State) (m : ℕ) → Shrinkable c m → entriesOf c m ≤ sideCount c + vertexCount c
+unfolding entriesOf sidesOk
+shrinkable-entries c m s = omega (arith, distinct-length (sideCount c) (boundaryOf c m) (s .once) (s .sides), s .size)
+
+-- the store has room for 2 E + V entries more
+pub joinable-room : {c : State} {circle : List ℕ} → Joinable c circle → entries c + (sideCount c + vertexCount c) ≤ c .storeLimit
+joinable-room {c} {circle} j =
+    let s : ℕ = sideCount c + vertexCount c in
+    let k : entries c ≤ entriesBut c circle + length circle * s = entries-members c s circle (j .once) (j .inside) (λ m h. shrinkable-entries c m (j .lists m h)) in
+    let r : entriesBut c circle + (length circle + 1) * s ≤ c .storeLimit = j .room in
+    let q : (length circle + 1) * s ≡ length circle * s + s = omega arith in
+    omega (arith, k, r, q)
+
+-- an accepted circle in a sound state
+pub accepted-joinable : {b t : List ℤ} {x : ℕ} {circle : List ℕ} → Usable b t → BlossomAccepted (stateOf b) x circle → Joinable (stateOf b) circle
+accepted-joinable {b} {t} {x} {circle} u a = record {
+  inside = a .inside;
+  once = a .once;
+  lists = λ m h. sound-shrinkable (stateOf b) (laid-shape b (u .formed .laid)) (formed-vertices b (u .formed)) m (a .inside m h) (record { sounds = u .sounds; outer = a .outer m h });
+  count = a .count;
+  room = store-room (stateOf b) circle (length circle + 1) (a .room);
+}

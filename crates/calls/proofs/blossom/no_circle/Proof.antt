@@ -1,4 +1,3 @@
-use native.Mathlib.Omega.{arith}
 use mathlib.Core.Path.{_∙_}
 use Rattle.calls.specs.laws.Circle.{no-circle-count, no-circle-repeat}
 use borrow.Author.Needs.{needs}
