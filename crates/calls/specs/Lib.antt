@@ -8,6 +8,7 @@ pub mod Readable
 pub mod Growth
 pub mod Moving
 pub mod Insert
+pub mod Circle
 pub mod Calls
 pub mod Lent
 pub mod Examples
