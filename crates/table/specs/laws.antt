@@ -8,3 +8,5 @@ pub mod History
 pub mod Duals
 pub mod Runs
 pub mod Whole
+pub mod Kept
+pub mod Steps
