@@ -5,6 +5,7 @@ pub mod History
 pub mod Runs
 pub mod Theorems
 pub mod Steps
+pub mod Delivered
 pub mod Opens
 pub mod Examples
 pub mod Hypotheses

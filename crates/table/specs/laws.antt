@@ -10,3 +10,4 @@ pub mod Runs
 pub mod Whole
 pub mod Kept
 pub mod Steps
+pub mod Delivered

@@ -96,10 +96,10 @@ step-follows w (clear p) = called-follows w p Clear refl
 
 -- ---- a list of steps
 
-follows-whole : {b b' : List ℤ} {ks : List Call} → Whole b → Follows b ks b' → Whole b'
+pub follows-whole : {b b' : List ℤ} {ks : List Call} → Whole b → Follows b ks b' → Whole b'
 follows-whole {b} {b'} {ks} w f = record { formed = f .formed; good = subst Invariant (sym (f .state)) (after-invariant (stateOf b) (w .good) ks) }
 
-follows-edges : {b b' : List ℤ} {ks : List Call} → Follows b ks b' → edgeCount (stateOf b') ≡ edgeCount (stateOf b)
+pub follows-edges : {b b' : List ℤ} {ks : List Call} → Follows b ks b' → edgeCount (stateOf b') ≡ edgeCount (stateOf b)
 follows-edges {b} {b'} {ks} f = ap (λ (c : State). edgeCount c) (f .state) ∙ ap (λ (g : Graph). length (g .weight)) (after-graph (stateOf b) ks)
 
 pub steps-follow : {b b' : List ℤ} {ks : List LentCall} (e : ℕ) → edgeCount (stateOf b) ≡ e → Whole b → Steps b ks b' → Follows b (fed e ks) b'
