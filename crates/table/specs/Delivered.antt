@@ -2,7 +2,7 @@
 -- lent memory, each by what its function promises (Steps). Its history is fed the calls alone, answered as the definitions answer.
 use Prim.Native.Nat.{ℕ, _<_}
 use mathlib.Core.Path.{_≡_}
-use mathlib.Core.Logic.{_↔_}
+use mathlib.Core.Logic.{_⊎_, _↔_}
 use mathlib.Core.Bool.{true, _&&_}
 use mathlib.Core.List.{List, map}
 use lib.IntN.{ℤ, pos}
@@ -11,15 +11,17 @@ use Rattle.graph.specs.Open.{Edge, opened}
 use Rattle.graph.specs.Layout.{stateOf, sized, blockSound, memoryRefusal}
 use Rattle.calls.specs.declared.Answer.{Answer}
 use Rattle.calls.specs.declared.Answer.the-variants.{Done, Refused}
-use Rattle.calls.specs.Lent.{TableRead}
+use Rattle.calls.specs.Answer.{Reply}
+use Rattle.calls.specs.Lent.{lentReply, TableRead, ContactsRead}
 use Rattle.reachable.specs.Reachable.{after}
 use Rattle.distance.specs.Table.{tableFromDistances}
 use Rattle.distance.specs.Feasible.{Feasible}
 use Rattle.distance.specs.Nearest.{ReachesVirtual}
 use Rattle.table.specs.History.{dualAt, dualsOf}
 use Rattle.table.specs.Runs.{openedGraph, SameVertices, PositiveWeights, SameNodes}
-use Rattle.table.specs.Steps.{scratchFits, listFits, fed, LentRun, lentHistory, WithoutBlossoms}
-use Rattle.table.specs.laws.Delivered.{last-state, last-sized, last-sound, last-memory, table-answer, last-nodes, last-feasible, last-table, tables-read-tell}
+use Rattle.table.specs.Steps.{LentCall, Steps, AnySteps, scratchFits, listFits, fed, LentRun, lentHistory, WithoutBlossoms, SinceOpening}
+use Rattle.table.specs.laws.Steps.{cut-at-opening}
+use Rattle.table.specs.laws.Delivered.{last-state, last-sized, last-sound, last-memory, last-answer, list-answer, last-nodes, last-feasible, last-table, tables-read-tell}
 
 -- ---- every list of calls: blossoms, weights of 0 and refused calls among them
 
@@ -36,9 +38,20 @@ module _ {v : ℕ} {edges : List Edge} {virtuals : List ℕ} (r : LentRun v edge
   pub block-holds-state : stateOf (r .last) ≡ after (opened v (r .nodeLimit) (r .storeLimit) edges virtuals) (fed (r .edgeNumber) (r .calls))
   block-holds-state = last-state r
 
-  -- Read table on it is done, unless scratch or list have another length.
+  -- A call is answered as its definition q answers (Called, VertexRead), or refused 1 for the length of its scratch.
+  pub calls-are-answered : (t : List ℤ) (q : Reply) → lentReply (r .last) t q .answer ≡ (if scratchFits (r .edgeNumber) t then q .answer else Refused 1)
+  calls-are-answered = last-answer r
+
+  -- Read table and contacts are done, or refused 1 for the length of scratch or list.
   pub table-is-read : (t list list' : List ℤ) (a : Answer) → TableRead (r .last) t list list' a → a ≡ (if scratchFits (r .edgeNumber) t && listFits (r .edgeNumber) 2 list then Done else Refused 1)
-  table-is-read = table-answer r
+  table-is-read t list list' a = list-answer r 2 t list list' _ a
+
+  pub contacts-are-read : (t list list' : List ℤ) (a : Answer) → ContactsRead (r .last) t list list' a → a ≡ (if scratchFits (r .edgeNumber) t && listFits (r .edgeNumber) 1 list then Done else Refused 1)
+  contacts-are-read t list list' a = list-answer r 1 t list list' _ a
+
+-- Whatever calls are made on whatever block: no opening was accepted, or those since the last that was are a run.
+pub calls-since-opening-are-a-run : {b b' : List ℤ} {ks : List LentCall} → AnySteps b ks b' → Steps b ks b' ⊎ SinceOpening ks b'
+calls-since-opening-are-a-run = cut-at-opening
 
 -- ---- demand 3: no blossom is accepted
 

@@ -1,8 +1,8 @@
 -- The block that a list of lent calls leaves: its state, its soundness, and what is read from it.
-use Prim.Native.Nat.{ℕ, _*_, _<_}
+use Prim.Native.Nat.{ℕ, _<_}
 use mathlib.Core.Path.{_≡_, refl, sym, ap, subst, _∙_}
 use mathlib.Core.Logic.{_↔_}
-use mathlib.Core.Bool.{Bool, true, false, _&&_}
+use mathlib.Core.Bool.{Bool, true, _&&_}
 use mathlib.Core.List.{List, map}
 use lib.IntN.{ℤ, pos}
 use lib.Dec.{eqb}
@@ -20,10 +20,10 @@ use Rattle.graph.specs.laws.OpenedBlock.{opened-state, opened-formed, opened-bl
 use Rattle.graph.specs.laws.Join.{numbers-plain}
 use Rattle.calls.specs.declared.Answer.{Answer}
 use Rattle.calls.specs.declared.Answer.the-variants.{Done, Refused}
-use Rattle.calls.specs.Answer.{says}
+use Rattle.calls.specs.Answer.{Reply, says}
 use Rattle.calls.specs.Refuse.{unless}
 use Rattle.calls.specs.Calls.{growthTable}
-use Rattle.calls.specs.Lent.{ListRead, TableRead}
+use Rattle.calls.specs.Lent.{lentReply, ListRead, TableRead}
 use Rattle.reachable.specs.Reachable.{after}
 use Rattle.reachable.specs.Invariant.{Invariant}
 use Rattle.reachable.specs.laws.Calls.{opened-invariant}
@@ -110,14 +110,19 @@ module _ {v : ℕ} {edges : List Edge} {virtuals : List ℕ} (r : LentRun v edge
   pub last-list : (t list : List ℤ) (m : ℕ) → listRefusal (r .last) t (length list) m ≡ (if scratchFits (r .edgeNumber) t && listFits (r .edgeNumber) m list then 0 else 1)
   last-list t list m = rw last-edges at (list-by-length (r .last) t (length list) m (last-whole .formed) (last-whole .good .sounds))
 
-  -- what read table answers
-  pub table-answer : (t list list' : List ℤ) (a : Answer) → TableRead (r .last) t list list' a → a ≡ (if scratchFits (r .edgeNumber) t && listFits (r .edgeNumber) 2 list then Done else Refused 1)
+  -- what calls answer
+  pub last-answer : (t : List ℤ) (q : Reply) → lentReply (r .last) t q .answer ≡ (if scratchFits (r .edgeNumber) t then q .answer else Refused 1)
+  unfolding lentReply unless says
+  last-answer t q =
+      let k : memoryRefusal (r .last) t ≡ (if scratchFits (r .edgeNumber) t then 0 else 1) = last-memory t in
+      by-test (scratchFits (r .edgeNumber) t) (λ e. rw (k, e) refl) (λ e. rw (k, e) refl)
+
+  pub list-answer : (m : ℕ) (t list list' filled : List ℤ) (a : Answer) → ListRead (r .last) list list' filled (listRefusal (r .last) t (length list) m) a
+      → a ≡ (if scratchFits (r .edgeNumber) t && listFits (r .edgeNumber) m list then Done else Refused 1)
   unfolding unless says
-  table-answer t list list' a p =
-      let k : listRefusal (r .last) t (length list) 2 ≡ (if scratchFits (r .edgeNumber) t && listFits (r .edgeNumber) 2 list then 0 else 1) = last-list t list 2 in
-      by-test (scratchFits (r .edgeNumber) t && listFits (r .edgeNumber) 2 list)
-      (λ e. p .answer ∙ rw (k, e) refl)
-      (λ e. p .answer ∙ rw (k, e) refl)
+  list-answer m t list list' filled a p =
+      let k : listRefusal (r .last) t (length list) m ≡ (if scratchFits (r .edgeNumber) t && listFits (r .edgeNumber) m list then 0 else 1) = last-list t list m in
+      by-test (scratchFits (r .edgeNumber) t && listFits (r .edgeNumber) m list) (λ e. p .answer ∙ rw (k, e) refl) (λ e. p .answer ∙ rw (k, e) refl)
 
   -- ---- without blossoms
 

@@ -1,12 +1,12 @@
 -- No call changes the graph.
 use Prim.Native.Nat.{ℕ, zero, suc, _+_}
-use mathlib.Core.Path.{_≡_, refl, ap, _∙_}
+use mathlib.Core.Path.{_≡_, refl, _∙_}
 use mathlib.Core.Bool.{Bool, true, false, _&&_}
-use mathlib.Core.List.{List, [], _∷_, _++_}
+use mathlib.Core.List.{List, [], _∷_}
 use lib.IntN.{ℤ, pos, negsuc}
 use lib.Dec.{eqb, ltb}
 use Rattle.graph.specs.Basic.{fold}
-use Rattle.graph.specs.State.{State, Graph, nodeCount, holderAt, sidesAt, boundaryOf, growStateOf, withNodes, withSides, withVertices, withVertexHolder, withVertexGrandson, withHolder, withDefect, withGrowState, withParent, withNode, heldSide, heldVertex, stay, shrinking, up, down}
+use Rattle.graph.specs.State.{State, nodeCount, holderAt, sidesAt, boundaryOf, growStateOf, withNodes, withSides, withVertices, withVertexHolder, withVertexGrandson, withHolder, withDefect, withGrowState, withParent, withNode, heldVertex, stay, shrinking, up, down}
 use Rattle.graph.specs.Open.{blankState, cleared}
 use Rattle.graph.specs.laws.State.{if-both}
 use Rattle.graph.specs.laws.Members.{by-test}
@@ -16,8 +16,8 @@ use Rattle.calls.specs.declared.Answer.{Answer}
 use Rattle.calls.specs.declared.Answer.the-variants.{NonZeroGrow, Unlimited, Conflicting, TouchingVirtual, BlossomNeedExpand, VertexShrinkStop, VertexShrinkStopPeer, Done, Node, Prepared, Refused, Vertex}
 use Rattle.calls.specs.Answer.{Reply, says}
 use Rattle.calls.specs.Refuse.{nodeRefusal, storeShort, unless}
-use Rattle.calls.specs.Growth.{growCheck, growApply}
-use Rattle.calls.specs.Insert.{insertDefect, defectPut, defectRefusal, holdStep, insertBlossom, blossomPut, blossomRefusal, Joining, prepareStep, joinSide, seated, joinStep, joinCircle}
+use Rattle.calls.specs.Growth.{growCheck}
+use Rattle.calls.specs.Insert.{insertDefect, defectPut, defectRefusal, insertBlossom, blossomPut, blossomRefusal, Joining, prepareStep, joinSide, seated, joinStep, joinCircle}
 use Rattle.calls.specs.Calls.{setGrowState, prepareDualNodeGrowth, maxUpdateLength, readied, growPrepared, growToward, growDualNode, signedFor, follow, advanceBy, toward, advance, representativeVertex, clear, Call, InsertDefect, InsertBlossom, SetGrowState, Prepare, MaxUpdateLength, Grow, ReadTable, Advance, Contacts, RepresentativeVertex, Clear, response, respond}
 use Rattle.calls.specs.laws.Accepted.{unless-cases}
 use Rattle.calls.specs.laws.Sounds.{apply-applied}

@@ -1,22 +1,17 @@
 -- What a list of steps leaves: the state that the definitions give for the calls that were fed, in a block in form.
-use Prim.Native.Nat.{ℕ, _*_}
-use native.Mathlib.Omega.{arith}
+use Prim.Native.Nat.{ℕ}
 use mathlib.Core.Path.{_≡_, refl, sym, ap, subst, _∙_}
-use mathlib.Core.Logic.{_≢_}
+use mathlib.Core.Logic.{_⊎_, inl, inr, ⊎-elim}
 use mathlib.Core.Bool.{Bool, true, false, _&&_}
 use mathlib.Core.List.{List, [], _∷_, _++_, map}
 use lib.IntN.{ℤ}
-use lib.Dec.{eqb}
 use lib.ListN.{length}
 use Rattle.graph.specs.Basic.{if_then_else_}
 use Rattle.graph.specs.State.{State, Graph, edgeCount}
 use Rattle.graph.specs.Word.{toNat}
-use Rattle.graph.specs.Sound.{sound}
-use Rattle.graph.specs.Layout.{scratchLength, stateOf, memoryRefusal}
+use Rattle.graph.specs.Layout.{stateOf, memoryRefusal}
 use Rattle.graph.specs.Form.{Formed}
-use Rattle.graph.specs.Open.{openRefusal}
 use Rattle.graph.specs.Opening.{edgesFrom, virtualsFrom, fits}
-use Rattle.graph.specs.laws.State.{if-both}
 use Rattle.graph.specs.laws.Members.{by-test}
 use Rattle.graph.specs.laws.OpenedBlock.{refused-block}
 use Rattle.calls.specs.declared.Answer.{Answer}
@@ -27,7 +22,7 @@ use Rattle.calls.specs.Lent.{lentReply, lentWrites, Called}
 use Rattle.reachable.specs.Reachable.{after}
 use Rattle.reachable.specs.Invariant.{Invariant}
 use Rattle.reachable.specs.laws.Calls.{after-invariant}
-use Rattle.table.specs.Steps.{LentCall, lentOpen, lentDefect, lentBlossom, lentState, lentPrepare, lentLength, lentGrow, lentTable, lentAdvance, lentContacts, lentVertex, lentClear, Step, open-refused, insert-defect, insert-blossom, set-grow-state, prepare, max-update-length, grow, read-table, advance, contacts, representative-vertex, clear, Steps, none, next, scratchFits, listFits, fedOne, fed}
+use Rattle.table.specs.Steps.{LentCall, lentOpen, Step, open-refused, insert-defect, insert-blossom, set-grow-state, prepare, max-update-length, grow, read-table, advance, contacts, representative-vertex, clear, Steps, none, next, AnySteps, no-call, one-call, one-opening, scratchFits, listFits, fedOne, fed, SinceOpening}
 use Rattle.table.specs.laws.Kept.{call-graph}
 use Rattle.table.specs.laws.Whole.{memory-by-length}
 
@@ -109,3 +104,26 @@ steps-follow {b} e h w (next {b₁ = b₁} {b₂ = b₂} {k = k} {ks = ks} s ss)
     let f : Follows b (fedOne e k) b₁ = rw h at (step-follows w s) in
     let g : Follows b₁ (fed e ks) b₂ = steps-follow e (follows-edges f ∙ h) (follows-whole w f) ss in
     record { formed = g .formed; state = g .state ∙ ap (λ (c : State). after c (fed e ks)) (f .state) ∙ sym (after-append (stateOf b) (fedOne e k) (fed e ks)) }
+
+-- ---- since the last opening
+
+-- one call more in front
+earlier-too : (k : LentCall) {ks : List LentCall} {b : List ℤ} → SinceOpening ks b → SinceOpening (k ∷ ks) b
+earlier-too k c = record { v = c .v; edges = c .edges; virtuals = c .virtuals; run = c .run; earlier = k ∷ c .earlier; all = ap (λ l. k ∷ l) (c .all); leads = c .leads }
+
+pub cut-at-opening : {b b' : List ℤ} {ks : List LentCall} → AnySteps b ks b' → Steps b ks b' ⊎ SinceOpening ks b'
+cut-at-opening no-call = inl none
+cut-at-opening (one-call {k = k} s ss) = ⊎-elim (λ r. inl (next s r)) (λ c. inr (earlier-too k c)) (cut-at-opening ss)
+cut-at-opening {b} (one-opening {b₁ = b₁} {b₂ = b₂} {t = t} {edges = edges} {virtuals = virtuals} {v = v} {e = e} {n = n} {l = l} {ks = ks} p ss) =
+    ⊎-elim
+    (λ r. inr (record {
+      v = v;
+      edges = edgesFrom edges;
+      virtuals = virtualsFrom virtuals;
+      earlier = [];
+      all = refl;
+      leads = refl;
+      run = record { edgeNumber = e; nodeLimit = n; storeLimit = l; before = b; scratch = t; edgeWords = edges; virtualWords = virtuals; edges-are = refl; virtuals-are = refl; first = b₁; opening = p; calls = ks; last = b₂; steps = r };
+    }))
+    (λ c. inr (earlier-too (lentOpen t v e n l edges virtuals) c))
+    (cut-at-opening ss)
