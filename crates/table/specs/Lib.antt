@@ -8,5 +8,6 @@ pub mod Steps
 pub mod Delivered
 pub mod Opens
 pub mod Examples
+pub mod LentExample
 pub mod Hypotheses
 pub mod laws
