@@ -64,6 +64,12 @@ pub data Steps : List ℤ → List LentCall → List ℤ → Type 0 where
   none : {b : List ℤ} → Steps b [] b
   next : {b b₁ b₂ : List ℤ} {k : LentCall} {ks : List LentCall} → Step b k b₁ → Steps b₁ ks b₂ → Steps b (k ∷ ks) b₂
 
+-- Calls of every kind from any block, openings that are accepted among them.
+pub data AnySteps : List ℤ → List LentCall → List ℤ → Type 0 where
+  no-call : {b : List ℤ} → AnySteps b [] b
+  one-call : {b b₁ b₂ : List ℤ} {k : LentCall} {ks : List LentCall} → Step b k b₁ → AnySteps b₁ ks b₂ → AnySteps b (k ∷ ks) b₂
+  one-opening : {b b₁ b₂ t edges virtuals : List ℤ} {v e n l : ℕ} {ks : List LentCall} → OpenCalled b t v e n l edges virtuals b₁ 0 → AnySteps b₁ ks b₂ → AnySteps b (lentOpen t v e n l edges virtuals ∷ ks) b₂
+
 -- ---- what the history is fed
 
 -- a scratch for E edges; a list of m words for each of them
@@ -119,3 +125,13 @@ module _ {v : ℕ} {edges : List Edge} {virtuals : List ℕ} (r : LentRun v edge
   -- no blossom is accepted
   abbrev pub WithoutBlossoms : Type 0
   WithoutBlossoms = noBlossoms (opened v (r .nodeLimit) (r .storeLimit) edges virtuals) (fed (r .edgeNumber) (r .calls)) ≡ true
+
+-- Of the calls ks that led to the block b, those since the last opening that was accepted are a run.
+pub record SinceOpening (ks : List LentCall) (b : List ℤ) : Type 0 where
+  pub v : ℕ
+  pub edges : List Edge
+  pub virtuals : List ℕ
+  pub run : LentRun v edges virtuals
+  pub earlier : List LentCall
+  pub all : ks ≡ earlier ++ (lentOpen (run .scratch) v (run .edgeNumber) (run .nodeLimit) (run .storeLimit) (run .edgeWords) (run .virtualWords) ∷ run .calls)
+  pub leads : run .last ≡ b

@@ -8,3 +8,6 @@ pub mod History
 pub mod Duals
 pub mod Runs
 pub mod Whole
+pub mod Kept
+pub mod Steps
+pub mod Delivered

@@ -1,8 +1,8 @@
 -- A block in form that holds a sound state passes the tests of lent memory: the converse of the laws of a block in crate `graph`. It is refused for lengths alone.
 use Prim.Native.Nat.{ℕ, _+_, _*_, _≤_}
 use native.Mathlib.Omega.{arith}
-use mathlib.Core.Path.{_≡_, refl, sym, ap, _∙_}
-use mathlib.Core.Bool.{Bool, true, _&&_}
+use mathlib.Core.Path.{_≡_, refl, sym}
+use mathlib.Core.Bool.{true, _&&_}
 use mathlib.Core.List.{List, [], _∷_}
 use lib.IntN.{ℤ}
 use lib.Dec.{leb, eqb}
@@ -14,7 +14,6 @@ use Rattle.graph.specs.Open.{sizesOk}
 use Rattle.graph.specs.Sound.{sound}
 use Rattle.graph.specs.Layout.{vOf, eOf, nOf, lOf, countOf, blockLength, scratchLength, rowsOf, row, stateOf, sized, risingTo, fitsAt, packedFrom, packed, blockSound, memoryFits, blockRefusal, memoryRefusal, listRefusal}
 use Rattle.graph.specs.Form.{startsFrom, totalFrom, Laid, Listed, Wired, Formed}
-use Rattle.graph.specs.laws.Members.{both}
 use Rattle.graph.specs.laws.Row.{header-get}
 use Rattle.graph.specs.laws.List.{total-from}
 
