@@ -4,9 +4,10 @@
 ghost use mathlib.Core.Path.{_≡_};
 ghost use lib.ListN.{length};
 ghost use Rattle.pass.specs.Scratch.{zeroScratch};
-ghost use Rattle.calls.specs.Lent.{DefectCalled, StateCalled, PrepareCalled, LengthCalled, GrowCalled, AdvanceCalled, ClearCalled, VertexRead, TableRead, ContactsRead, ContactsCounted};
+ghost use Rattle.calls.specs.Lent.{DefectCalled, BlossomCalled, StateCalled, PrepareCalled, LengthCalled, GrowCalled, AdvanceCalled, ClearCalled, VertexRead, TableRead, ContactsRead, ContactsCounted};
 use crate::Answer;
 use crate::advance;
+use crate::blossom;
 use crate::core;
 use crate::defect;
 use crate::read;
@@ -38,6 +39,22 @@ pub fn insert_defect(b: &mut [i64], t: &mut [i64], v: usize, x: usize) -> Answer
     }
     clear_scratch(t);
     defect::insert_defect(b, t, v, x)
+}
+
+// The next node is a blossom of the circle's nodes, in grow state x.
+pub fn insert_blossom(b: &mut [i64], t: &mut [i64], x: usize, circle: &[i64]) -> Answer
+    ensures { λ r. ⌜ BlossomCalled (now (b .entry)) (now (t .entry)) x (now (circle .entry)) (now (b .exit)) (now (t .exit)) r ⌝ }
+{
+    let k = memory::refusal(b, t);
+    if k != 0 {
+        return Answer::Refused(k);
+    }
+    let j = blossom::blossom_refusal(b, x, circle);
+    if j != 0 {
+        return Answer::Refused(j);
+    }
+    clear_scratch(t);
+    blossom::insert_blossom(b, t, x, circle)
 }
 
 // Node n gets the grow state x.
