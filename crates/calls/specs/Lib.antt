@@ -10,7 +10,6 @@ pub mod Moving
 pub mod Insert
 pub mod Circle
 pub mod Calls
-pub mod Lent
 pub mod Examples
 pub mod Opens
 pub mod laws

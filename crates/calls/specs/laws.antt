@@ -6,7 +6,6 @@ pub mod Circle
 pub mod Defect
 pub mod Growth
 pub mod Length
-pub mod Lent
 pub mod Moving
 pub mod Read
 pub mod Readable

@@ -12,7 +12,6 @@ pub mod blossom; // insertion of a blossom
 pub mod core; // the calls on a sound block with a scratch that is all zero
 pub mod advance; // growth by the length answer
 pub mod read; // reading: the growth table, the full edges, the representative vertex
-pub mod lent; // the calls on memory that a host lends
 
 // What a call answers: the Rust's MaxUpdateLength first, then what the other calls say. Nodes and vertices are plain numbers.
 pub enum Answer {

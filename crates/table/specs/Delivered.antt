@@ -12,7 +12,7 @@ use Rattle.graph.specs.Layout.{stateOf, sized, blockSound, memoryRefusal}
 use Rattle.calls.specs.declared.Answer.{Answer}
 use Rattle.calls.specs.declared.Answer.the-variants.{Done, Refused}
 use Rattle.calls.specs.Answer.{Reply}
-use Rattle.calls.specs.Lent.{lentReply, TableRead, ContactsRead}
+use Rattle.lent.specs.Called.{lentReply, TableRead, ContactsRead}
 use Rattle.reachable.specs.Reachable.{after}
 use Rattle.distance.specs.Table.{tableFromDistances}
 use Rattle.distance.specs.Feasible.{Feasible}

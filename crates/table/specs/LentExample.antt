@@ -12,7 +12,7 @@ use Rattle.graph.specs.laws.Block.{block-formed}
 use Rattle.calls.specs.declared.Answer.the-variants.{Done, Node, Refused}
 use Rattle.calls.specs.Calls.{InsertDefect, InsertBlossom}
 use Rattle.calls.specs.Examples.{edge}
-use Rattle.calls.specs.Lent.{DefectCalled, TableRead}
+use Rattle.lent.specs.Called.{DefectCalled, TableRead}
 use Rattle.table.specs.Opens.{everythingLent}
 use Rattle.distance.specs.Table.{tableFromDistances}
 use Rattle.table.specs.History.{dualsOf}

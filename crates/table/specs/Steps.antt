@@ -15,7 +15,7 @@ use Rattle.graph.specs.Open.{Edge, opened, openRefusal}
 use Rattle.graph.specs.Opening.{edgesFrom, virtualsFrom, fits, openedBlock}
 use Rattle.calls.specs.declared.Answer.{Answer}
 use Rattle.calls.specs.Calls.{Call, InsertDefect, InsertBlossom, SetGrowState, Prepare, MaxUpdateLength, Grow, ReadTable, Advance, Contacts, RepresentativeVertex, Clear}
-use Rattle.calls.specs.Lent.{DefectCalled, BlossomCalled, StateCalled, PrepareCalled, LengthCalled, GrowCalled, AdvanceCalled, ClearCalled, VertexRead, TableRead, ContactsRead}
+use Rattle.lent.specs.Called.{DefectCalled, BlossomCalled, StateCalled, PrepareCalled, LengthCalled, GrowCalled, AdvanceCalled, ClearCalled, VertexRead, TableRead, ContactsRead}
 use Rattle.table.specs.History.{History, historyAfter, noBlossoms}
 
 -- ---- the calls

@@ -23,7 +23,7 @@ use Rattle.calls.specs.declared.Answer.the-variants.{Done, Refused}
 use Rattle.calls.specs.Answer.{Reply, says}
 use Rattle.calls.specs.Refuse.{unless}
 use Rattle.calls.specs.Calls.{growthTable}
-use Rattle.calls.specs.Lent.{lentReply, ListRead, TableRead}
+use Rattle.lent.specs.Called.{lentReply, ListRead, TableRead}
 use Rattle.reachable.specs.Reachable.{after}
 use Rattle.reachable.specs.Invariant.{Invariant}
 use Rattle.reachable.specs.laws.Calls.{opened-invariant}

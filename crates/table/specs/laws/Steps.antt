@@ -18,7 +18,7 @@ use Rattle.calls.specs.declared.Answer.{Answer}
 use Rattle.calls.specs.Answer.{Reply, says}
 use Rattle.calls.specs.Refuse.{unless}
 use Rattle.calls.specs.Calls.{Call, InsertDefect, InsertBlossom, SetGrowState, Prepare, MaxUpdateLength, Grow, ReadTable, Advance, Contacts, RepresentativeVertex, Clear, respond, response, representativeVertex}
-use Rattle.calls.specs.Lent.{lentReply, lentWrites, Called}
+use Rattle.lent.specs.Called.{lentReply, lentWrites, Called}
 use Rattle.reachable.specs.Reachable.{after}
 use Rattle.reachable.specs.Invariant.{Invariant}
 use Rattle.reachable.specs.laws.Calls.{after-invariant}

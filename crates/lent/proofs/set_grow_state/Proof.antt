@@ -1,9 +1,9 @@
-use Rattle.calls.specs.Lent.{stateWrites}
-use Rattle.calls.specs.laws.Lent.{memory-refused, memory-lendable, call-same, call-done, test-so}
+use Rattle.lent.specs.Called.{stateWrites}
+use Rattle.lent.specs.laws.Called.{memory-refused, memory-lendable, call-same, call-done, test-so}
 use Rattle.calls.specs.laws.Replies.{set-refused}
 use borrow.Author.Needs.{needs}
-use Rattle.calls.proofs.lent.set_grow_state.Statement.{statement}
-use Rattle.calls.proofs.lent.set_grow_state.Tie as tie
+use Rattle.lent.proofs.set_grow_state.Statement.{statement}
+use Rattle.lent.proofs.set_grow_state.Tie as tie
 
 refusal-requires : tie.Need-refusal-requires
 refusal-requires c κs = search needs

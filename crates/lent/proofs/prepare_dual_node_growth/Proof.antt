@@ -1,9 +1,9 @@
-use Rattle.calls.specs.Lent.{prepareWrites}
-use Rattle.calls.specs.laws.Lent.{memory-refused-scratch, memory-lendable, lendable-usable, call-same-scratch, call-done-scratch, test-so, test-not}
+use Rattle.lent.specs.Called.{prepareWrites}
+use Rattle.lent.specs.laws.Called.{memory-refused-scratch, memory-lendable, lendable-usable, call-same-scratch, call-done-scratch, test-so, test-not}
 use Rattle.calls.specs.laws.Replies.{prepare-refused}
 use borrow.Author.Needs.{needs}
-use Rattle.calls.proofs.lent.prepare_dual_node_growth.Statement.{statement}
-use Rattle.calls.proofs.lent.prepare_dual_node_growth.Tie as tie
+use Rattle.lent.proofs.prepare_dual_node_growth.Statement.{statement}
+use Rattle.lent.proofs.prepare_dual_node_growth.Tie as tie
 
 refusal-requires : tie.Need-refusal-requires
 refusal-requires c κs = search needs

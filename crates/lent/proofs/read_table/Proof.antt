@@ -2,10 +2,10 @@ use native.Mathlib.Omega.{arith}
 use mathlib.Core.Path.{sym, _∙_}
 use lib.ListN.{length}
 use Rattle.graph.specs.laws.Memory.{list-accepted}
-use Rattle.calls.specs.laws.Lent.{list-refused, list-filled, table-placed}
+use Rattle.lent.specs.laws.Called.{list-refused, list-filled, table-placed}
 use borrow.Author.Needs.{needs}
-use Rattle.calls.proofs.lent.read_table.Statement.{statement}
-use Rattle.calls.proofs.lent.read_table.Tie as tie
+use Rattle.lent.proofs.read_table.Statement.{statement}
+use Rattle.lent.proofs.read_table.Tie as tie
 
 list-refusal-requires : tie.Need-list-refusal-requires
 list-refusal-requires c κs = search needs

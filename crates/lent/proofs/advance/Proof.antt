@@ -1,10 +1,10 @@
 use mathlib.Core.Path.{sym, _∙_}
 use borrow.Author.Tests.{eqb-true, not-false}
 use Rattle.graph.specs.Layout.{stateOf}
-use Rattle.calls.specs.laws.Lent.{memory-refused-scratch, memory-lendable, lendable-usable, call-same-scratch, call-done-scratch, test-so, test-not, advance-writes, advance-still, advance-short}
+use Rattle.lent.specs.laws.Called.{memory-refused-scratch, memory-lendable, lendable-usable, call-same-scratch, call-done-scratch, test-so, test-not, advance-writes, advance-still, advance-short}
 use borrow.Author.Needs.{needs}
-use Rattle.calls.proofs.lent.advance.Statement.{statement}
-use Rattle.calls.proofs.lent.advance.Tie as tie
+use Rattle.lent.proofs.advance.Statement.{statement}
+use Rattle.lent.proofs.advance.Tie as tie
 
 refusal-requires : tie.Need-refusal-requires
 refusal-requires c κs = search needs

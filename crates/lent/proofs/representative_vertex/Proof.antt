@@ -1,8 +1,8 @@
 use native.Mathlib.Omega.{arith}
-use Rattle.calls.specs.laws.Lent.{memory-answered, memory-lendable, vertex-beyond, vertex-told}
+use Rattle.lent.specs.laws.Called.{memory-answered, memory-lendable, vertex-beyond, vertex-told}
 use borrow.Author.Needs.{needs}
-use Rattle.calls.proofs.lent.representative_vertex.Statement.{statement}
-use Rattle.calls.proofs.lent.representative_vertex.Tie as tie
+use Rattle.lent.proofs.representative_vertex.Statement.{statement}
+use Rattle.lent.proofs.representative_vertex.Tie as tie
 
 refusal-requires : tie.Need-refusal-requires
 refusal-requires c κs = search needs

@@ -18,16 +18,16 @@ use Rattle.graph.specs.laws.Memory.{Lendable, memory-accepted}
 use Rattle.graph.specs.laws.Form.{laid-shape}
 use Rattle.graph.specs.laws.Row.{becomes-none}
 use Rattle.pass.specs.Scratch.{zeroScratch, wiped}
 use Rattle.calls.specs.declared.Answer.{Answer}
 use Rattle.calls.specs.declared.Answer.the-variants.{Done, Vertex, Refused}
 use Rattle.calls.specs.Answer.{Reply, says}
 use Rattle.calls.specs.Refuse.{badNode, inBlossom, storeShort, nodeRefusal, unless}
 use Rattle.calls.specs.Calls.{maxUpdateLength, growDualNode, growthTable, representativeVertexOf, representativeVertex, follow, advanceBy, toward, advance}
 use Rattle.calls.specs.Reply.{Usable, Replies, RepliesInsert, placed}
-use Rattle.calls.specs.Lent.{lentReply, lentWrites, Called, CalledWithScratch, ListRead, prepareWrites, lengthWrites, growWrites, advanceWrites}
+use Rattle.lent.specs.Called.{lentReply, lentWrites, Called, CalledWithScratch, ListRead, prepareWrites, lengthWrites, growWrites, advanceWrites}
 use Rattle.calls.specs.laws.Replies.{toward-refused}
 use Rattle.calls.specs.laws.Advance.{advance-refused}
 use Rattle.calls.specs.laws.Read.{placed-none, placed-more}
 
 -- ---- lists and scratch
 

@@ -3,11 +3,11 @@ use mathlib.Core.Logic.{_≢_}
 use lib.IntN.{natAbs}
 use mir.Facts.{toZ-ofZ}
 use Rattle.graph.specs.Layout.{stateOf}
 use Rattle.calls.specs.laws.Replies.{along-up}
-use Rattle.calls.specs.laws.Lent.{memory-refused-scratch, memory-lendable, lendable-usable, call-same-scratch, call-done-scratch, test-so, test-not, grow-writes, grow-still, grow-refused}
+use Rattle.lent.specs.laws.Called.{memory-refused-scratch, memory-lendable, lendable-usable, call-same-scratch, call-done-scratch, test-so, test-not, grow-writes, grow-still, grow-refused}
 use borrow.Author.Needs.{needs}
-use Rattle.calls.proofs.lent.grow_dual_node.Statement.{statement}
-use Rattle.calls.proofs.lent.grow_dual_node.Tie as tie
+use Rattle.lent.proofs.grow_dual_node.Statement.{statement}
+use Rattle.lent.proofs.grow_dual_node.Tie as tie
 
 refusal-requires : tie.Need-refusal-requires
 refusal-requires c κs = search needs

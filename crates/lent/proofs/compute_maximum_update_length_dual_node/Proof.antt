@@ -1,11 +1,11 @@
 use mathlib.Core.Path.{_∙_}
 use Rattle.graph.specs.Layout.{stateOf}
-use Rattle.calls.specs.laws.Lent.{memory-refused-scratch, memory-lendable, lendable-usable, call-same-scratch, call-done-scratch, test-so, test-not, length-writes, length-still}
+use Rattle.lent.specs.laws.Called.{memory-refused-scratch, memory-lendable, lendable-usable, call-same-scratch, call-done-scratch, test-so, test-not, length-writes, length-still}
 use mathlib.Core.Bool.{true}
 use Rattle.calls.specs.laws.Replies.{length-refused}
 use borrow.Author.Needs.{needs}
-use Rattle.calls.proofs.lent.compute_maximum_update_length_dual_node.Statement.{statement}
-use Rattle.calls.proofs.lent.compute_maximum_update_length_dual_node.Tie as tie
+use Rattle.lent.proofs.compute_maximum_update_length_dual_node.Statement.{statement}
+use Rattle.lent.proofs.compute_maximum_update_length_dual_node.Tie as tie
 
 refusal-requires : tie.Need-refusal-requires
 refusal-requires c κs = search needs

@@ -1,7 +1,7 @@
-use Rattle.calls.specs.laws.Lent.{memory-refused, memory-lendable, call-cleared}
+use Rattle.lent.specs.laws.Called.{memory-refused, memory-lendable, call-cleared}
 use borrow.Author.Needs.{needs}
-use Rattle.calls.proofs.lent.clear.Statement.{statement}
-use Rattle.calls.proofs.lent.clear.Tie as tie
+use Rattle.lent.proofs.clear.Statement.{statement}
+use Rattle.lent.proofs.clear.Tie as tie
 
 refusal-requires : tie.Need-refusal-requires
 refusal-requires c κs = search needs

@@ -1,11 +1,11 @@
 use mathlib.Core.List.{map}
 use Rattle.graph.specs.Word.{toNat}
-use Rattle.calls.specs.Lent.{blossomWrites}
-use Rattle.calls.specs.laws.Lent.{memory-refused-scratch, memory-lendable, lendable-usable, insert-same-scratch, insert-done-scratch, test-so, test-not}
+use Rattle.lent.specs.Called.{blossomWrites}
+use Rattle.lent.specs.laws.Called.{memory-refused-scratch, memory-lendable, lendable-usable, insert-same-scratch, insert-done-scratch, test-so, test-not}
 use Rattle.calls.specs.laws.Blossom.{blossom-refused}
 use borrow.Author.Needs.{needs}
-use Rattle.calls.proofs.lent.insert_blossom.Statement.{statement}
-use Rattle.calls.proofs.lent.insert_blossom.Tie as tie
+use Rattle.lent.proofs.insert_blossom.Statement.{statement}
+use Rattle.lent.proofs.insert_blossom.Tie as tie
 
 refusal-requires : tie.Need-refusal-requires
 refusal-requires c κs = search needs

@@ -1,9 +1,9 @@
-use Rattle.calls.specs.Lent.{defectWrites}
-use Rattle.calls.specs.laws.Lent.{memory-refused-scratch, memory-lendable, lendable-usable, insert-same-scratch, insert-done-scratch, test-so, test-not}
+use Rattle.lent.specs.Called.{defectWrites}
+use Rattle.lent.specs.laws.Called.{memory-refused-scratch, memory-lendable, lendable-usable, insert-same-scratch, insert-done-scratch, test-so, test-not}
 use Rattle.calls.specs.laws.Defect.{defect-refused}
 use borrow.Author.Needs.{needs}
-use Rattle.calls.proofs.lent.insert_defect.Statement.{statement}
-use Rattle.calls.proofs.lent.insert_defect.Tie as tie
+use Rattle.lent.proofs.insert_defect.Statement.{statement}
+use Rattle.lent.proofs.insert_defect.Tie as tie
 
 refusal-requires : tie.Need-refusal-requires
 refusal-requires c κs = search needs

@@ -1,8 +1,8 @@
 use mathlib.Core.Path.{_∙_}
-use Rattle.calls.specs.laws.Lent.{wipe-all}
+use Rattle.lent.specs.laws.Called.{wipe-all}
 use borrow.Author.Needs.{needs}
-use Rattle.calls.proofs.lent.clear_scratch.Statement.{statement}
-use Rattle.calls.proofs.lent.clear_scratch.Tie as tie
+use Rattle.lent.proofs.clear_scratch.Statement.{statement}
+use Rattle.lent.proofs.clear_scratch.Tie as tie
 
 wipe-requires : tie.Need-wipe-requires
 wipe-requires c κs = search needs
