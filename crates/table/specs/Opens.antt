@@ -6,7 +6,7 @@ use Rattle.graph.specs.Layout
 use Rattle.graph.specs.Opening
 use Rattle.pass.specs.Scratch
 use Rattle.calls.specs.Opens as Below
-use Rattle.calls.specs.Lent
+use Rattle.lent.specs.Called
 use Rattle.calls.specs.Examples as Made
 use Rattle.reachable.specs.Reachable
 use Rattle.distance.specs.Opens as Distances
@@ -21,5 +21,5 @@ everything = 0
 
 -- the same, and what the words of a block say
 unfoldable pub everythingLent : ℕ
-unfolding everything Word.toNat Word.wordAt Rows.rows Rows.offset Layout.rowsOf Layout.classFrom Layout.stretches Layout.overgrownFrom Layout.stackFrom Layout.boundaries Layout.stacks Layout.stateFrom Layout.stateOf Layout.sized Layout.risingTo Layout.fitsAt Layout.packedFrom Layout.packed Layout.blockSound Layout.memoryFits Layout.blockRefusal Layout.memoryRefusal Layout.listRefusal Opening.givenAt Opening.edgeAt Opening.edgesFrom Opening.virtualsFrom Opening.fits Opening.joined Opening.firstOf Opening.openedRows Opening.openedWords Opening.openedBlock Scratch.zeroScratch Lent.lentReply Lent.lentWrites Lent.defectWrites Steps.fedOne Steps.fed
+unfolding everything Word.toNat Word.wordAt Rows.rows Rows.offset Layout.rowsOf Layout.classFrom Layout.stretches Layout.overgrownFrom Layout.stackFrom Layout.boundaries Layout.stacks Layout.stateFrom Layout.stateOf Layout.sized Layout.risingTo Layout.fitsAt Layout.packedFrom Layout.packed Layout.blockSound Layout.memoryFits Layout.blockRefusal Layout.memoryRefusal Layout.listRefusal Opening.givenAt Opening.edgeAt Opening.edgesFrom Opening.virtualsFrom Opening.fits Opening.joined Opening.firstOf Opening.openedRows Opening.openedWords Opening.openedBlock Scratch.zeroScratch Called.lentReply Called.lentWrites Called.defectWrites Steps.fedOne Steps.fed
 everythingLent = 0

@@ -1,5 +1,5 @@
 -- Lists of calls on a lent block, about what the functions of the library promise: a step from a block to the next is the promise of the
--- function that was called, by its name in crate `calls` (specs/Lent). What comes back beside the block may be anything that the promise allows.
+-- function that was called, by its name in crate `lent` (specs/Called). What comes back beside the block may be anything that the promise allows.
 use Prim.Native.Nat.{ℕ, _*_}
 use mathlib.Core.Path.{_≡_}
 use mathlib.Core.Logic.{_≢_}
