@@ -7,3 +7,5 @@ pub mod Table
 pub mod Setup
 pub mod Holding
 pub mod Opening
+pub mod Asking
+pub mod Standing
