@@ -31,7 +31,7 @@ use Rattle.records.specs.Record.{Record, sizes, anEdge, aVirtual, ask, i
 use Rattle.records.specs.Decode.{isRecord, wellFormed}
 use Rattle.records.specs.declared.setup.Setup.{Setup}
 use Rattle.records.specs.Standing.{callOf, callIn, OfKind, Opened, Answers, partOf, Runs, Asked}
-use Rattle.records.specs.laws.Decode.{formed-fits, formed-length, fields-there, circle-there, decoded-kind, kind-range}
+use Rattle.records.specs.laws.Decode.{lengthy, formed-fits, formed-length, fields-there, circle-there, decoded-kind, kind-range}
 use Rattle.records.specs.laws.Opening.{Small, small-of}
 
 -- ---- how long the body is
@@ -39,6 +39,9 @@ use Rattle.records.specs.laws.Opening.{Small, small-of}
 -- the fields of kind n are there
 pub fields-of : {body : List ℕ} {kind : ℕ} (n : ℕ) → OfKind body kind → kind ≡ n → (n ≡ 5 → ⊥) → length body ≡ 2 + 4 * getD fieldCounts n 0
 fields-of {body} n p e ne = fields-there body n (p .formed) (p .is ∙ e) ne
+
+pub kind-there : (body : List ℕ) → wellFormed body ≡ true → 2 ≤ length body
+kind-there body h = lengthy body (formed-fits body h) .kind
 
 pub kind-some : {body : List ℕ} {kind : ℕ} → OfKind body kind → 1 ≤ kind
 kind-some {body} p = rw (p .is) at (kind-range body (p .formed) .0)

@@ -296,3 +296,8 @@ module _ {body : List ℕ} {kind : ℕ} (o : OfKind body kind) (four : 4 ≤ kin
       lines (gathering g) p = rw (none-of g (p .1)) (told-lines h (ap (λ y. linesFor k (respond y (callIn body) .outcome)) (is g (p .1))))
       lines (running x) p = absurd (omega (arith, p .0))
       lines ended p = absurd (omega arith)
+
+-- ---- a body that is no record
+
+pub ill-stops : (body : List ℕ) (k : ℕ) (m : Memory) → wellFormed body ≡ false → m .stage < 3 → (s : Stage) → Stands m s → turn k s (decoded body) ≡ ends k 3
+ill-stops body k m e h s p = rw (decoded-ill body e) (turn-ill m k s p h)
