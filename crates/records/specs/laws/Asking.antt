@@ -3,7 +3,7 @@ use Prim.Native.Nat.{ℕ, zero, suc, _+_, _-_, _*_, _/_, _≤_, _<_}
 use native.Mathlib.Numerals.{add-one}
 use native.Mathlib.Omega.{arith}
 use mathlib.Core.Path.{_≡_, refl, sym, ap, _∙_}
-use mathlib.Core.Bool.{true, false}
+use mathlib.Core.Bool.{Bool, true, false}
 use mathlib.Core.List.{List, [], _∷_, _++_, map, append-nil}
 use lib.IntN.{ℤ, pos}
 use lib.Dec.{eqb, leb}
@@ -29,6 +29,8 @@ use Rattle.reachable.specs.Reachable.{after, Reachable}
 use Rattle.reachable.specs.Theorems.{reachable-sound}
 use Rattle.records.specs.Record.{Record, sizes, anEdge, aVirtual, ask, illFormed, pairAt, field, fields, fieldCounts, signed, askLength, recordOf, decoded}
 use Rattle.records.specs.Decode.{isRecord, wellFormed}
+use Rattle.records.specs.Lines.{line, wordsOf, linesFor}
+use Rattle.records.specs.Write.{Told}
 use Rattle.records.specs.declared.setup.Setup.{Setup}
 use Rattle.records.specs.Standing.{callOf, callIn, OfKind, Opened, Answers, partOf, Runs, Asked}
 use Rattle.records.specs.laws.Decode.{lengthy, formed-fits, formed-length, fields-there, circle-there, decoded-kind, kind-range}
@@ -73,15 +75,6 @@ asks {body} {kind} p h =
         if-both P (eqb kind 4) (λ q. refl) (if-both P (eqb kind 5) (λ q. refl) (if-both P (eqb kind 6) (λ q. refl) (if-both P (eqb kind 7) (λ q. refl)
         (if-both P (eqb kind 8) (if-both P (leb (field body 2) 1) (λ q. refl) (λ q. clash false q refl))
         (if-both P (eqb kind 9) (λ q. refl) (if-both P (eqb kind 10) (λ q. refl) (if-both P (eqb kind 11) (λ q. refl) (if-both P (eqb kind 12) (λ q. refl) (λ q. refl))))))))))))
-
-module _ {body : List ℕ} {kind : ℕ} (p : OfKind body kind) where
-  pub asks-table : kind ≡ 10 → callIn body ≡ ReadTable
-  unfolding recordOf callOf
-  asks-table e = call-kind 10 p e
-
-  pub asks-contacts : kind ≡ 12 → callIn body ≡ Contacts
-  unfolding recordOf callOf
-  asks-contacts e = call-kind 12 p e
 
 -- ---- what a call answers
 
@@ -209,50 +202,59 @@ take-zeros zero n h = refl
 take-zeros (suc q) zero h = absurd (omega arith)
 take-zeros (suc q) (suc n) h = ap (λ l. pos 0 ∷ l) (take-zeros q n (omega arith))
 
-module _ (s : Setup) (block : List ℤ) (r : Runs s block) (room : 4096 ≤ length block) (m : ℕ) (em : m ≡ blockLength (s .v) (s .e) (s .n) (s .l)) where
+module _ {s : Setup} {block : List ℤ} (r : Runs s block) (room : 4096 ≤ length block) (m : ℕ) (em : m ≡ blockLength (s .v) (s .e) (s .n) (s .l)) where
   pub part-room : m ≤ length block
   part-room = let z = small-of s (r .small) in omega arith
 
-  -- part of the block and of the scratch, as a call takes them
-  pub part-opened : (scratch : List ℤ) (q : ℕ) → q ≡ 6 * s .e → 768 ≤ length scratch → scratch ≡ zeroScratch (length scratch) → Opened (take m block) (take q scratch)
-  part-opened scratch q eq long blank =
+  -- the part that a call takes is the part of the sizes
+  part-is : take (m - 0) block ≡ partOf s block
+  part-is = let z : m - 0 ≡ blockLength (s .v) (s .e) (s .n) (s .l) = omega arith in ap (λ n. take n block) z
+
+  pub part-formed : Formed (take (m - 0) block)
+  part-formed = rw part-is (r .formed)
+
+  -- with its scratch
+  pub part-opened : (scratch : List ℤ) → 768 ≤ length scratch → scratch ≡ zeroScratch (length scratch) → Opened (take (m - 0) block) (take (6 * s .e - 0) scratch)
+  part-opened scratch long blank =
       let z = small-of s (r .small) in
-      let e : edgeCount (stateOf (take m block)) ≡ s .e = rw em (r .edges) in
-      let f : Formed (take m block) = rw em (r .formed) in
-      let w : 3 * sideCount (stateOf (take m block)) ≡ q = omega (arith, f .pairs) in
-      record { formed = f; reachable = rw em (r .reachable); scratch = rw w (ap (take q) blank ∙ take-zeros q (length scratch) (omega arith)) }
+      let w : 3 * sideCount (stateOf (partOf s block)) ≡ 6 * s .e - 0 = omega (arith, r .edges, r .formed .pairs) in
+      rw part-is (record { formed = r .formed; reachable = r .reachable; scratch = rw w (ap (take (6 * s .e - 0)) blank ∙ take-zeros (6 * s .e - 0) (length scratch) (omega arith)) })
+
+  module _ {body : List ℕ} {kind : ℕ} (p : OfKind body kind) (k : ℕ) {b c : List ℕ} {n i : ℕ} {full stopped : Bool} where
+    -- calls that only read
+    pub asked-table : kind ≡ 10 → Told b n full c i stopped (linesFor k (growths (growthTable (stateOf (take (m - 0) block)))))
+        → Told b n full c i stopped (linesFor k (respond (stateOf (partOf s block)) (callIn body) .outcome)) × Asked s block block (callIn body)
+    unfolding recordOf callOf respond
+    asked-table e t = rw (call-kind 10 p e) (rw part-is at t, record { runs = r; state = refl })
+
+    pub asked-contacts : kind ≡ 12 → Told b n full c i stopped (linesFor k (touching (contacts (stateOf (take (m - 0) block)))))
+        → Told b n full c i stopped (linesFor k (respond (stateOf (partOf s block)) (callIn body) .outcome)) × Asked s block block (callIn body)
+    unfolding recordOf callOf respond
+    asked-contacts e t = rw (call-kind 12 p e) (rw part-is at t, record { runs = r; state = refl })
 
   -- the call on the part is a call on the block
-  pub call-asked : {b : List ℤ} {a : Answer} (k : Call) → Answers (take m block) b a k → Asked s block (b ++ drop m block) k
-  call-asked {b} {a} k p =
-      let l : length b ≡ blockLength (s .v) (s .e) (s .n) (s .l) = p .len ∙ length-take-le m block part-room ∙ em in
-      let e : partOf s (b ++ drop m block) ≡ b = take-at b (drop m block) (blockLength (s .v) (s .e) (s .n) (s .l)) l in
-      let f : stateOf b ≡ respond (stateOf (partOf s block)) k .state = rw em at (p .state) in
-      record {
-        runs = record {
-          small = r .small;
-          sizes = r .sizes;
-          formed = rw e (p .formed);
-          reachable = rw (e, f) (reachable-next (r .reachable) k);
-          edges = rw e (p .edges ∙ rw em (r .edges));
-        };
-        state = ap stateOf e ∙ f;
-      }
+  module _ {b : List ℤ} {a : Answer} {call : Call} (p : Answers (take (m - 0) block) b a call) where
+    pub asked-block : Asked s block (b ++ drop (m - 0) block) call
+    asked-block =
+        let h : m - 0 ≤ length block = omega (arith, part-room) in
+        let l : length b ≡ blockLength (s .v) (s .e) (s .n) (s .l) = p .len ∙ length-take-le (m - 0) block h ∙ omega arith in
+        let e : partOf s (b ++ drop (m - 0) block) ≡ b = take-at b (drop (m - 0) block) (blockLength (s .v) (s .e) (s .n) (s .l)) l in
+        let f : stateOf b ≡ respond (stateOf (partOf s block)) call .state = rw part-is at (p .state) in
+        record {
+          runs = record {
+            small = r .small;
+            sizes = r .sizes;
+            formed = rw e (p .formed);
+            reachable = rw (e, f) (reachable-next (r .reachable) call);
+            edges = rw e (p .edges ∙ rw part-is (r .edges));
+          };
+          state = ap stateOf e ∙ f;
+        }
 
--- ---- calls that only read
+    pub asked-lines : (k : ℕ) → line k (wordsOf a) ∷ [] ≡ linesFor k (respond (stateOf (partOf s block)) call .outcome)
+    unfolding linesFor
+    asked-lines k = let f : respond (stateOf (partOf s block)) call .outcome ≡ answered a = rw part-is at (p .outcome) in rw f
 
-pub table-asked : (s : Setup) (block : List ℤ) → Runs s block → Asked s block block ReadTable
-unfolding respond
-table-asked s block r = record { runs = r; state = refl }
-
-pub contacts-asked : (s : Setup) (block : List ℤ) → Runs s block → Asked s block block Contacts
-unfolding respond
-contacts-asked s block r = record { runs = r; state = refl }
-
-pub table-outcome : (c : State) → respond c ReadTable .outcome ≡ growths (growthTable c)
-unfolding respond
-table-outcome c = refl
-
-pub contacts-outcome : (c : State) → respond c Contacts .outcome ≡ touching (contacts c)
-unfolding respond
-contacts-outcome c = refl
+-- a part that is left as it was leaves all
+pub part-kept : {t : List ℤ} (q : ℕ) (scratch : List ℤ) → t ≡ take q scratch → t ++ drop q scratch ≡ scratch
+part-kept q scratch e = rw e (take-append-drop q scratch)
