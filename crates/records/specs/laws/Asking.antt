@@ -171,6 +171,10 @@ circle-all c body i k h l q =
     let y : i ≡ k = omega arith in
     rw (← append-nil (map toNat (take k c))) (rw (z, y) at q)
 
+-- the part that is handed on
+pub circle-part : {l : List ℕ} (c : List ℤ) (n : ℕ) → map toNat (take n c) ≡ l → map toNat (take (n - 0) c) ≡ l
+circle-part c n e = let z : n - 0 ≡ n = omega arith in rw z e
+
 -- ---- an opened block
 
 pub opened-usable : {b t : List ℤ} → Opened b t → Usable b t
