@@ -118,3 +118,11 @@ pub record Roomy (block scratch edges virtuals : List ℤ) : Type 0 where
 pub record Turned (k : ℕ) (m m' : Memory) (b : List ℕ) (n : ℕ) (full : Bool) (c : List ℕ) (i : ℕ) (stopped : Bool) (x : Record) : Type 0 where
   pub stands : (s : Stage) → Stands m s → Stands m' (turn k s x .stage)
   pub told : (s : Stage) → Stands m s → Told b n full c i stopped (turn k s x .lines)
+
+-- the same of the record that begins at place i of the input; the one after it begins at j
+pub record Stepped (input : List ℕ) (i j k : ℕ) (m m' : Memory) (b : List ℕ) (n : ℕ) (full : Bool) (c : List ℕ) (l : ℕ) (stopped : Bool) : Type 0 where
+  pub said : Record
+  pub is-next : nextRecord (drop i input) ≡ next said (drop j input)
+  pub turned : Turned k m m' b n full c l stopped said
+  pub on : i < j
+  pub within : j ≤ length input

@@ -9,3 +9,4 @@ pub mod Holding
 pub mod Opening
 pub mod Asking
 pub mod Standing
+pub mod Exported

@@ -1,6 +1,7 @@
 // Records in, lines out. The definitions are in specs/.
 
 pub mod bytes; // numbers of bytes
+pub mod exported; // the call for a host
 pub mod lines; // lines, as far as they fit
 pub mod opening; // the opening
 pub mod record; // whether a body is a record
