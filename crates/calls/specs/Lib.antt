@@ -8,8 +8,8 @@ pub mod Readable
 pub mod Growth
 pub mod Moving
 pub mod Insert
+pub mod Circle
 pub mod Calls
-pub mod Lent
 pub mod Examples
 pub mod Opens
 pub mod laws

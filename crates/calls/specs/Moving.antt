@@ -9,6 +9,7 @@ use Rattle.graph.specs.Basic.{if_then_else_, any, member, distinct}
 use Rattle.graph.specs.State.{State, up, nodeCount, growthAt, dualOf, boundaryOf, overgrownOf, withDual, withOvergrown}
 use Rattle.graph.specs.Open.{dualLimit, growthLimit}
 use Rattle.graph.specs.Node.{Movable, moved, topAmount}
+use Rattle.graph.specs.declared.dual_node.DualNode.{DualNode}
 use Rattle.graph.specs.Form.{sidesOk}
 use Rattle.calls.specs.Readable.{Readable}
 use Rattle.calls.specs.Growth.{passesWeight, topIs, movedStack}
@@ -44,6 +45,11 @@ pub record SidesMovable (c : State) (n d l : ℕ) : Type 0 where
 pub record TopMoves (c : State) (n d l : ℕ) : Type 0 where
   pub movable : length (overgrownOf c n) ≢ 0 → Movable d l (topAmount (overgrownOf c n))
   pub small : d ≡ up → length (overgrownOf c n) ≢ 0 → topAmount (overgrownOf c n) + l ≤ dualLimit
+
+-- the top amount of the record x can be written to node n, if it has one
+pub record TopPut (c : State) (n : ℕ) (x : DualNode) : Type 0 where
+  pub stack : x .overgrown ≡ length (overgrownOf c n)
+  pub small : x .overgrown ≢ 0 → x .top < 9007199254740992
 
 -- and of node n: the same of its dual variable too
 pub record Growing (c : State) (n d l : ℕ) : Type 0 where

@@ -1,15 +1,19 @@
 -- What a call asks of the memory that is lent to it, and what it leaves there.
-use Prim.Native.Nat.{ℕ, _*_}
+use Prim.Native.Nat.{ℕ, _*_, _<_}
 use mathlib.Core.Path.{_≡_}
 use mathlib.Core.Bool.{true}
 use mathlib.Core.List.{List, _++_, map}
-use lib.IntN.{ℤ, pos}
+use lib.IntN.{ℤ, pos, negℤ}
+use lib.Dec.{eqb}
 use lib.ListN.{length, drop}
-use Rattle.graph.specs.State.{vertexCount, edgeCount, sideCount}
+use Rattle.graph.specs.Basic.{if_then_else_}
+use Rattle.graph.specs.State.{up, vertexCount, edgeCount, sideCount, nodeCount, parentOf}
 use Rattle.graph.specs.Sound.{sound}
 use Rattle.graph.specs.Layout.{stateOf}
 use Rattle.graph.specs.Form.{Formed, Becomes}
 use Rattle.pass.specs.Scratch.{zeroScratch}
+use Rattle.pass.specs.Ready.{Preparable}
+use Rattle.calls.specs.Readable.{Readable}
 use Rattle.calls.specs.declared.Answer.{Answer}
 use Rattle.calls.specs.Answer.{Reply}
 
@@ -18,6 +22,18 @@ pub record Usable (b t : List ℤ) : Type 0 where
   pub formed : Formed b
   pub sounds : sound (stateOf b) ≡ true
   pub scratch : t ≡ zeroScratch (3 * sideCount (stateOf b))
+
+-- Memory on which node n, once it is outermost, can be prepared in direction d, and downward too. After a shrinking preparation a state that no
+-- call list reaches need not be sound, but it is such.
+pub record Steady (b t : List ℤ) (n d : ℕ) : Type 0 where
+  pub formed : Formed b
+  pub scratch : t ≡ zeroScratch (3 * sideCount (stateOf b))
+  pub readable : Readable (stateOf b)
+  pub able : n < nodeCount (stateOf b) → parentOf (stateOf b) n ≡ 0 → (e : ℕ) → (e ≡ up → d ≡ up) → Preparable (stateOf b) n e
+
+-- a length along a direction: as it is upward, negated downward
+unfoldable pub along : ℕ → ℤ → ℤ
+along d l = if eqb d up then l else negℤ l
 
 -- after b₀: the answer is that of the reply, and the block holds its state
 pub record Replies (b₀ b : List ℤ) (a : Answer) (r : Reply) : Type 0 where

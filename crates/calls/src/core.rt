@@ -1,12 +1,15 @@
 // The calls on a sound block with a scratch that is all zero.
 
 ghost use mathlib.Core.Path.{_≡_};
+ghost use mathlib.Core.Bool.{true, false};
 ghost use Prim.Native.Nat.{_≤_};
 ghost use lib.IntN.{natAbs};
+ghost use lib.Signed.{nonNeg};
+ghost use Rattle.graph.specs.Sound.{sound};
 ghost use Rattle.graph.specs.Layout.{stateOf};
 ghost use Rattle.graph.specs.Form.{Formed};
 ghost use Rattle.graph.specs.Opening.{Cleared};
-ghost use Rattle.calls.specs.Reply.{Usable, Replies};
+ghost use Rattle.calls.specs.Reply.{Usable, Steady, along, Replies};
 ghost use Rattle.calls.specs.Moving.{Prepared};
 ghost use Rattle.calls.specs.Calls.{setGrowState, prepareDualNodeGrowth, maxUpdateLength, growPrepared, growToward, growDualNode, clear};
 use crate::Answer;
@@ -44,6 +47,31 @@ pub fn prepare_dual_node_growth(b: &mut [i64], t: &mut [i64], n: usize, d: usize
     Answer::Prepared(p)
 }
 
+// How far node n may grow in direction d, as it is.
+pub fn length_unprepared(b: &[i64], n: usize, d: usize) -> Answer
+    requires { ⌜ Formed (now b) × (sound (stateOf (now b)) ≡ true) ⌝ }
+    ensures { λ r. ⌜ Replies (now (b .entry)) (now (b .entry)) r (maxUpdateLength (stateOf (now (b .entry))) n d false) ⌝ }
+{
+    let k = refuse::node_refusal(b, n, 1 < d, false);
+    if k != 0 {
+        return Answer::Refused(k);
+    }
+    scan::scan(b, n, d)
+}
+
+// How far node n may grow in direction d, prepared first. It can be prepared so again.
+pub fn length_prepared(b: &mut [i64], t: &mut [i64], n: usize, d: usize) -> Answer
+    requires { ⌜ Usable (now b) (now t) ⌝ }
+    ensures { λ r. ⌜ Replies (now (b .entry)) (now (b .exit)) r (maxUpdateLength (stateOf (now (b .entry))) n d true) × (now (t .exit) ≡ now (t .entry)) × Steady (now (b .exit)) (now (t .exit)) n d ⌝ }
+{
+    let k = refuse::node_refusal(b, n, 1 < d, true);
+    if k != 0 {
+        return Answer::Refused(k);
+    }
+    prepare::prepare_dual_node_growth(b, t, n, d);
+    scan::scan(b, n, d)
+}
+
 // How far node n may grow in direction d; `first` says whether it is prepared first.
 pub fn compute_maximum_update_length_dual_node(
     b: &mut [i64],
@@ -55,15 +83,10 @@ pub fn compute_maximum_update_length_dual_node(
     requires { ⌜ Usable (now b) (now t) ⌝ }
     ensures { λ r. ⌜ Replies (now (b .entry)) (now (b .exit)) r (maxUpdateLength (stateOf (now (b .entry))) n d first) × (now (t .exit) ≡ now (t .entry)) ⌝ }
 {
-    let k = refuse::node_refusal(b, n, 1 < d, first);
-    if k != 0 {
-        return Answer::Refused(k);
-    }
     if first {
-        prepare::prepare_dual_node_growth(b, t, n, d);
-        return scan::scan(b, n, d);
+        return length_prepared(b, t, n, d);
     }
-    scan::scan(b, n, d)
+    length_unprepared(b, n, d)
 }
 
 // A prepared node n grows by l in direction d, or is refused.
@@ -81,7 +104,7 @@ fn grow_prepared(b: &mut [i64], n: usize, d: usize, l: usize) -> Answer
 
 // Node n is prepared and grows by l in direction d, or is refused.
 fn grow_toward(b: &mut [i64], t: &mut [i64], n: usize, d: usize, l: usize) -> Answer
-    requires { ⌜ Usable (now b) (now t) × (l ≤ 9223372036854775808) ⌝ }
+    requires { ⌜ Steady (now b) (now t) n d × (l ≤ 9223372036854775808) ⌝ }
     ensures { λ r. ⌜ Replies (now (b .entry)) (now (b .exit)) r (growToward (stateOf (now (b .entry))) n d l) × (now (t .exit) ≡ now (t .entry)) ⌝ }
 {
     let k = refuse::node_refusal(b, n, false, true);
@@ -92,10 +115,10 @@ fn grow_toward(b: &mut [i64], t: &mut [i64], n: usize, d: usize, l: usize) -> An
     grow_prepared(b, n, d, l)
 }
 
-// Node n grows by 0: nothing changes.
-fn grow_none(b: &mut [i64], n: usize, length: i64) -> Answer
+// Node n grows by 0, in whatever direction: nothing changes.
+pub fn grow_none(b: &[i64], n: usize, d: usize, length: i64) -> Answer
     requires { ⌜ Formed (now b) × (natAbs length ≡ 0) ⌝ }
-    ensures { λ r. ⌜ Replies (now (b .entry)) (now (b .exit)) r (growDualNode (stateOf (now (b .entry))) n length) ⌝ }
+    ensures { λ r. ⌜ Replies (now (b .entry)) (now (b .entry)) r (growDualNode (stateOf (now (b .entry))) n (along d length)) ⌝ }
 {
     let k = refuse::node_refusal(b, n, false, false);
     if k != 0 {
@@ -104,19 +127,27 @@ fn grow_none(b: &mut [i64], n: usize, length: i64) -> Answer
     Answer::Done
 }
 
+// Node n grows by a length in direction d: below 0, upward turns to downward.
+pub fn grow_along(b: &mut [i64], t: &mut [i64], n: usize, d: usize, length: i64) -> Answer
+    requires { ⌜ Steady (now b) (now t) n d × (d ≤ 1) × (nonNeg length ≡ false → d ≡ 1) ⌝ }
+    ensures { λ r. ⌜ Replies (now (b .entry)) (now (b .exit)) r (growDualNode (stateOf (now (b .entry))) n (along d length)) × (now (t .exit) ≡ now (t .entry)) ⌝ }
+{
+    let l = words::magnitude(length);
+    if l == 0 {
+        return grow_none(b, n, d, length);
+    }
+    if words::non_negative(length) {
+        return grow_toward(b, t, n, d, l);
+    }
+    grow_toward(b, t, n, 0, l)
+}
+
 // Node n grows by a length: below 0 it shrinks.
 pub fn grow_dual_node(b: &mut [i64], t: &mut [i64], n: usize, length: i64) -> Answer
     requires { ⌜ Usable (now b) (now t) ⌝ }
     ensures { λ r. ⌜ Replies (now (b .entry)) (now (b .exit)) r (growDualNode (stateOf (now (b .entry))) n length) × (now (t .exit) ≡ now (t .entry)) ⌝ }
 {
-    let l = words::magnitude(length);
-    if l == 0 {
-        return grow_none(b, n, length);
-    }
-    if words::non_negative(length) {
-        return grow_toward(b, t, n, 1, l);
-    }
-    grow_toward(b, t, n, 0, l)
+    grow_along(b, t, n, 1, length)
 }
 
 // Everything but the graph is emptied.

@@ -57,7 +57,7 @@ fn occupied(b: &[i64], v: usize) -> bool
 }
 
 // What refuses a defect at vertex v in grow state x: 0 or the number.
-fn defect_refusal(b: &[i64], v: usize, x: usize) -> usize
+pub fn defect_refusal(b: &[i64], v: usize, x: usize) -> usize
     requires { ⌜ Formed (now b) ⌝ }
     ensures { λ r. ⌜ r ≡ defectRefusal (stateOf (now (b .entry))) v x ⌝ }
 {

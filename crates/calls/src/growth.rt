@@ -8,12 +8,12 @@ ghost use Rattle.graph.specs.Word.{toNat};
 ghost use Prim.Native.Nat.{_<_, _≤_};
 ghost use Rattle.graph.specs.Basic.{all, any, fold};
 ghost use Rattle.graph.specs.State.{sideCount, nodeCount, boundaryOf, overgrownOf, growthAt, withOvergrown};
-ghost use Rattle.graph.specs.Node.{Movable, moved};
+ghost use Rattle.graph.specs.Node.{Movable, moved, withTop};
 ghost use Rattle.graph.specs.Layout.{stateOf};
 ghost use Rattle.graph.specs.Form.{Formed, Becomes, sidesOk};
 ghost use Rattle.calls.specs.Readable.{Readable};
-ghost use Rattle.calls.specs.Growth.{passesWeight, growCheck, movedStack, moveSide, growApply};
-ghost use Rattle.calls.specs.Moving.{numberRefuses, nodeRefuses, sideRefuses, refuses, moveNode, TopMoves, SidesMovable, Growing};
+ghost use Rattle.calls.specs.Growth.{passesWeight, growCheck, moveSide, growApply};
+ghost use Rattle.calls.specs.Moving.{numberRefuses, nodeRefuses, sideRefuses, refuses, moveNode, SidesMovable, TopPut, Growing};
 use graph::dual_node;
 use graph::dual_node::DualNode;
 use graph::edge;
@@ -137,25 +137,24 @@ pub fn grow_check(b: &[i64], n: usize, d: usize, l: usize) -> usize
 
 // ---- the growth
 
-// The top amount of node n is moved, if there is one.
-fn move_top(b: &mut [i64], n: usize, d: usize, l: usize)
-    requires { ⌜ Formed (now b) × (n < nodeCount (stateOf (now b))) × TopMoves (stateOf (now b)) n d l ⌝ }
-    ensures { λ r. ⌜ Becomes (now (b .entry)) (now (b .exit)) (withOvergrown (stateOf (now (b .entry))) n (movedStack d l (overgrownOf (stateOf (now (b .entry))) n))) ⌝ }
+// The top amount of a record is written back to node n, if there is one.
+fn put_top(b: &mut [i64], n: usize, x: DualNode)
+    requires { ⌜ Formed (now b) × (n < nodeCount (stateOf (now b))) × TopPut (stateOf (now b)) n x ⌝ }
+    ensures { λ r. ⌜ Becomes (now (b .entry)) (now (b .exit)) (withOvergrown (stateOf (now (b .entry))) n (withTop (x .top) (overgrownOf (stateOf (now (b .entry))) n))) ⌝ }
 {
-    if lists::overgrown_len(b, n) != 0 {
-        let x = top::amount(b, n);
-        top::set_amount(b, n, dual_node::move_number(d, l, x));
+    if x.overgrown != 0 {
+        top::set_amount(b, n, x.top);
     }
 }
 
-// The dual variable and the top amount of node n are moved.
+// The dual variable and the top amount of node n are moved: its record is handed back grown.
 fn move_node(b: &mut [i64], n: usize, d: usize, l: usize)
     requires { ⌜ Formed (now b) × (n < nodeCount (stateOf (now b))) × Growing (stateOf (now b)) n d l ⌝ }
     ensures { λ r. ⌜ Becomes (now (b .entry)) (now (b .exit)) (moveNode (stateOf (now (b .entry))) n d l) ⌝ }
 {
-    let y = node::dual(b, n);
-    node::set_dual(b, n, dual_node::move_number(d, l, y));
-    move_top(b, n, d, l);
+    let x = top::node(b, n).grown(d, l);
+    node::set_dual(b, n, x.dual);
+    put_top(b, n, x);
 }
 
 // Side s is moved.

@@ -61,17 +61,16 @@ pub fn contacts(b: &[i64], list: &mut [i64]) -> usize
     k
 }
 
-// The vertex of node n, down its first members.
-pub fn representative(b: &[i64], n: usize) -> usize
+// The vertex of node n: its own, or that of its first member, which is numbered below n.
+pub fn get_representative_vertex(b: &[i64], n: usize) -> usize
     requires { ⌜ Formed (now b) × (sound (stateOf (now b)) ≡ true) × (n < nodeCount (stateOf (now b))) ⌝ }
     ensures { λ r. ⌜ r ≡ representativeVertexOf (stateOf (now (b .entry))) n ⌝ }
 {
     let v = rows::vertex_count(b);
-    let mut m = n;
-    let mut x = node::class(b, n);
-    while v <= x {
-        m = x - v;
-        x = node::class(b, m);
+    let x = node::class(b, n);
+    if x < v {
+        x
+    } else {
+        get_representative_vertex(b, x - v)
     }
-    x
 }

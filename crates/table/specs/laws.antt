@@ -7,3 +7,7 @@ pub mod Opening
 pub mod History
 pub mod Duals
 pub mod Runs
+pub mod Whole
+pub mod Kept
+pub mod Steps
+pub mod Delivered

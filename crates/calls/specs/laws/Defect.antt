@@ -159,30 +159,35 @@ module _ {b₀ b₁ b₂ : List ℤ} (v n : ℕ) (p : Becomes b₀ b₁ (withDef
 
 -- ---- the node
 
--- the graph, the nodes and the limits are the same
-record Unmoved (c d : State) : Type 0 where
-  graph : d .graph ≡ c .graph
-  nodes : d .nodes ≡ c .nodes
-  nodeLimit : d .nodeLimit ≡ c .nodeLimit
-  storeLimit : d .storeLimit ≡ c .storeLimit
+-- the graph, the nodes' lists and their number, and the limits are the same
+pub record SameLists (c d : State) : Type 0 where
+  pub graph : d .graph ≡ c .graph
+  pub boundary : d .nodes .boundary ≡ c .nodes .boundary
+  pub overgrown : d .nodes .overgrown ≡ c .nodes .overgrown
+  pub count : nodeCount d ≡ nodeCount c
+  pub nodeLimit : d .nodeLimit ≡ c .nodeLimit
+  pub storeLimit : d .storeLimit ≡ c .storeLimit
 
-unmoved-step : (n : ℕ) (c d : State) (t : ℕ) → Unmoved c d → Unmoved c (holdStep n d t)
+pub same-refl : (c : State) → SameLists c c
+same-refl c = record { graph = refl; boundary = refl; overgrown = refl; count = refl; nodeLimit = refl; storeLimit = refl }
+
+same-hold : (n : ℕ) (c d : State) (t : ℕ) → SameLists c d → SameLists c (holdStep n d t)
 unfolding holdStep heldSide withGrandson withHolder withSides
-unmoved-step n c d t p = record { graph = p .graph; nodes = p .nodes; nodeLimit = p .nodeLimit; storeLimit = p .storeLimit }
+same-hold n c d t p = record { graph = p .graph; boundary = p .boundary; overgrown = p .overgrown; count = p .count; nodeLimit = p .nodeLimit; storeLimit = p .storeLimit }
 
-unmoved-vertex : (n : ℕ) (c : State) (v : ℕ) → Unmoved c (heldVertex (withDefect c v 1) v n (n + 1))
+same-vertex : (n : ℕ) (c : State) (v : ℕ) → SameLists c (heldVertex (withDefect c v 1) v n (n + 1))
 unfolding heldVertex withVertexGrandson withVertexHolder withDefect withVertices
-unmoved-vertex n c v = record { graph = refl; nodes = refl; nodeLimit = refl; storeLimit = refl }
+same-vertex n c v = record { graph = refl; boundary = refl; overgrown = refl; count = refl; nodeLimit = refl; storeLimit = refl }
 
-unmoved-defect : (n : ℕ) (c : State) (v : ℕ) → Unmoved c (heldDefect c v n)
-unmoved-defect n c v = fold-keeps (holdStep n) (Unmoved c) (unmoved-step n c) (heldVertex (withDefect c v 1) v n (n + 1)) (sidesAt c v) (unmoved-vertex n c v)
+same-defect : (n : ℕ) (c : State) (v : ℕ) → SameLists c (heldDefect c v n)
+same-defect n c v = fold-keeps (holdStep n) (SameLists c) (same-hold n c) (heldVertex (withDefect c v 1) v n (n + 1)) (sidesAt c v) (same-vertex n c v)
 
-unmoved-entries : {c d : State} → Unmoved c d → entries d ≡ entries c
+same-entries : {c d : State} → SameLists c d → entries d ≡ entries c
 unfolding entries entriesOf
-unmoved-entries p = rw (p .nodes)
+same-entries p = rw (p .count, p .boundary, p .overgrown)
 
 -- how many nodes a block may have
-laid-nodes : (b : List ℤ) → Laid b → stateOf b .nodeLimit ≤ 1024
+pub laid-nodes : (b : List ℤ) → Laid b → stateOf b .nodeLimit ≤ 1024
 unfolding Laid
 laid-nodes b q = omega (arith, q .counted .node-limit, q .sized .n-max)
 
@@ -212,8 +217,8 @@ module _ {b t : List ℤ} (u : Usable b t) (v x k : ℕ) (e : k ≡ defectRefusa
     defect-state-small = omega (arith, taken .growState)
 
     module _ (n l : ℕ) {b₃ t₃ : List ℤ} (en : n ≡ nodeCount (stateOf b)) (p : Becomes b b₃ (heldDefect (stateOf b) v n)) (g : Holding t₃ (sideCount (stateOf b)) (sidesAt (stateOf b) v) [] []) (el : l ≡ length (sidesAt (stateOf b) v)) where
-      still : Unmoved (stateOf b) (stateOf b₃)
-      still = rw (p .state) (unmoved-defect n (stateOf b) v)
+      still : SameLists (stateOf b) (stateOf b₃)
+      still = rw (p .state) (same-defect n (stateOf b) v)
 
       pub defect-count-left : nodeCount (stateOf b₃) < stateOf b₃ .nodeLimit
       defect-count-left = omega (arith, p .nodes, still .nodeLimit, taken .count)
@@ -222,7 +227,7 @@ module _ {b t : List ℤ} (u : Usable b t) (v x k : ℕ) (e : k ≡ defectRefusa
       defect-read = omega (arith, el, g .keeps, g .size)
 
       pub defect-room : entries (stateOf b₃) + l ≤ stateOf b₃ .storeLimit
-      defect-room = omega (arith, el, g .keeps, unmoved-entries still, still .storeLimit, store-room (stateOf b) [] 1 (taken .room), entries-none (stateOf b))
+      defect-room = omega (arith, el, g .keeps, same-entries still, still .storeLimit, store-room (stateOf b) [] 1 (taken .room), entries-none (stateOf b))
 
       pub defect-done : {b₄ : List ℤ} → Inserted b₃ b₄ (withNode (stateOf b₃) (classFrom (vertexCount (stateOf b₃)) v) x (numbersAt t₃ 0 l)) → RepliesInsert b b₄ (Node n) (insertDefect (stateOf b) v x)
       unfolding insertDefect unless defectPut

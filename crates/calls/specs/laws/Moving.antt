@@ -4,26 +4,27 @@ use native.Mathlib.Omega.{arith}
 use native.Mathlib.Decide.{ℕ-discrete as decEq}
 use mathlib.Core.Path.{_≡_, refl, sym, ap, _∙_}
 use mathlib.Core.Logic.{_≢_}
-use mathlib.Core.Bool.{Bool, true, false, _||_}
+use mathlib.Core.Bool.{Bool, true, false}
 use mathlib.Core.List.{List, [], _∷_}
 use lib.IntN.{ℤ}
-use lib.Dec.{eqb, ltb}
-use lib.ListN.{length, getD, set, take}
+use lib.Dec.{ltb}
+use lib.ListN.{length, getD, take}
 use lib.Seq.{set-getD, take-all}
 use borrow.Author.Tests.{eq-eqb, ne-eqb, ltb-false}
-use Rattle.graph.specs.Basic.{if_then_else_, fold, any, all, member, distinct}
-use Rattle.graph.specs.State.{State, Overgrown, up, sideCount, nodeCount, growthAt, dualOf, boundaryOf, overgrownOf, withNodes, withDual, withOvergrown}
-use Rattle.graph.specs.Node.{Movable, moved, topAmount, withTop}
+use Rattle.graph.specs.Basic.{fold, any, member, distinct}
+use Rattle.graph.specs.State.{State, Overgrown, up, growthAt, dualOf, boundaryOf, overgrownOf, withNodes, withDual, withOvergrown}
+use Rattle.graph.specs.Node.{Movable, NodeMovable, moved, movedTop, grownNode, nodeAt, topAmount, withTop}
+use Rattle.graph.specs.declared.dual_node.DualNode.{DualNode}
 use Rattle.graph.specs.Layout.{stateOf}
 use Rattle.graph.specs.Form.{Formed, Becomes, sidesOk}
 use Rattle.graph.specs.Open.{dualLimit, growthLimit}
 use Rattle.graph.specs.laws.State.{fold-more}
-use Rattle.graph.specs.laws.Row.{becomes-none}
+use Rattle.graph.specs.laws.Row.{becomes-none, becomes-then}
 use Rattle.graph.specs.laws.Members.{by-test, clash, member-at, member-cons, distinct-head, distinct-tail}
-use Rattle.calls.specs.Growth.{passesWeight, passesLimit, fallsShort, growCheck, topIs, movedStack, moveSide, growApply}
-use Rattle.calls.specs.Moving.{numberRefuses, nodeRefuses, sideRefuses, refuses, moveNode, TopMoves, SidesMovable, Growing, Prepared}
+use Rattle.calls.specs.Growth.{passesLimit, fallsShort, growCheck, topIs, movedStack, moveSide, growApply}
+use Rattle.calls.specs.Moving.{numberRefuses, nodeRefuses, sideRefuses, refuses, moveNode, TopMoves, TopPut, SidesMovable, Growing, Prepared}
 use Rattle.calls.specs.laws.Accepted.{GrowAccepted, grow-accepted, ShrinkAccepted, shrink-accepted}
-use Rattle.calls.specs.laws.Growth.{Moved, sides-moved, move-out}
+use Rattle.calls.specs.laws.Growth.{sides-moved, move-out}
 
 -- ---- what refuses it
 
@@ -103,51 +104,63 @@ growing-of c n d l p ok =
 
 -- ---- the node
 
-stack-moved : (d l : ℕ) (o : List Overgrown) → withTop (moved d l (topAmount o)) o ≡ movedStack d l o
-unfolding withTop topAmount movedStack
+stack-moved : (d l : ℕ) (o : List Overgrown) → withTop (movedTop d l (length o) (topAmount o)) o ≡ movedStack d l o
+unfolding withTop movedTop topAmount movedStack
 stack-moved d l [] = refl
-stack-moved d l (x ∷ o) = refl
+stack-moved d l (x ∷ o) = rw (ne-eqb (suc (length o)) 0 (λ e. absurd (omega arith)))
 
-stack-empty : (d l : ℕ) (o : List Overgrown) → length o ≡ 0 → movedStack d l o ≡ o
-unfolding movedStack
-stack-empty d l [] h = refl
-stack-empty d l (x ∷ o) h = absurd (omega arith)
-
--- a moved amount fits, if the amount does
-pub top-fits : (c : State) (n d l : ℕ) → TopMoves c n d l → length (overgrownOf c n) ≢ 0 → topAmount (overgrownOf c n) < 9007199254740992 → moved d l (topAmount (overgrownOf c n)) < 9007199254740992
+top-fits : (c : State) (n d l : ℕ) → TopMoves c n d l → length (overgrownOf c n) ≢ 0 → topAmount (overgrownOf c n) < 9007199254740992 → movedTop d l (length (overgrownOf c n)) (topAmount (overgrownOf c n)) < 9007199254740992
+unfolding movedTop
 top-fits c n d l g h k =
-    elim (decEq d up) [
+    rw (ne-eqb (length (overgrownOf c n)) 0 h)
+    (elim (decEq d up) [
       | yes e ↦ rw (moved-up d l (topAmount (overgrownOf c n)) e) (omega (arith, g .small e h))
       | no e ↦ rw (moved-down d l (topAmount (overgrownOf c n)) e) (omega (arith, k))
-    ]
+    ])
 
--- with a stack its top is set
-pub top-moved : (b₀ b : List ℤ) (n d l x : ℕ) → x ≡ moved d l (topAmount (overgrownOf (stateOf b₀) n))
-    → Becomes b₀ b (withOvergrown (stateOf b₀) n (withTop x (overgrownOf (stateOf b₀) n))) → Becomes b₀ b (withOvergrown (stateOf b₀) n (movedStack d l (overgrownOf (stateOf b₀) n)))
-top-moved b₀ b n d l x e p = rw (e, stack-moved d l (overgrownOf (stateOf b₀) n)) at p
+-- a stack without entries is put back as it is
+pub top-still : (b : List ℤ) (n : ℕ) (x : DualNode) → Formed b → TopPut (stateOf b) n x → x .overgrown ≡ 0 → Becomes b b (withOvergrown (stateOf b) n (withTop (x .top) (overgrownOf (stateOf b) n)))
+unfolding withOvergrown withNodes withTop
+top-still b n x f p h =
+    let e : withTop (x .top) (overgrownOf (stateOf b) n) ≡ overgrownOf (stateOf b) n = none (overgrownOf (stateOf b) n) (sym (p .stack) ∙ h) in
+    becomes-none b _ f (sym (rw (e, set-getD (stateOf b .nodes .overgrown) n [])))
+  where
+    none : (o : List Overgrown) → length o ≡ 0 → withTop (x .top) o ≡ o
+    none [] k = refl
+    none (y ∷ o) k = absurd (omega arith)
 
--- without one nothing is
-pub top-still : (b : List ℤ) (n d l : ℕ) → Formed b → length (overgrownOf (stateOf b) n) ≡ 0 → Becomes b b (withOvergrown (stateOf b) n (movedStack d l (overgrownOf (stateOf b) n)))
-unfolding withOvergrown withNodes
-top-still b n d l f h = becomes-none b _ f (sym (rw (stack-empty d l (overgrownOf (stateOf b) n) h, set-getD (stateOf b .nodes .overgrown) n [])))
+-- node n can be grown as a record, and the record handed back
+module _ (c : State) (n d l : ℕ) (g : Growing c n d l) where
+  pub node-movable : NodeMovable d l (nodeAt c n)
+  unfolding nodeAt
+  node-movable = record { dual = g .dual; top = g .top .movable }
 
--- moving the dual variable leaves the stack
-pub top-later : (c : State) (n d l y : ℕ) → TopMoves c n d l → TopMoves (withDual c n y) n d l
-unfolding withDual withNodes
-top-later c n d l y g = record { movable = g .movable; small = g .small }
+  module _ {x : DualNode} (e : x ≡ grownNode d l (nodeAt c n)) where
+    grown-dual : x .dual ≡ moved d l (dualOf c n)
+    unfolding grownNode nodeAt
+    grown-dual = ap (λ (y : DualNode). y .dual) e
 
-pub dual-then-top : (b₀ b₁ b : List ℤ) (n d l y : ℕ) → y ≡ moved d l (dualOf (stateOf b₀) n) → Becomes b₀ b₁ (withDual (stateOf b₀) n y)
-    → Becomes b₁ b (withOvergrown (stateOf b₁) n (movedStack d l (overgrownOf (stateOf b₁) n))) → Becomes b₀ b (moveNode (stateOf b₀) n d l)
-unfolding moveNode withDual withNodes
-dual-then-top b₀ b₁ b n d l y e p q = record {
-  formed = q .formed;
-  state = q .state ∙ rw (p .state, e);
-  vertices = q .vertices ∙ p .vertices;
-  edges = q .edges ∙ p .edges;
-  sides = q .sides ∙ p .sides;
-  nodes = q .nodes ∙ p .nodes;
-  len = q .len ∙ p .len;
-}
+    grown-stack : x .overgrown ≡ length (overgrownOf c n)
+    unfolding grownNode nodeAt
+    grown-stack = ap (λ (y : DualNode). y .overgrown) e
+
+    grown-top : x .top ≡ movedTop d l (length (overgrownOf c n)) (topAmount (overgrownOf c n))
+    unfolding grownNode nodeAt
+    grown-top = ap (λ (y : DualNode). y .top) e
+
+    pub grown-small : x .dual < 9223372036854775808
+    grown-small = rw grown-dual (omega (arith, g .dual-small))
+
+    pub grown-put : nodeAt c n .top < 9007199254740992 → TopPut (withDual c n (x .dual)) n x
+    unfolding withDual withNodes nodeAt
+    grown-put k = record { stack = grown-stack; small = λ h. rw grown-top (top-fits c n d l (g .top) (λ z. h (grown-stack ∙ z)) k) }
+
+    grown-state : withOvergrown (withDual c n (x .dual)) n (withTop (x .top) (overgrownOf (withDual c n (x .dual)) n)) ≡ moveNode c n d l
+    unfolding moveNode withDual withNodes
+    grown-state = rw (grown-dual, grown-top, stack-moved d l (overgrownOf c n))
+
+    pub dual-then-top : {b₀ b₁ b : List ℤ} → Becomes b₀ b₁ (withDual c n (x .dual)) → Becomes b₁ b (withOvergrown (stateOf b₁) n (withTop (x .top) (overgrownOf (stateOf b₁) n))) → Becomes b₀ b (moveNode c n d l)
+    dual-then-top p q = rw (← grown-state) (becomes-then p (rw (p .state) at q))
 
 -- ---- the sides
 

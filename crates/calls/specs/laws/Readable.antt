@@ -1,5 +1,5 @@
 -- A sound state can be read for the length answer, and so can the state that a preparation of it leaves, in either direction.
-use Prim.Native.Nat.{ℕ, _+_, _-_, _*_, _≤_, _<_}
+use Prim.Native.Nat.{ℕ, _+_, _*_, _≤_, _<_}
 use native.Mathlib.Omega.{arith}
 use native.Mathlib.Decide.{ℕ-discrete as decEq, decLt}
 use mathlib.Core.Path.{_≡_, sym}
@@ -23,7 +23,7 @@ use Rattle.graph.specs.laws.Sounds.{Sound, sound-facts}
 use Rattle.pass.specs.Work.{Work, onState, keep, keepOnce, note, callAnother, startPass, finishPass}
 use Rattle.pass.specs.Shrink.{emptyTops, belowTops, dropSide, dropStep, shrinkStep, closed, releaseSide, releaseStep, dropped, shrinkScanned, shrinkPass}
 use Rattle.pass.specs.Prepare.{prepareNode}
-use Rattle.pass.specs.Ready.{Growable}
+use Rattle.pass.specs.Ready.{Growable, Preparable}
 use Rattle.pass.specs.laws.Passes.{Passed, passed-refl, passed-trans, shrink-passed}
 use Rattle.pass.specs.laws.Fits.{Listed, shrink-pass-listed}
 use Rattle.pass.specs.laws.GrowSound.{finish-boundary}
@@ -153,30 +153,38 @@ module _ (n : ℕ) (c₀ : State) (z : Shape c₀) (node : n < nodeCount c₀) (
 
 -- ---- what preparation leaves
 
-module _ (b : List ℤ) (f : Formed b) (n : ℕ) (node : n < nodeCount (stateOf b)) (g : Growable (stateOf b) n) (room : storeShort (stateOf b) (n ∷ []) 1 ≡ false) where
+module _ (b : List ℤ) (f : Formed b) (n d : ℕ) (node : n < nodeCount (stateOf b)) (r : Readable (stateOf b)) (g : Preparable (stateOf b) n d) (room : storeShort (stateOf b) (n ∷ []) 1 ≡ false) where
   z : Shape (stateOf b)
   z = laid-shape b (f .laid)
 
   pair : 2 * edgeCount (stateOf b) ≡ sideCount (stateOf b)
   pair = sym (f .pairs)
 
-  between : (d : ℕ) → d ≢ up → Between n (stateOf b) (prepareNode (stateOf b) n d .state)
+  between : d ≢ up → Between n (stateOf b) (prepareNode (stateOf b) n d .state)
   unfolding sidesOk
-  between d h =
+  between h =
       let step = between-step n (stateOf b) z node (rw pair (formed-sides b f)) d h in
       prepare-leaves n d (Between n (stateOf b)) (Between n (stateOf b)) (λ c p q. step c p) (λ c p q. step c p) (stateOf b) (formed-ends b f) (z .vertexHolder)
-      (record { passed = passed-refl n (stateOf b); holders = sound-readable (stateOf b) z (g .sounds) .holders; inside = rw pair (sound-sides-ok (stateOf b) (g .sounds) n node); once = sound-once (stateOf b) (g .sounds) n node (g .outer) })
+      (record { passed = passed-refl n (stateOf b); holders = r .holders; inside = rw pair (g .shrinks h .sides); once = g .shrinks h .once })
 
-  up-sound : sound (prepareNode (stateOf b) n up .state) ≡ true
-  up-sound = prepare-up-sound (stateOf b) z (g .sounds) (formed-vertices b f) n node (g .outer) room
+  -- upward a sound state is left
+  pub prepared-up : d ≡ up → Growable (prepareNode (stateOf b) n d .state) n
+  prepared-up e =
+      rw e
+      (record {
+        sounds = prepare-up-sound (stateOf b) z (g .grows e .sounds) (formed-vertices b f) n node (g .grows e .outer) room;
+        outer = rw (prepare-passed (stateOf b) n up .parent) (g .grows e .outer);
+      })
 
-  pub prepared-readable : (d : ℕ) → Readable (prepareNode (stateOf b) n d .state)
-  prepared-readable d =
+  after-node : n < nodeCount (prepareNode (stateOf b) n d .state)
+  after-node = rw (prepare-passed (stateOf b) n d .growState) node
+
+  pub prepared-readable : Readable (prepareNode (stateOf b) n d .state)
+  prepared-readable =
       elim (decEq d up) [
-        | yes e ↦ rw e (sound-readable (prepareNode (stateOf b) n up .state) (shape-prepared (stateOf b) n up z) up-sound)
+        | yes e ↦ sound-readable (prepareNode (stateOf b) n d .state) (shape-prepared (stateOf b) n d z) (prepared-up e .sounds)
         | no e ↦
-            let q : Between n (stateOf b) (prepareNode (stateOf b) n d .state) = between d e in
-            let r : Readable (stateOf b) = sound-readable (stateOf b) z (g .sounds) in
+            let q : Between n (stateOf b) (prepareNode (stateOf b) n d .state) = between e in
             record {
               holders = λ s. rw (q .passed .growState) (q .holders s);
               growths = λ s. rw (q .passed .growth) (r .growths s);
@@ -184,19 +192,17 @@ module _ (b : List ℤ) (f : Formed b) (n : ℕ) (node : n < nodeCount (stateOf 
             }
       ]
 
-  pub prepared-sides-ok : (d : ℕ) → sidesOk (prepareNode (stateOf b) n d .state) n ≡ true
+  pub prepared-sides-ok : sidesOk (prepareNode (stateOf b) n d .state) n ≡ true
   unfolding sidesOk
-  prepared-sides-ok d =
+  prepared-sides-ok =
       elim (decEq d up) [
-        | yes e ↦ rw e (sound-sides-ok (prepareNode (stateOf b) n up .state) up-sound n (rw (prepare-passed (stateOf b) n up .growState) node))
-        | no e ↦ let q : Between n (stateOf b) (prepareNode (stateOf b) n d .state) = between d e in rw (q .passed .graph, ← pair) (q .inside)
+        | yes e ↦ sound-sides-ok (prepareNode (stateOf b) n d .state) (prepared-up e .sounds) n after-node
+        | no e ↦ let q : Between n (stateOf b) (prepareNode (stateOf b) n d .state) = between e in rw (q .passed .graph, ← pair) (q .inside)
       ]
 
-  pub prepared-once : (d : ℕ) → distinct (boundaryOf (prepareNode (stateOf b) n d .state) n) ≡ true
-  prepared-once d =
+  pub prepared-once : distinct (boundaryOf (prepareNode (stateOf b) n d .state) n) ≡ true
+  prepared-once =
       elim (decEq d up) [
-        | yes e ↦
-            let q = prepare-passed (stateOf b) n up in
-            rw e (sound-once (prepareNode (stateOf b) n up .state) up-sound n (rw (q .growState) node) (rw (q .parent) (g .outer)))
-        | no e ↦ between d e .once
+        | yes e ↦ sound-once (prepareNode (stateOf b) n d .state) (prepared-up e .sounds) n after-node (prepared-up e .outer)
+        | no e ↦ between e .once
       ]

@@ -1,23 +1,26 @@
 -- What the calls on a node leave: a refusal with nothing changed, or the state that is defined.
-use Prim.Native.Nat.{ℕ, zero, suc, _-_, _<_}
+use Prim.Native.Nat.{ℕ, zero, suc, _*_, _≤_, _<_}
 use native.Mathlib.Omega.{arith}
+use native.Mathlib.Decide.{ℕ-discrete as decEq}
 use mathlib.Core.Path.{_≡_, refl, sym, ap, _∙_}
 use mathlib.Core.Logic.{_≢_}
 use mathlib.Core.Bool.{Bool, true, false, _&&_}
 use mathlib.Core.List.{List, [], _∷_}
 use lib.IntN.{ℤ, pos, negsuc, natAbs}
 use lib.Signed.{nonNeg}
-use lib.Dec.{ltb}
+use lib.Dec.{ltb, eqb}
 use borrow.Author.Tests.{eq-eqb, ne-eqb}
 use Rattle.graph.specs.State.{State, up, down, shrinking, nodeCount, withGrowState}
 use Rattle.graph.specs.Sound.{sound}
 use Rattle.graph.specs.Layout.{stateOf}
 use Rattle.graph.specs.Form.{Formed, Becomes, sidesOk}
-use Rattle.graph.specs.laws.Row.{becomes-none}
+use Rattle.graph.specs.laws.Row.{becomes-none, becomes-then}
 use Rattle.pass.specs.Prepare.{prepareNode}
-use Rattle.pass.specs.Ready.{Ready, Growable, Preparable, AfterPreparation}
+use Rattle.pass.specs.Ready.{Ready, Preparable, AfterPreparation}
 use Rattle.pass.specs.laws.Preparing.{sound-preparable}
 use Rattle.graph.specs.laws.Form.{laid-shape}
+use Rattle.graph.specs.laws.Members.{by-test}
+use Rattle.pass.specs.Scratch.{zeroScratch}
 use Rattle.calls.specs.declared.Answer.{Answer}
 use Rattle.calls.specs.declared.Answer.the-variants.{Done, Refused}
 use Rattle.calls.specs.declared.Answer.the-variants as Says
@@ -28,10 +31,10 @@ use Rattle.calls.specs.Growth.{growCheck, growApply}
 use Rattle.calls.specs.Calls.{setGrowState, prepareDualNodeGrowth, readied, maxUpdateLength, growPrepared, growToward, growDualNode}
 use Rattle.calls.specs.Readable.{Readable}
 use Rattle.calls.specs.Moving.{Prepared}
-use Rattle.calls.specs.Reply.{Usable, Replies}
+use Rattle.calls.specs.Reply.{Usable, Steady, along, Replies}
 use Rattle.calls.specs.laws.Accepted.{NodeAccepted, node-accepted, store-room}
 use Rattle.calls.specs.laws.Refuse.{entries-with}
-use Rattle.calls.specs.laws.Readable.{sound-readable, sound-sides-ok, prepared-readable, prepared-sides-ok, prepared-once}
+use Rattle.calls.specs.laws.Readable.{sound-readable, sound-sides-ok, prepared-up, prepared-readable, prepared-sides-ok, prepared-once}
 
 -- ---- refused, or not
 
@@ -42,10 +45,6 @@ replies-refused b r k f n = rw (ne-eqb k 0 n) (record { answer = refl; block = b
 pub replies-accepted : {b₀ b : List ℤ} {a : Answer} {r : Reply} (k : ℕ) → k ≡ 0 → Replies b₀ b a r → Replies b₀ b a (unless k (stateOf b₀) r)
 unfolding unless
 replies-accepted k e p = rw (eq-eqb k 0 e) p
-
--- one change after another
-pub becomes-then : {b₀ b₁ b : List ℤ} {c₁ c : State} → Becomes b₀ b₁ c₁ → Becomes b₁ b c → Becomes b₀ b c
-becomes-then p q = record { formed = q .formed; state = q .state; vertices = q .vertices ∙ p .vertices; edges = q .edges ∙ p .edges; sides = q .sides ∙ p .sides; nodes = q .nodes ∙ p .nodes; len = q .len ∙ p .len }
 
 -- ---- set state
 
@@ -63,7 +62,20 @@ module _ (b : List ℤ) (n x k : ℕ) (e : k ≡ nodeRefusal (stateOf b) n (ltb 
 
 -- ---- what a preparation asks, where the call is accepted
 
-module _ {b t : List ℤ} (u : Usable b t) (n : ℕ) (wrong : Bool) (a : NodeAccepted (stateOf b) n wrong (storeShort (stateOf b) (n ∷ []) 1)) where
+-- a sound block can be prepared in every direction
+pub usable-steady : {b t : List ℤ} → Usable b t → (n d : ℕ) → Steady b t n d
+usable-steady {b} u n d = record {
+  formed = u .formed;
+  scratch = u .scratch;
+  readable = sound-readable (stateOf b) (laid-shape b (u .formed .laid)) (u .sounds);
+  able = λ h o e q. sound-preparable b (u .formed) n e h (record { sounds = u .sounds; outer = o });
+}
+
+-- and so can one that can be prepared upward
+pub steady-other : {b t : List ℤ} {n : ℕ} → Steady b t n up → (d : ℕ) → Steady b t n d
+steady-other s d = record { formed = s .formed; scratch = s .scratch; readable = s .readable; able = λ h o e q. s .able h o e (λ x. refl) }
+
+module _ {b t : List ℤ} {n d : ℕ} (u : Steady b t n d) (wrong : Bool) (a : NodeAccepted (stateOf b) n wrong (storeShort (stateOf b) (n ∷ []) 1)) where
   pub accepted-ready : Ready b t n
   accepted-ready = record {
     formed = u .formed;
@@ -72,25 +84,34 @@ module _ {b t : List ℤ} (u : Usable b t) (n : ℕ) (wrong : Bool) (a : NodeAcc
     room = omega (arith, store-room (stateOf b) (n ∷ []) 1 (a .room), entries-with (stateOf b) n (a .inside));
   }
 
-  pub accepted-growable : Growable (stateOf b) n
-  accepted-growable = record { sounds = u .sounds; outer = a .outer }
+  pub accepted-able : Preparable (stateOf b) n d
+  accepted-able = u .able (a .inside) (a .outer) d (λ e. e)
 
-  pub accepted-able : (d : ℕ) → Preparable (stateOf b) n d
-  accepted-able d = sound-preparable b (u .formed) n d (a .inside) accepted-growable
+  module _ {b' t' : List ℤ} {k : ℕ} (p : AfterPreparation b b' t t' (prepareNode (stateOf b) n d) k) where
+    prepared-read : Readable (stateOf b')
+    prepared-read = rw (p .block .state) (prepared-readable b (u .formed) n d (a .inside) (u .readable) accepted-able (a .room))
 
-  -- what is prepared can be scanned
-  module _ {b' t' : List ℤ} (d : ℕ) {k : ℕ} (p : AfterPreparation b b' t t' (prepareNode (stateOf b) n d) k) where
-    pub prepared-read : Readable (stateOf b')
-    prepared-read = rw (p .block .state) (prepared-readable b (u .formed) n (a .inside) accepted-growable (a .room) d)
-
-    pub prepared-node : n < nodeCount (stateOf b')
-    prepared-node = omega (arith, p .block .nodes, a .inside)
-
-    pub prepared-sides : sidesOk (stateOf b') n ≡ true
-    prepared-sides = rw (p .block .state) (prepared-sides-ok b (u .formed) n (a .inside) accepted-growable (a .room) d)
-
+    -- what is prepared can be scanned and grown
     pub prepared-grows : Prepared (stateOf b') n
-    prepared-grows = record { readable = prepared-read; node = prepared-node; sides = prepared-sides; once = rw (p .block .state) (prepared-once b (u .formed) n (a .inside) accepted-growable (a .room) d) }
+    prepared-grows = record {
+      readable = prepared-read;
+      node = omega (arith, p .block .nodes, a .inside);
+      sides = rw (p .block .state) (prepared-sides-ok b (u .formed) n d (a .inside) (u .readable) accepted-able (a .room));
+      once = rw (p .block .state) (prepared-once b (u .formed) n d (a .inside) (u .readable) accepted-able (a .room));
+    }
+
+    -- and prepared again
+    pub prepared-steady : Preparable (stateOf b') n d → Steady b' t' n d
+    prepared-steady g = record {
+      formed = p .block .formed;
+      scratch = p .scratch ∙ u .scratch ∙ ap (λ m. zeroScratch (3 * m)) (sym (p .block .sides));
+      readable = prepared-read;
+      able = λ h o e q.
+          elim (decEq d up) [
+            | yes x ↦ sound-preparable b' (p .block .formed) n e h (rw (p .block .state) (prepared-up b (u .formed) n d (a .inside) (u .readable) accepted-able (a .room) x))
+            | no x ↦ record { grows = λ y. absurd (x (q y)); shrinks = λ y. g .shrinks x }
+          ];
+    }
 
 -- ---- prepare
 
@@ -108,34 +129,31 @@ module _ {b t : List ℤ} (u : Usable b t) (n d k : ℕ) (e : k ≡ nodeRefusal 
 
 -- ---- length
 
-module _ {b t : List ℤ} (u : Usable b t) (n d k : ℕ) (first : Bool) (e : k ≡ nodeRefusal (stateOf b) n (ltb up d) (first && storeShort (stateOf b) (n ∷ []) 1)) where
+module _ {b : List ℤ} (f : Formed b) (n d k : ℕ) (first : Bool) (e : k ≡ nodeRefusal (stateOf b) n (ltb up d) (first && storeShort (stateOf b) (n ∷ []) 1)) where
   pub length-refused : k ≢ 0 → Replies b b (Refused k) (maxUpdateLength (stateOf b) n d first)
   unfolding maxUpdateLength
-  length-refused h = rw (← e) (replies-refused b (record { answer = scan (readied (stateOf b) n d first) n d; state = readied (stateOf b) n d first }) k (u .formed) h)
+  length-refused h = rw (← e) (replies-refused b (record { answer = scan (readied (stateOf b) n d first) n d; state = readied (stateOf b) n d first }) k f h)
 
   pub length-accepted : k ≡ 0 → NodeAccepted (stateOf b) n (ltb up d) (first && storeShort (stateOf b) (n ∷ []) 1)
   length-accepted h = node-accepted (stateOf b) n (ltb up d) (first && storeShort (stateOf b) (n ∷ []) 1) (sym e ∙ h)
 
   pub length-first : first ≡ true → k ≡ 0 → NodeAccepted (stateOf b) n (ltb up d) (storeShort (stateOf b) (n ∷ []) 1)
-  length-first f h = let a = length-accepted h in record { inside = a .inside; right = a .right; outer = a .outer; room = rw f at (a .room) }
+  length-first g h = let a = length-accepted h in record { inside = a .inside; right = a .right; outer = a .outer; room = rw g at (a .room) }
 
   -- as it is
   pub length-plain : {a : Answer} → first ≡ false → k ≡ 0 → a ≡ scan (stateOf b) n d → Replies b b a (maxUpdateLength (stateOf b) n d first)
   unfolding maxUpdateLength readied
-  length-plain f h p = rw (← e) (replies-accepted k h (rw f (record { answer = p; block = becomes-none b (stateOf b) (u .formed) refl })))
+  length-plain g h p = rw (← e) (replies-accepted k h (rw g (record { answer = p; block = becomes-none b (stateOf b) f refl })))
 
   -- prepared first
-  pub length-prepared : {a : Answer} {b' t' : List ℤ} {j : ℕ} → first ≡ true → k ≡ 0 → AfterPreparation b b' t t' (prepareNode (stateOf b) n d) j → a ≡ scan (stateOf b') n d → Replies b b' a (maxUpdateLength (stateOf b) n d first)
+  pub length-prepared : {a : Answer} {t b' t' : List ℤ} {j : ℕ} → first ≡ true → k ≡ 0 → AfterPreparation b b' t t' (prepareNode (stateOf b) n d) j → a ≡ scan (stateOf b') n d → Replies b b' a (maxUpdateLength (stateOf b) n d first)
   unfolding maxUpdateLength readied
-  length-prepared f h p q = rw (← e) (replies-accepted k h (rw f (record { answer = q ∙ ap (λ c. scan c n d) (p .block .state); block = p .block })))
+  length-prepared g h p q = rw (← e) (replies-accepted k h (rw g (record { answer = q ∙ ap (λ c. scan c n d) (p .block .state); block = p .block })))
 
 -- ---- a sound state is scanned as it is
 
-pub usable-readable : {b t : List ℤ} → Usable b t → Readable (stateOf b)
-usable-readable {b} u = sound-readable (stateOf b) (laid-shape b (u .formed .laid)) (u .sounds)
-
-pub usable-sides : {b t : List ℤ} → Usable b t → (n : ℕ) → n < nodeCount (stateOf b) → sidesOk (stateOf b) n ≡ true
-usable-sides {b} u n h = sound-sides-ok (stateOf b) (u .sounds) n h
+pub sound-scanned : {b : List ℤ} → Formed b → sound (stateOf b) ≡ true → (n : ℕ) → n < nodeCount (stateOf b) → Readable (stateOf b) × (sidesOk (stateOf b) n ≡ true)
+sound-scanned {b} f s n h = (sound-readable (stateOf b) (laid-shape b (f .laid)) s, sound-sides-ok (stateOf b) s n h)
 
 -- ---- growth
 
@@ -148,42 +166,52 @@ module _ (b : List ℤ) (n d l k : ℕ) (e : k ≡ growCheck (stateOf b) n d l) 
   unfolding growPrepared
   growth-done h p = rw (← e) (replies-accepted k h (record { answer = refl; block = p }))
 
-module _ {b t : List ℤ} (u : Usable b t) (n d l k : ℕ) (e : k ≡ nodeRefusal (stateOf b) n false (storeShort (stateOf b) (n ∷ []) 1)) where
+module _ {b : List ℤ} (f : Formed b) (n d l k : ℕ) (e : k ≡ nodeRefusal (stateOf b) n false (storeShort (stateOf b) (n ∷ []) 1)) where
   pub toward-refused : k ≢ 0 → Replies b b (Refused k) (growToward (stateOf b) n d l)
   unfolding growToward
-  toward-refused h = rw (← e) (replies-refused b (growPrepared (prepareNode (stateOf b) n d .state) n d l) k (u .formed) h)
+  toward-refused h = rw (← e) (replies-refused b (growPrepared (prepareNode (stateOf b) n d .state) n d l) k f h)
 
   pub toward-accepted : k ≡ 0 → NodeAccepted (stateOf b) n false (storeShort (stateOf b) (n ∷ []) 1)
   toward-accepted h = node-accepted (stateOf b) n false (storeShort (stateOf b) (n ∷ []) 1) (sym e ∙ h)
 
-  pub toward-done : {b' t' b'' : List ℤ} {a : Answer} {j : ℕ} → k ≡ 0 → AfterPreparation b b' t t' (prepareNode (stateOf b) n d) j → Replies b' b'' a (growPrepared (stateOf b') n d l) → Replies b b'' a (growToward (stateOf b) n d l)
+  pub toward-done : {t b' t' b'' : List ℤ} {a : Answer} {j : ℕ} → k ≡ 0 → AfterPreparation b b' t t' (prepareNode (stateOf b) n d) j → Replies b' b'' a (growPrepared (stateOf b') n d l) → Replies b b'' a (growToward (stateOf b) n d l)
   unfolding growToward
   toward-done {b' = b'} h p q =
       let r : growPrepared (stateOf b') n d l ≡ growPrepared (prepareNode (stateOf b) n d .state) n d l = ap (λ c. growPrepared c n d l) (p .block .state) in
       rw (← e) (replies-accepted k h (rw (← r) (record { answer = q .answer; block = becomes-then (p .block) (q .block) })))
 
 -- a length is 0, above or below
-pub grow-none : (c : State) (n : ℕ) (z : ℤ) → natAbs z ≡ 0 → growDualNode c n z ≡ unless (nodeRefusal c n false false) c (says Done c)
-unfolding growDualNode
-grow-none c n (pos zero) h = refl
-grow-none c n (pos (suc l)) h = absurd (omega arith)
-grow-none c n (negsuc l) h = absurd (omega arith)
+along-none : (c : State) (n d : ℕ) (z : ℤ) → natAbs z ≡ 0 → growDualNode c n (along d z) ≡ unless (nodeRefusal c n false false) c (says Done c)
+unfolding growDualNode along
+along-none c n d (pos zero) h = by-test (eqb d up) (λ e. rw e) (λ e. rw e)
+along-none c n d (pos (suc l)) h = absurd (omega arith)
+along-none c n d (negsuc l) h = absurd (omega arith)
 
-pub grow-up : (c : State) (n : ℕ) (z : ℤ) → natAbs z ≢ 0 → nonNeg z ≡ true → growDualNode c n z ≡ growToward c n up (natAbs z)
-unfolding growDualNode
-grow-up c n (pos zero) h s = absurd (h refl)
-grow-up c n (pos (suc l)) h s = refl
-grow-up c n (negsuc l) h s = cc
+-- where it is not below 0, the node grows in that direction
+pub along-forth : (c : State) (n d : ℕ) (z : ℤ) → d ≤ 1 → natAbs z ≢ 0 → nonNeg z ≡ true → growDualNode c n (along d z) ≡ growToward c n d (natAbs z)
+unfolding growDualNode along
+along-forth c n zero (pos (suc l)) k h s = refl
+along-forth c n (suc zero) (pos (suc l)) k h s = refl
+along-forth c n (suc (suc d)) z k h s = absurd (omega arith)
+along-forth c n zero (pos zero) k h s = absurd (h refl)
+along-forth c n (suc zero) (pos zero) k h s = absurd (h refl)
+along-forth c n zero (negsuc l) k h s = cc
+along-forth c n (suc zero) (negsuc l) k h s = cc
 
-pub grow-down : (c : State) (n : ℕ) (z : ℤ) → nonNeg z ≡ false → growDualNode c n z ≡ growToward c n down (natAbs z)
-unfolding growDualNode
-grow-down c n (pos l) s = cc
-grow-down c n (negsuc l) s = refl
+-- and where it is below, it is the upward direction that turns
+pub along-back : (c : State) (n : ℕ) (z : ℤ) → nonNeg z ≡ false → growDualNode c n (along up z) ≡ growToward c n down (natAbs z)
+unfolding growDualNode along
+along-back c n (pos l) s = cc
+along-back c n (negsuc l) s = refl
 
-module _ (b : List ℤ) (n k : ℕ) (z : ℤ) (zero-length : natAbs z ≡ 0) (e : k ≡ nodeRefusal (stateOf b) n false false) where
-  pub none-refused : Formed b → k ≢ 0 → Replies b b (Refused k) (growDualNode (stateOf b) n z)
-  none-refused f h = rw (grow-none (stateOf b) n z zero-length, ← e) (replies-refused b (says Done (stateOf b)) k f h)
+pub along-up : (z : ℤ) → along up z ≡ z
+unfolding along
+along-up z = refl
 
-  pub none-done : Formed b → k ≡ 0 → Replies b b Done (growDualNode (stateOf b) n z)
+module _ (b : List ℤ) (n d k : ℕ) (z : ℤ) (zero-length : natAbs z ≡ 0) (e : k ≡ nodeRefusal (stateOf b) n false false) where
+  pub none-refused : Formed b → k ≢ 0 → Replies b b (Refused k) (growDualNode (stateOf b) n (along d z))
+  none-refused f h = rw (along-none (stateOf b) n d z zero-length, ← e) (replies-refused b (says Done (stateOf b)) k f h)
+
+  pub none-done : Formed b → k ≡ 0 → Replies b b Done (growDualNode (stateOf b) n (along d z))
   unfolding says
-  none-done f h = rw (grow-none (stateOf b) n z zero-length, ← e) (replies-accepted k h (record { answer = refl; block = becomes-none b (stateOf b) f refl }))
+  none-done f h = rw (along-none (stateOf b) n d z zero-length, ← e) (replies-accepted k h (record { answer = refl; block = becomes-none b (stateOf b) f refl }))

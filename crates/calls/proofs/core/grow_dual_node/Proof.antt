@@ -1,68 +1,22 @@
-use mathlib.Core.Path.{_≡_, refl, sym, ap, subst, _∙_}
-use lib.IntN.{ℤ, natAbs}
-use lib.Signed.{nonNeg}
+use native.Mathlib.Omega.{arith}
+use mathlib.Core.Path.{refl}
 use mir.Facts.{toZ-ofZ}
-use Rattle.graph.specs.Layout.{stateOf}
-use Rattle.calls.specs.Calls.{growDualNode}
-use Rattle.calls.specs.Reply.{Replies}
-use Rattle.calls.specs.laws.Replies.{grow-up, grow-down}
+use Rattle.calls.specs.laws.Replies.{usable-steady, along-up}
 use borrow.Author.Needs.{needs}
 use Rattle.calls.proofs.core.grow_dual_node.Statement.{statement}
 use Rattle.calls.proofs.core.grow_dual_node.Tie as tie
 
-magnitude-requires : tie.Need-magnitude-requires
-magnitude-requires c κs = search needs
-
-grow-none-requires : tie.Need-grow-none-requires
-grow-none-requires c κs = search needs
+grow-along-requires : tie.Need-grow-along-requires
+grow-along-requires c κs = (usable-steady (c .before .before .pre) (c .before .before .args .n) 1, omega arith, λ e. refl)
 
 same-length : tie.Need-same-length
 same-length c = search needs
 
-returns : tie.Need-returns
-returns c = let s = c .before .before .before .before .before in (subst (λ (z : ℤ). Replies (s .args .b .now) (c .before .grow-none .last .0) (c .before .grow-none .result) (growDualNode (stateOf (s .args .b .now)) (s .args .n) z)) (toZ-ofZ (s .fits .length)) (c .before .grow-none .ensures), refl)
-
-non-negative-requires : tie.Need-non-negative-requires
-non-negative-requires c κs = search needs
-
-grow-toward-requires : tie.Need-grow-toward-requires
-grow-toward-requires c κs = search needs
-
 same-length-2 : tie.Need-same-length-2
 same-length-2 c = search needs
 
-same-length-3 : tie.Need-same-length-3
-same-length-3 c = search needs
-
-returns-2 : tie.Need-returns-2
-returns-2 c = let s = c .before .before .before .before .before .before .before .before .before in let e = c .before .before .grow-toward .ensures in let m : c .before .before .before .before .before .before .before .before .magnitude .result ≡ natAbs (s .args .length) = c .before .before .before .before .before .before .before .before .magnitude .ensures .0 ∙ ap natAbs (toZ-ofZ (s .fits .length)) in (rw (grow-up (stateOf (s .args .b .now)) (s .args .n) (s .args .length) (λ q. c .before .before .before .before .before .before .before .if1 .left (m ∙ q)) (sym (c .before .before .before .before .before .before .non-negative .ensures ∙ ap nonNeg (toZ-ofZ (s .fits .length))) ∙ c .before .before .before .before .before .if2 .taken), ← m) (e .0), e .1)
-
-grow-toward-requires-2 : tie.Need-grow-toward-requires-2
-grow-toward-requires-2 c κs = search needs
-
-same-length-4 : tie.Need-same-length-4
-same-length-4 c = search needs
-
-same-length-5 : tie.Need-same-length-5
-same-length-5 c = search needs
-
-returns-3 : tie.Need-returns-3
-returns-3 c = let s = c .before .before .before .before .before .before .before .before .before in let e = c .before .before .grow-toward2 .ensures in let m : c .before .before .before .before .before .before .before .before .magnitude .result ≡ natAbs (s .args .length) = c .before .before .before .before .before .before .before .before .magnitude .ensures .0 ∙ ap natAbs (toZ-ofZ (s .fits .length)) in (rw (grow-down (stateOf (s .args .b .now)) (s .args .n) (s .args .length) (sym (c .before .before .before .before .before .before .non-negative .ensures ∙ ap nonNeg (toZ-ofZ (s .fits .length))) ∙ c .before .before .before .before .before .if2 .left), ← m) (e .0), e .1)
+returns : tie.Need-returns
+returns c = let s = c .before .before .before .before .before in let g = c .before .before .grow-along .ensures in (rw (toZ-ofZ (s .fits .length), along-up (s .args .length)) at (g .0), g .1)
 
 pub grow-dual-node-spec : {M : Type 1} → statement M
-grow-dual-node-spec =
-    tie.close
-    (tie.spec
-    magnitude-requires
-    grow-none-requires
-    same-length
-    returns
-    non-negative-requires
-    grow-toward-requires
-    same-length-2
-    same-length-3
-    returns-2
-    grow-toward-requires-2
-    same-length-4
-    same-length-5
-    returns-3)
+grow-dual-node-spec = tie.close (tie.spec grow-along-requires same-length same-length-2 returns)

@@ -6,18 +6,12 @@ use Rattle.calls.proofs.core.grow_none.Tie as tie
 node-refusal-requires : tie.Need-node-refusal-requires
 node-refusal-requires c κs = search needs
 
-same-length : tie.Need-same-length
-same-length c = search needs
-
 returns : tie.Need-returns
-returns c = let s = c .before .before .before in none-refused (s .args .b .now) (s .args .n) _ (s .args .length) (s .pre .1) (c .before .node-refusal .ensures) (s .pre .0) (c .if1 .taken)
-
-same-length-2 : tie.Need-same-length-2
-same-length-2 c = search needs
+returns c = let s = c .before .before in none-refused (s .args .b .now) (s .args .n) (s .args .d) _ (s .args .length) (s .pre .1) (c .before .node-refusal .ensures) (s .pre .0) (c .if1 .taken)
 
 returns-2 : tie.Need-returns-2
-returns-2 c = let s = c .before .before .before in none-done (s .args .b .now) (s .args .n) _ (s .args .length) (s .pre .1) (c .before .node-refusal .ensures) (s .pre .0) (c .if1 .left)
+returns-2 c = let s = c .before .before in none-done (s .args .b .now) (s .args .n) (s .args .d) _ (s .args .length) (s .pre .1) (c .before .node-refusal .ensures) (s .pre .0) (c .if1 .left)
 
 pub grow-none-spec : {M : Type 1} → statement M
 grow-none-spec =
-    tie.close (tie.spec node-refusal-requires same-length returns same-length-2 returns-2)
+    tie.close (tie.spec node-refusal-requires returns returns-2)

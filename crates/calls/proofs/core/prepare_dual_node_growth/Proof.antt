@@ -1,5 +1,5 @@
 use mathlib.Core.Path.{refl}
-use Rattle.calls.specs.laws.Replies.{prepare-refused, prepare-accepted, prepare-done, accepted-ready, accepted-able}
+use Rattle.calls.specs.laws.Replies.{prepare-refused, prepare-accepted, prepare-done, usable-steady, accepted-ready, accepted-able}
 use borrow.Author.Needs.{needs}
 use Rattle.calls.proofs.core.prepare_dual_node_growth.Statement.{statement}
 use Rattle.calls.proofs.core.prepare_dual_node_growth.Tie as tie
@@ -14,7 +14,7 @@ returns : tie.Need-returns
 returns c = let s = c .before .before .before in (prepare-refused (s .pre) (s .args .n) (s .args .d) _ (c .before .node-refusal .ensures) (c .if1 .taken), refl)
 
 prepare-dual-node-growth-requires : tie.Need-prepare-dual-node-growth-requires
-prepare-dual-node-growth-requires c κs = let s = c .before .before .before .before .before in let a = prepare-accepted (s .pre) (s .args .n) (s .args .d) _ (c .before .before .before .node-refusal .ensures) (c .before .before .if1 .left) in (accepted-ready (s .pre) (s .args .n) _ a, accepted-able (s .pre) (s .args .n) _ a (s .args .d))
+prepare-dual-node-growth-requires c κs = let s = c .before .before .before .before .before in let a = prepare-accepted (s .pre) (s .args .n) (s .args .d) _ (c .before .before .before .node-refusal .ensures) (c .before .before .if1 .left) in let u = usable-steady (s .pre) (s .args .n) (s .args .d) in (accepted-ready u _ a, accepted-able u _ a)
 
 same-length-2 : tie.Need-same-length-2
 same-length-2 c = search needs

@@ -1,0 +1,80 @@
+use Prim.Native.Nat.{ℕ}
+use mathlib.Core.Path.{_≡_, refl, sym, _∙_}
+use mathlib.Core.Bool.{true}
+use mathlib.Core.List.{[], _∷_}
+use types.Run.{OneOf, miss}
+use denote.Enum.Declared.{tagOf}
+use mir.Facts.{toZ-ofZ}
+use Rattle.graph.specs.State.{State}
+use Rattle.graph.specs.Layout.{stateOf}
+use Rattle.calls.specs.declared.Answer.{Answer}
+use Rattle.calls.specs.declared.Answer.the-variants.{NonZeroGrow, Unlimited, Conflicting, TouchingVirtual, BlossomNeedExpand, VertexShrinkStop, VertexShrinkStopPeer, Done, Node, Prepared, Vertex, Refused}
+use Rattle.calls.specs.Answer.{says}
+use Rattle.calls.specs.Calls.{follow}
+use Rattle.calls.specs.laws.Advance.{length-below, advance-other, advance-free}
+use borrow.Author.Needs.{needs, sfits-of}
+use Rattle.calls.proofs.Answer as Kinds
+use Rattle.calls.proofs.advance.advance_by.Statement.{statement}
+use Rattle.calls.proofs.advance.advance_by.Tie as tie
+
+-- an answer of another case is handed back
+others : (c : State) (n x : ℕ) (a : Answer) → OneOf (1 ∷ 2 ∷ 3 ∷ 4 ∷ 5 ∷ 6 ∷ 7 ∷ 8 ∷ 9 ∷ 10 ∷ 11 ∷ []) (tagOf Kinds.the-type a) → follow c n x a ≡ says a c
+unfolding follow
+others c n x (NonZeroGrow l e) h = absurd (miss (1 ∷ 2 ∷ 3 ∷ 4 ∷ 5 ∷ 6 ∷ 7 ∷ 8 ∷ 9 ∷ 10 ∷ 11 ∷ []) 0 tt h)
+others c n x (Unlimited e) h = refl
+others c n x (Conflicting p g m k) h = refl
+others c n x (TouchingVirtual m g v) h = refl
+others c n x (BlossomNeedExpand m) h = refl
+others c n x (VertexShrinkStop m) h = refl
+others c n x (VertexShrinkStopPeer m p g) h = refl
+others c n x Done h = refl
+others c n x (Node m) h = refl
+others c n x (Prepared k) h = refl
+others c n x (Vertex v) h = refl
+others c n x (Refused k) h = refl
+
+direction-requires : tie.Need-direction-requires
+direction-requires c κs = search needs
+
+length-prepared-requires :
+    tie.Need-length-prepared-requires
+length-prepared-requires c κs = search needs
+
+enum-known-answer : tie.Need-enum-known-answer
+enum-known-answer c = search needs
+
+same-length : tie.Need-same-length
+same-length c = search needs
+
+same-length-2 : tie.Need-same-length-2
+same-length-2 c = search needs
+
+returns : tie.Need-returns
+returns c = let s = c .before .before .before .before .before .before .before in let r = c .before .before .before .length-prepared in let p = r .ensures in let d = c .before .before .before .before .before .before .direction .ensures .0 in (advance-other (s .args .n) (s .args .x) (rw d at (p .0)) (others _ (s .args .n) (s .args .x) (r .result) (c .match .keys2)), p .1)
+
+grow-along-requires : tie.Need-grow-along-requires
+grow-along-requires c κs = let r = c .before .before .before .before .before .before .before .length-prepared in let a = c .before .before .before .answer .given in let s = c .before .before .before .before .before .before .before .before .before .before .before in let d = c .before .before .before .before .before .before .before .before .before .before .direction in (r .ensures .2, d .ensures .1, λ e. length-below (stateOf (s .args .b .now)) (s .args .n) (d .result) true (sym (a .1) ∙ r .ensures .0 .answer) (rw (toZ-ofZ (sfits-of ((rw (a .1) at (r .ok)) .1 .1 .1 .1 .0 .1))) at e))
+
+same-length-3 : tie.Need-same-length-3
+same-length-3 c = search needs
+
+same-length-4 : tie.Need-same-length-4
+same-length-4 c = search needs
+
+returns-2 : tie.Need-returns-2
+returns-2 c = let f = c .before .before .before in let r = f .before .before .before .before .before .before .before .length-prepared in let a = f .before .before .before .answer .given in let s = f .before .before .before .before .before .before .before .before .before .before .before in let d = f .before .before .before .before .before .before .before .before .before .before .direction in let g = c .before .before .grow-along .ensures in (advance-free (s .args .n) (s .args .x) (rw (d .ensures .0) at (r .ensures .0)) (a .1) (rw (d .ensures .0, toZ-ofZ (sfits-of ((rw (a .1) at (r .ok)) .1 .1 .1 .1 .0 .1))) at (g .0)), g .1 ∙ r .ensures .1)
+
+pub advance-by-spec : {M : Type 1} → statement M
+advance-by-spec =
+    tie.close
+    (tie.spec
+    direction-requires
+    length-prepared-requires
+    enum-known-answer
+    same-length
+    same-length-2
+    returns
+    grow-along-requires
+    same-length-3
+    same-length-4
+    returns-2)

@@ -1,0 +1,76 @@
+// Advance: a node grows by all of its own length answer.
+
+ghost use mathlib.Core.Path.{_≡_};
+ghost use mathlib.Core.Bool.{true, not};
+ghost use Prim.Native.Nat.{_≤_};
+ghost use lib.Dec.{eqb};
+ghost use Rattle.graph.specs.State.{stay, growStateOf};
+ghost use Rattle.graph.specs.Layout.{stateOf};
+ghost use Rattle.graph.specs.Form.{Formed};
+ghost use Rattle.calls.specs.Reply.{Usable, Replies};
+ghost use Rattle.calls.specs.Calls.{maxUpdateLength, toward, advanceBy, advance};
+use crate::Answer;
+use crate::core;
+use crate::refuse;
+use graph::node;
+use graph::rows;
+
+// The direction of a node in grow state x.
+fn direction(x: usize) -> usize
+    ensures { λ r. ⌜ (r ≡ toward x) × (r ≤ 1) ⌝ }
+{
+    if x == 1 { 1 } else { 0 }
+}
+
+// A node n in grow state x, which is not Stay, grows on a free answer with a limit; any other answer is handed back.
+fn advance_by(b: &mut [i64], t: &mut [i64], n: usize, x: usize) -> Answer
+    requires { ⌜ Usable (now b) (now t) ⌝ }
+    ensures { λ r. ⌜ Replies (now (b .entry)) (now (b .exit)) r (advanceBy n x (maxUpdateLength (stateOf (now (b .entry))) n (toward x) true)) × (now (t .exit) ≡ now (t .entry)) ⌝ }
+{
+    let d = direction(x);
+    let answer = core::length_prepared(b, t, n, d);
+    let Answer::NonZeroGrow(length, _) = answer else {
+        return answer;
+    };
+    core::grow_along(b, t, n, d, length)
+}
+
+// Node n does not grow: it is no outermost node, or Stay.
+pub fn advance_none(b: &[i64], n: usize) -> Answer
+    requires { ⌜ Formed (now b) × (growStateOf (stateOf (now b)) n ≡ 0) ⌝ }
+    ensures { λ r. ⌜ Replies (now (b .entry)) (now (b .entry)) r (advance (stateOf (now (b .entry))) n) ⌝ }
+{
+    let k = refuse::node_refusal(b, n, false, false);
+    if k != 0 {
+        return Answer::Refused(k);
+    }
+    Answer::Done
+}
+
+// Whether node n is there and not Stay.
+pub fn moves(b: &[i64], n: usize) -> bool
+    requires { ⌜ Formed (now b) ⌝ }
+    ensures { λ r. ⌜ r ≡ not (eqb (growStateOf (stateOf (now (b .entry))) n) stay) ⌝ }
+{
+    if rows::node_count(b) <= n {
+        false
+    } else {
+        node::grow_state(b, n) != 0
+    }
+}
+
+// Node n grows by its own length answer, in the direction of its grow state.
+pub fn advance(b: &mut [i64], t: &mut [i64], n: usize) -> Answer
+    requires { ⌜ Usable (now b) (now t) ⌝ }
+    ensures { λ r. ⌜ Replies (now (b .entry)) (now (b .exit)) r (advance (stateOf (now (b .entry))) n) × (now (t .exit) ≡ now (t .entry)) ⌝ }
+{
+    let k = refuse::node_refusal(b, n, false, false);
+    if k != 0 {
+        return Answer::Refused(k);
+    }
+    let x = node::grow_state(b, n);
+    if x == 0 {
+        return Answer::Done;
+    }
+    advance_by(b, t, n, x)
+}

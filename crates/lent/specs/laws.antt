@@ -1,0 +1,2 @@
+-- Laws about the promises of `lent`.
+pub mod Called
