@@ -34,7 +34,17 @@ fn cut(records: &[u8], i: usize, r: Run, o: Out, lines: &mut [u8]) -> Step
 }
 
 // The record that begins at place i.
-fn step_on(records: &[u8], i: usize, r: Run, o: Out, lines: &mut [u8], block: &mut [i64], scratch: &mut [i64], edges: &mut [i64], virtuals: &mut [i64]) -> Step
+fn step_on(
+    records: &[u8],
+    i: usize,
+    r: Run,
+    o: Out,
+    lines: &mut [u8],
+    block: &mut [i64],
+    scratch: &mut [i64],
+    edges: &mut [i64],
+    virtuals: &mut [i64],
+) -> Step
     requires { ⌜ (i < length (now records)) × (r .record ≤ i) × (o .at ≤ length (now lines)) × (r .stage < 3) × Standing (memory (r .stage) (r .setup) (now block) (now edges) (now virtuals)) × Roomy (now block) (now scratch) (now edges) (now virtuals) ⌝ }
     ensures { λ x. ⌜ Stepped (now (records .entry)) i (x .at) (r .record + 1) (memory (r .stage) (r .setup) (now (block .entry)) (now (edges .entry)) (now (virtuals .entry))) (memory (x .run .stage) (x .run .setup) (now (block .exit)) (now (edges .exit)) (now (virtuals .exit))) (now (lines .entry)) (o .at) (o .full) (now (lines .exit)) (x .out .at) (x .out .full) × (x .run .record ≡ r .record + 1) × (now (scratch .exit) ≡ now (scratch .entry)) ⌝ }
 {
@@ -47,7 +57,16 @@ fn step_on(records: &[u8], i: usize, r: Run, o: Out, lines: &mut [u8], block: &m
         return cut(records, i, r, o, lines);
     }
     let e = i + 2 + k;
-    let t = run::turn(lines, r, o, &records[i + 2..e], block, scratch, edges, virtuals);
+    let t = run::turn(
+        lines,
+        r,
+        o,
+        &records[i + 2..e],
+        block,
+        scratch,
+        edges,
+        virtuals,
+    );
     let p = t.run;
     let q = t.out;
     Step {
@@ -58,7 +77,14 @@ fn step_on(records: &[u8], i: usize, r: Run, o: Out, lines: &mut [u8], block: &m
 }
 
 // The lines of the records are written over the front of `lines`, up to the first that does not fit; how many bytes they are. The words are lent.
-fn write_lines(records: &[u8], lines: &mut [u8], block: &mut [i64], scratch: &mut [i64], edges: &mut [i64], virtuals: &mut [i64]) -> usize
+fn write_lines(
+    records: &[u8],
+    lines: &mut [u8],
+    block: &mut [i64],
+    scratch: &mut [i64],
+    edges: &mut [i64],
+    virtuals: &mut [i64],
+) -> usize
     requires { ⌜ Roomy (now block) (now scratch) (now edges) (now virtuals) ⌝ }
     ensures { λ r. ⌜ (now (lines .exit) ≡ filled (now (records .entry)) (now (lines .entry))) × (r ≡ length (fittedLines (now (records .entry)) (length (now (lines .entry))))) ⌝ }
 {
@@ -83,5 +109,12 @@ pub extern "C" fn cardrun_lines(records: &[u8], lines: &mut [u8]) -> usize
     let mut scratch = [0i64; 768];
     let mut edges = [0i64; 384];
     let mut virtuals = [0i64; 65];
-    write_lines(records, lines, &mut block, &mut scratch, &mut edges, &mut virtuals)
+    write_lines(
+        records,
+        lines,
+        &mut block,
+        &mut scratch,
+        &mut edges,
+        &mut virtuals,
+    )
 }

@@ -8,9 +8,7 @@ ghost use lib.ListN.{length, take};
 ghost use Rattle.graph.specs.Word.{toNat};
 ghost use Rattle.graph.specs.Layout.{stateOf};
 ghost use Rattle.pass.specs.Scratch.{zeroScratch};
-ghost use Rattle.calls.specs.Calls.{advance, respond};
-ghost use Rattle.calls.specs.Insert.{insertBlossom};
-ghost use Rattle.calls.specs.Reply.{Usable, Replies, RepliesInsert};
+ghost use Rattle.calls.specs.Calls.{respond};
 ghost use Rattle.records.specs.Record.{fields, decoded};
 ghost use Rattle.records.specs.Lines.{linesFor};
 ghost use Rattle.records.specs.Run.{ends};
@@ -24,9 +22,11 @@ use crate::setup;
 use crate::setup::Setup;
 use crate::table;
 use crate::told;
+use calls::Answer;
+use calls::advance;
+use calls::blossom;
 use calls::core;
 use calls::defect;
-use calls::Answer;
 use graph::sizes;
 use graph::words;
 
@@ -91,22 +91,6 @@ fn circle_into(c: &mut [i64], body: &[u8]) -> usize
     k
 }
 
-// TEMPORARY
-fn insert_blossom(b: &mut [i64], t: &mut [i64], x: usize, circle: &[i64]) -> Answer
-    requires { ⌜ Usable (now b) (now t) ⌝ }
-    ensures { λ r. ⌜ RepliesInsert (now (b .entry)) (now (b .exit)) r (insertBlossom (stateOf (now (b .entry))) x (map toNat (now (circle .entry)))) × (now (t .exit) ≡ now (t .entry)) ⌝ }
-{
-    Answer::Done
-}
-
-// TEMPORARY
-fn advance(b: &mut [i64], t: &mut [i64], n: usize) -> Answer
-    requires { ⌜ Usable (now b) (now t) ⌝ }
-    ensures { λ r. ⌜ Replies (now (b .entry)) (now (b .exit)) r (advance (stateOf (now (b .entry))) n) × (now (t .exit) ≡ now (t .entry)) ⌝ }
-{
-    Answer::Done
-}
-
 // The blossom that a body asks for.
 fn blossom(b: &mut [i64], t: &mut [i64], body: &[u8]) -> Answer
     requires { ⌜ Opened (now b) (now t) × OfKind (now body) 5 ⌝ }
@@ -115,7 +99,7 @@ fn blossom(b: &mut [i64], t: &mut [i64], body: &[u8]) -> Answer
     let mut c = [0i64; 16384];
     let n = circle_into(&mut c, body);
     let x = bytes::field(body, 0);
-    insert_blossom(b, t, x, &c[0..n])
+    blossom::insert_blossom(b, t, x, &c[0..n])
 }
 
 // The call of a body of this kind, which is not one that only reads.
@@ -128,15 +112,35 @@ fn call(b: &mut [i64], t: &mut [i64], kind: usize, body: &[u8]) -> Answer
         5 => blossom(b, t, body),
         6 => core::set_grow_state(b, bytes::field(body, 0), bytes::field(body, 1)),
         7 => core::prepare_dual_node_growth(b, t, bytes::field(body, 0), bytes::field(body, 1)),
-        8 => core::compute_maximum_update_length_dual_node(b, t, bytes::field(body, 0), bytes::field(body, 1), bytes::field(body, 2) == 1),
-        9 => core::grow_dual_node(b, t, bytes::field(body, 0), bytes::signed(bytes::field(body, 1))),
-        11 => advance(b, t, bytes::field(body, 0)),
+        8 => core::compute_maximum_update_length_dual_node(
+            b,
+            t,
+            bytes::field(body, 0),
+            bytes::field(body, 1),
+            bytes::field(body, 2) == 1,
+        ),
+        9 => core::grow_dual_node(
+            b,
+            t,
+            bytes::field(body, 0),
+            bytes::signed(bytes::field(body, 1)),
+        ),
+        11 => advance::advance(b, t, bytes::field(body, 0)),
         _ => core::clear_all(b),
     }
 }
 
 // The lines of the call of a body on an opened graph go behind the others.
-fn ask(lines: &mut [u8], o: Out, k: usize, s: Setup, kind: usize, body: &[u8], block: &mut [i64], scratch: &mut [i64]) -> Out
+fn ask(
+    lines: &mut [u8],
+    o: Out,
+    k: usize,
+    s: Setup,
+    kind: usize,
+    body: &[u8],
+    block: &mut [i64],
+    scratch: &mut [i64],
+) -> Out
     requires { ⌜ (o .at ≤ length (now lines)) × Runs s (now block) × OfKind (now body) kind × (4 ≤ kind) × (4096 ≤ length (now block)) × (768 ≤ length (now scratch)) × (now scratch ≡ zeroScratch (length (now scratch))) ⌝ }
     ensures { λ r. ⌜ Told (now (lines .entry)) (o .at) (o .full) (now (lines .exit)) (r .at) (r .full) (linesFor k (respond (stateOf (partOf s (now (block .entry)))) (callIn (now (body .entry))) .outcome)) × Asked s (now (block .entry)) (now (block .exit)) (callIn (now (body .entry))) × (now (scratch .exit) ≡ now (scratch .entry)) ⌝ }
 {
@@ -153,7 +157,17 @@ fn ask(lines: &mut [u8], o: Out, k: usize, s: Setup, kind: usize, body: &[u8], b
 }
 
 // The first call, which opens the graph.
-fn first(lines: &mut [u8], r: Run, o: Out, kind: usize, body: &[u8], block: &mut [i64], scratch: &mut [i64], edges: &[i64], virtuals: &[i64]) -> After
+fn first(
+    lines: &mut [u8],
+    r: Run,
+    o: Out,
+    kind: usize,
+    body: &[u8],
+    block: &mut [i64],
+    scratch: &mut [i64],
+    edges: &[i64],
+    virtuals: &[i64],
+) -> After
     requires { ⌜ (o .at ≤ length (now lines)) × (r .stage ≡ 1) × Gathers (r .setup) (now edges) (now virtuals) × OfKind (now body) kind × (4 ≤ kind) × Roomy (now block) (now scratch) (now edges) (now virtuals) ⌝ }
     ensures { λ x. ⌜ Turned (r .record) (memory (r .stage) (r .setup) (now (block .entry)) (now (edges .entry)) (now (virtuals .entry))) (memory (x .run .stage) (x .run .setup) (now (block .exit)) (now (edges .entry)) (now (virtuals .entry))) (now (lines .entry)) (o .at) (o .full) (now (lines .exit)) (x .out .at) (x .out .full) (decoded (now (body .entry))) × (x .run .record ≡ r .record) × (now (scratch .exit) ≡ now (scratch .entry)) ⌝ }
 {
@@ -172,7 +186,17 @@ fn first(lines: &mut [u8], r: Run, o: Out, kind: usize, body: &[u8], block: &mut
 }
 
 // A record that asks for a call.
-fn asked(lines: &mut [u8], r: Run, o: Out, kind: usize, body: &[u8], block: &mut [i64], scratch: &mut [i64], edges: &[i64], virtuals: &[i64]) -> After
+fn asked(
+    lines: &mut [u8],
+    r: Run,
+    o: Out,
+    kind: usize,
+    body: &[u8],
+    block: &mut [i64],
+    scratch: &mut [i64],
+    edges: &[i64],
+    virtuals: &[i64],
+) -> After
     requires { ⌜ (o .at ≤ length (now lines)) × (r .stage < 3) × Standing (memory (r .stage) (r .setup) (now block) (now edges) (now virtuals)) × OfKind (now body) kind × (4 ≤ kind) × Roomy (now block) (now scratch) (now edges) (now virtuals) ⌝ }
     ensures { λ x. ⌜ Turned (r .record) (memory (r .stage) (r .setup) (now (block .entry)) (now (edges .entry)) (now (virtuals .entry))) (memory (x .run .stage) (x .run .setup) (now (block .exit)) (now (edges .entry)) (now (virtuals .entry))) (now (lines .entry)) (o .at) (o .full) (now (lines .exit)) (x .out .at) (x .out .full) (decoded (now (body .entry))) × (x .run .record ≡ r .record) × (now (scratch .exit) ≡ now (scratch .entry)) ⌝ }
 {
@@ -188,7 +212,15 @@ fn asked(lines: &mut [u8], r: Run, o: Out, kind: usize, body: &[u8], block: &mut
 }
 
 // A record of sizes, of an edge or of a virtual vertex.
-fn gather(lines: &mut [u8], r: Run, o: Out, kind: usize, body: &[u8], edges: &mut [i64], virtuals: &mut [i64]) -> After
+fn gather(
+    lines: &mut [u8],
+    r: Run,
+    o: Out,
+    kind: usize,
+    body: &[u8],
+    edges: &mut [i64],
+    virtuals: &mut [i64],
+) -> After
     requires { ⌜ (o .at ≤ length (now lines)) × (r .stage < 3) × (r .stage ≡ 1 → r .setup .virtuals ≤ 64) × OfKind (now body) kind × (kind ≤ 3) × (384 ≤ length (now edges)) × (65 ≤ length (now virtuals)) ⌝ }
     ensures { λ x. ⌜ ((block : List ℤ) → Turned (r .record) (memory (r .stage) (r .setup) block (now (edges .entry)) (now (virtuals .entry))) (memory (x .run .stage) (x .run .setup) block (now (edges .exit)) (now (virtuals .exit))) (now (lines .entry)) (o .at) (o .full) (now (lines .exit)) (x .out .at) (x .out .full) (decoded (now (body .entry)))) × (x .run .record ≡ r .record) ⌝ }
 {
@@ -227,7 +259,16 @@ fn gather(lines: &mut [u8], r: Run, o: Out, kind: usize, body: &[u8], edges: &mu
 }
 
 // The next record, whose body this is.
-pub fn turn(lines: &mut [u8], r0: Run, o: Out, body: &[u8], block: &mut [i64], scratch: &mut [i64], edges: &mut [i64], virtuals: &mut [i64]) -> After
+pub fn turn(
+    lines: &mut [u8],
+    r0: Run,
+    o: Out,
+    body: &[u8],
+    block: &mut [i64],
+    scratch: &mut [i64],
+    edges: &mut [i64],
+    virtuals: &mut [i64],
+) -> After
     requires { ⌜ (o .at ≤ length (now lines)) × (r0 .stage < 3) × (r0 .record < 18446744073709551615) × Standing (memory (r0 .stage) (r0 .setup) (now block) (now edges) (now virtuals)) × (length (now body) ≤ 65535) × Roomy (now block) (now scratch) (now edges) (now virtuals) ⌝ }
     ensures { λ x. ⌜ Turned (r0 .record + 1) (memory (r0 .stage) (r0 .setup) (now (block .entry)) (now (edges .entry)) (now (virtuals .entry))) (memory (x .run .stage) (x .run .setup) (now (block .exit)) (now (edges .exit)) (now (virtuals .exit))) (now (lines .entry)) (o .at) (o .full) (now (lines .exit)) (x .out .at) (x .out .full) (decoded (now (body .entry))) × (x .run .record ≡ r0 .record + 1) × (now (scratch .exit) ≡ now (scratch .entry)) ⌝ }
 {

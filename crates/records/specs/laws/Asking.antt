@@ -67,6 +67,7 @@ asks {body} {kind} p h =
   where
     P : Record → Type 0
     P r = isRecord r ≡ true → r ≡ ask (callOf r)
+
     which : (n : ℕ) → P (recordOf kind body n)
     which n =
         if-cases P (eqb kind 1) (λ e q. absurd (omega (arith, eqb-true kind 1 e))) (λ e₁.

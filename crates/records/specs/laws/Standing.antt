@@ -141,11 +141,13 @@ module _ {body : List ℕ} {kind : ℕ} (o : OfKind body kind) where
       where
         x : Record
         x = sizes (field body 0) (field body 1) (field body 2) (field body 3)
+
         after-it : (s : Stage) → Stands (memory 0 t block edges virtuals) s → Stands (memory 1 (fromSizes (field body 0) (field body 1) (field body 2) (field body 3)) block edges virtuals) (turn k s x .stage)
         after-it fresh p = (refl, holding-start (field body 0) (field body 1) (field body 2) (field body 3) edges virtuals)
         after-it (gathering g) p = absurd (omega (arith, p .0))
         after-it (running c) p = absurd (omega (arith, p .0))
         after-it ended p = absurd (omega arith)
+
         lines : (s : Stage) → Stands (memory 0 t block edges virtuals) s → Told b n full b n full (turn k s x .lines)
         lines fresh p = told-none room
         lines (gathering g) p = absurd (omega (arith, p .0))
@@ -159,11 +161,13 @@ module _ {body : List ℕ} {kind : ℕ} (o : OfKind body kind) where
       where
         x : Edge
         x = record { left = field body 0; right = field body 1; weight = field body 2 }
+
         after-it : (s : Stage) → Stands (memory 1 t block edges virtuals) s → Stands (memory 1 (edgeAdded t) block (storedEdge edges (t .edges) (field body 0) (field body 1) (field body 2)) virtuals) (turn k s (anEdge x) .stage)
         after-it fresh p = absurd (omega arith)
         after-it (gathering g) p = (refl, holding-edge x size (p .1))
         after-it (running c) p = absurd (omega (arith, p .0))
         after-it ended p = absurd (omega arith)
+
         lines : (s : Stage) → Stands (memory 1 t block edges virtuals) s → Told b n full b n full (turn k s (anEdge x) .lines)
         lines fresh p = absurd (omega arith)
         lines (gathering g) p = told-none room
@@ -180,6 +184,7 @@ module _ {body : List ℕ} {kind : ℕ} (o : OfKind body kind) where
         after-it (gathering g) p = (refl, holding-virtual (field body 0) size (p .1))
         after-it (running c) p = absurd (omega (arith, p .0))
         after-it ended p = absurd (omega arith)
+
         lines : (s : Stage) → Stands (memory 1 t block edges virtuals) s → Told b n full b n full (turn k s (aVirtual (field body 0)) .lines)
         lines fresh p = absurd (omega arith)
         lines (gathering g) p = told-none room
@@ -204,6 +209,7 @@ module _ {body : List ℕ} {kind : ℕ} (o : OfKind body kind) (four : 4 ≤ kin
       after-it (gathering g) p = absurd (omega (arith, p .0))
       after-it (running x) p = (refl, a .runs, a .state ∙ ap (λ y. respond y (callIn body) .state) (p .2))
       after-it ended p = absurd (omega arith)
+
       lines : (s : Stage) → Stands (memory 2 t block edges virtuals) s → Told b n full c i stopped (turn k s (ask (callIn body)) .lines)
       lines fresh p = absurd (omega arith)
       lines (gathering g) p = absurd (omega (arith, p .0))
@@ -282,15 +288,19 @@ module _ {body : List ℕ} {kind : ℕ} (o : OfKind body kind) (four : 4 ≤ kin
     where
       zero-code : openCode t edges virtuals ≡ 0
       zero-code = sym e ∙ z
+
       is : (g : Gathered) → Holding t edges virtuals g → stateOf (partOf t before) ≡ opened (g .v) (g .n) (g .l) (g .edges) (g .virtuals)
       is g p = ap (λ x. stateOf (partOf t x)) eb ∙ opened-is p size zero-code block
+
       none-of : (g : Gathered) → Holding t edges virtuals g → eqb (runRefusal g) 0 ≡ true
       none-of g p = eq-eqb (runRefusal g) 0 (sym (code-held t edges virtuals g p size) ∙ zero-code)
+
       after-it : (s : Stage) → Stands (memory 1 t block edges virtuals) s → Stands (memory 2 t block' edges virtuals) (turn k s (ask (callIn body)) .stage)
       after-it fresh p = absurd (omega arith)
       after-it (gathering g) p = rw (none-of g (p .1)) (refl, a .runs, a .state ∙ ap (λ y. respond y (callIn body) .state) (is g (p .1)))
       after-it (running x) p = absurd (omega (arith, p .0))
       after-it ended p = absurd (omega arith)
+
       lines : (s : Stage) → Stands (memory 1 t block edges virtuals) s → Told b n full c i stopped (turn k s (ask (callIn body)) .lines)
       lines fresh p = absurd (omega arith)
       lines (gathering g) p = rw (none-of g (p .1)) (told-lines h (ap (λ y. linesFor k (respond y (callIn body) .outcome)) (is g (p .1))))
