@@ -69,6 +69,12 @@ openedWords v e n l edges virtuals = joined (openedRows v e n l edges virtuals)
 unfoldable pub openedBlock : ℕ → ℕ → ℕ → ℕ → List Edge → List ℕ → Bool → List ℤ → List ℤ
 openedBlock v e n l edges virtuals fit b = if eqb (openRefusal v e n l edges virtuals fit) 0 then map pos (openedWords v e n l edges virtuals) else b
 
+-- what open promises: k is 0 or the refusal, and the block is the opened one or as it was
+abbrev pub OpenCalled : (b t : List ℤ) (v e n l : ℕ) (edges virtuals b' : List ℤ) (k : ℕ) → Type 0
+OpenCalled b t v e n l edges virtuals b' k =
+    (k ≡ openRefusal v e n l (edgesFrom edges) (virtualsFrom virtuals) (fits b t v e n l))
+    × (b' ≡ openedBlock v e n l (edgesFrom edges) (virtualsFrom virtuals) (fits b t v e n l) b)
+
 -- ---- the cleared block
 
 -- of the arrays: no node; of the flags the virtual ones; nothing held and nothing grown; all else as it was

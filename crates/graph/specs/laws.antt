@@ -1,23 +1,15 @@
 -- Laws about the definitions of `graph`.
-pub mod Blank
-pub mod Block
 pub mod Clear
 pub mod Count
 pub mod Cut
 pub mod Field
 pub mod Form
 pub mod Insert
-pub mod Join
 pub mod List
 pub mod Members
-pub mod Memory
 pub mod Move
 pub mod Number
-pub mod Open
-pub mod OpenSteps
 pub mod Opened
-pub mod OpenedBlock
-pub mod Pack
 pub mod Place
 pub mod Replace
 pub mod Row
@@ -35,4 +27,3 @@ pub mod Top
 pub mod Used
 pub mod Walk
 pub mod Wiring
-pub mod Write

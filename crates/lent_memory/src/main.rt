@@ -78,25 +78,25 @@ fn with(name: &[u8], i: usize, x: i64)
     let mut b = sample();
     b[i] = x;
     let t = [0i64; 6];
-    tell(name, graph::memory::refusal(&b, &t));
+    tell(name, memory::refuse::refusal(&b, &t));
 }
 
 fn lengths() {
     let b = sample();
     let t = [0i64; 7];
-    tell(b"a sound block", graph::memory::refusal(&b, &t[0..6]));
+    tell(b"a sound block", memory::refuse::refusal(&b, &t[0..6]));
     tell(
         b"the block a word short",
-        graph::memory::refusal(&b[0..52], &t[0..6]),
+        memory::refuse::refusal(&b[0..52], &t[0..6]),
     );
     tell(
         b"the scratch a word short",
-        graph::memory::refusal(&b, &t[0..5]),
+        memory::refuse::refusal(&b, &t[0..5]),
     );
-    tell(b"the scratch a word long", graph::memory::refusal(&b, &t));
+    tell(b"the scratch a word long", memory::refuse::refusal(&b, &t));
     tell(
         b"no block at all",
-        graph::memory::refusal(&b[0..0], &t[0..6]),
+        memory::refuse::refusal(&b[0..0], &t[0..6]),
     );
 }
 
@@ -108,7 +108,7 @@ fn longer() {
     b[2] = 2;
     b[3] = 4;
     let t = [0i64; 6];
-    tell(b"the block a word long", graph::memory::refusal(&b, &t));
+    tell(b"the block a word long", memory::refuse::refusal(&b, &t));
 }
 
 fn sizes() {
@@ -192,7 +192,7 @@ fn pair(name: &[u8], x: i64, y: i64) {
     b[49] = x;
     b[50] = y;
     let t = [0i64; 6];
-    tell(name, graph::memory::refusal(&b, &t));
+    tell(name, memory::refuse::refusal(&b, &t));
 }
 
 // How many words of b are not those of the sound block.
@@ -224,7 +224,7 @@ fn opening(name: &[u8], v: usize, e: usize, left: i64, weight: i64, virtuals: &[
     let edge = [left, 1, weight];
     tell(
         name,
-        graph::open::open(&mut b, &t, v, e, 2, 4, &edge, virtuals),
+        memory::open::open(&mut b, &t, v, e, 2, 4, &edge, virtuals),
     );
     tell(b"  words of the block that changed", changes(&b));
 }

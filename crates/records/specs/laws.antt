@@ -7,3 +7,6 @@ pub mod Table
 pub mod Setup
 pub mod Holding
 pub mod Opening
+pub mod Asking
+pub mod Standing
+pub mod Exported

@@ -6,8 +6,8 @@ ghost use Prim.Native.Nat.{_≤_};
 ghost use lib.ListN.{length};
 ghost use Rattle.records.specs.Opening.{largeSizes, complete, openCode, openBlock, openInto, blockOpened};
 use crate::setup::Setup;
-use graph::open;
 use graph::sizes;
+use memory::open;
 
 // Whether the sizes are above the program's.
 fn large_sizes(s: Setup) -> bool

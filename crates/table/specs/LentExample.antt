@@ -8,7 +8,7 @@ use lib.IntN.{ℤ, pos, negsuc}
 use Rattle.graph.specs.Open.{Edge}
 use Rattle.graph.specs.Opening.{joined, zeros, edgesFrom, virtualsFrom, openedWords}
 use Rattle.graph.specs.laws.Members.{clash}
-use Rattle.graph.specs.laws.Block.{block-formed}
+use Rattle.memory.specs.laws.Block.{block-formed}
 use Rattle.calls.specs.declared.Answer.the-variants.{Done, Node, Refused}
 use Rattle.calls.specs.Calls.{InsertDefect, InsertBlossom}
 use Rattle.calls.specs.Examples.{edge}
@@ -17,7 +17,8 @@ use Rattle.table.specs.Opens.{everythingLent}
 use Rattle.distance.specs.Table.{tableFromDistances}
 use Rattle.table.specs.History.{dualsOf}
 use Rattle.table.specs.Runs.{openedGraph, PositiveWeights}
-use Rattle.table.specs.Steps.{LentCall, lentOpen, lentDefect, lentBlossom, OpenCalled, open-refused, insert-defect, none, next, fed, LentRun, lentHistory, WithoutBlossoms}
+use Rattle.table.specs.Steps.{LentCall, lentOpen, lentDefect, lentBlossom, open-refused, insert-defect, none, next, fed, LentRun, lentHistory, WithoutBlossoms}
+use Rattle.graph.specs.Opening.{OpenCalled}
 use Rattle.table.specs.Delivered.{table-read-is-from-distances}
 
 -- ---- the opening: V 4, E 3, N 4, L 40

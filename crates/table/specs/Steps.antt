@@ -11,8 +11,8 @@ use lib.ListN.{length}
 use Rattle.graph.specs.Basic.{if_then_else_}
 use Rattle.graph.specs.Word.{toNat}
 use Rattle.graph.specs.Layout.{scratchLength}
-use Rattle.graph.specs.Open.{Edge, opened, openRefusal}
-use Rattle.graph.specs.Opening.{edgesFrom, virtualsFrom, fits, openedBlock}
+use Rattle.graph.specs.Open.{Edge, opened}
+use Rattle.graph.specs.Opening.{edgesFrom, virtualsFrom, OpenCalled}
 use Rattle.calls.specs.declared.Answer.{Answer}
 use Rattle.calls.specs.Calls.{Call, InsertDefect, InsertBlossom, SetGrowState, Prepare, MaxUpdateLength, Grow, ReadTable, Advance, Contacts, RepresentativeVertex, Clear}
 use Rattle.lent.specs.Called.{DefectCalled, BlossomCalled, StateCalled, PrepareCalled, LengthCalled, GrowCalled, AdvanceCalled, ClearCalled, VertexRead, TableRead, ContactsRead}
@@ -35,13 +35,7 @@ pub data LentCall : Type 0 where
   lentVertex : (t : List ℤ) (node : ℕ) → LentCall
   lentClear : (t : List ℤ) → LentCall
 
--- ---- what the functions promise
-
--- open (crate `graph`, src/open.rt): k is 0 or the refusal, and the block is the opened one or as it was
-abbrev pub OpenCalled : (b t : List ℤ) (v e n l : ℕ) (edges virtuals b' : List ℤ) (k : ℕ) → Type 0
-OpenCalled b t v e n l edges virtuals b' k =
-    (k ≡ openRefusal v e n l (edgesFrom edges) (virtualsFrom virtuals) (fits b t v e n l))
-    × (b' ≡ openedBlock v e n l (edgesFrom edges) (virtualsFrom virtuals) (fits b t v e n l) b)
+-- ---- what the functions promise (open: `OpenCalled`; the others: Called)
 
 -- From the block b a call leads to the block b'. Reading leaves the block. An opening among the calls is one that is refused: one that is accepted
 -- starts a list of calls of its own.

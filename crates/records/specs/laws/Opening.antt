@@ -15,9 +15,9 @@ use Rattle.graph.specs.Opening.{givenAt, edgeAt, edgesIn, edgesFrom, virtualsFr
 use Rattle.graph.specs.Layout.{blockLength, scratchLength}
 use Rattle.graph.specs.laws.State.{and-left, and-right}
 use Rattle.graph.specs.laws.Members.{by-test, both, or-neither-left, or-neither-right}
-use Rattle.graph.specs.laws.Open.{edges-count, edges-get, refusal-links, refusalOfLengths, refusalOfVirtuals}
+use Rattle.memory.specs.laws.Open.{edges-count, edges-get, refusal-links, refusalOfLengths, refusalOfVirtuals}
 use Rattle.graph.specs.laws.Opened.{getD-any, accepted}
-use Rattle.graph.specs.laws.OpenedBlock.{opened-length, opened-state, opened-formed, opened-block}
+use Rattle.memory.specs.laws.OpenedBlock.{opened-length, opened-state, opened-formed, opened-block}
 use Rattle.graph.specs.laws.Table.{table-eq}
 use Rattle.records.specs.Run.{Gathered, tooLarge, runRefusal}
 use Rattle.records.specs.declared.setup.Setup.{Setup}

@@ -16,8 +16,8 @@ use Rattle.graph.specs.Layout.{stateOf, sized, blockSound, memoryRefusal, listR
 use Rattle.graph.specs.Form.{Formed}
 use Rattle.graph.specs.laws.Members.{by-test, clash}
 use Rattle.graph.specs.laws.Opened.{Accepted, accepted}
-use Rattle.graph.specs.laws.OpenedBlock.{opened-state, opened-formed, opened-block}
-use Rattle.graph.specs.laws.Join.{numbers-plain}
+use Rattle.memory.specs.laws.OpenedBlock.{opened-state, opened-formed, opened-block}
+use Rattle.memory.specs.laws.Join.{numbers-plain}
 use Rattle.calls.specs.declared.Answer.{Answer}
 use Rattle.calls.specs.declared.Answer.the-variants.{Done, Refused}
 use Rattle.calls.specs.Answer.{Reply, says}

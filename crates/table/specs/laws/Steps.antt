@@ -13,7 +13,7 @@ use Rattle.graph.specs.Layout.{stateOf, memoryRefusal}
 use Rattle.graph.specs.Form.{Formed}
 use Rattle.graph.specs.Opening.{edgesFrom, virtualsFrom, fits}
 use Rattle.graph.specs.laws.Members.{by-test}
-use Rattle.graph.specs.laws.OpenedBlock.{refused-block}
+use Rattle.memory.specs.laws.OpenedBlock.{refused-block}
 use Rattle.calls.specs.declared.Answer.{Answer}
 use Rattle.calls.specs.Answer.{Reply, says}
 use Rattle.calls.specs.Refuse.{unless}

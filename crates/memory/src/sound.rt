@@ -1,0 +1,43 @@
+// The soundness test of a block of the right length, in time linear in the block.
+
+ghost use mathlib.Core.Path.{_≡_};
+ghost use mathlib.Core.Bool.{true, _&&_};
+ghost use Prim.Native.Nat.{_*_};
+ghost use Rattle.graph.specs.Sound.{sound};
+ghost use Rattle.graph.specs.Layout.{eOf, rowsOf, row, risingTo, packed, stateOf, sized, blockSound};
+ghost use Rattle.graph.specs.Form.{Laid, Listed};
+ghost use Rattle.graph.specs.laws.SidesAt.{Rising};
+use crate::sound_graph;
+use crate::sound_lists;
+use crate::sound_nodes;
+use graph::words;
+
+// Whether the state of a block is sound, where its lists stand in order.
+fn state_sound(b: &[i64]) -> bool
+    requires { ⌜ Laid (now b) × Listed (now b) × Rising (now b) ⌝ }
+    ensures { λ r. ⌜ r ≡ sound (stateOf (now (b .entry))) ⌝ }
+{
+    sound_graph::graph_sound(b) & sound_graph::sides_sound(b) & sound_nodes::nodes_sound(b)
+}
+
+// Whether the lists stand in order and the state is sound, where there are no more nodes than N.
+fn laid_sound(b: &[i64]) -> bool
+    requires { ⌜ Laid (now b) ⌝ }
+    ensures { λ r. ⌜ r ≡ packed (now (b .entry)) && risingTo (row (rowsOf (now (b .entry))) 4) (2 * eOf (now (b .entry))) && sound (stateOf (now (b .entry))) ⌝ }
+{
+    if sound_lists::packed(b) & sound_graph::rising(b) {
+        state_sound(b)
+    } else {
+        false
+    }
+}
+
+// Whether a block is sound.
+pub fn sound(b: &[i64]) -> bool
+    requires { ⌜ sized (now b) ≡ true ⌝ }
+    ensures { λ r. ⌜ r ≡ blockSound (now (b .entry)) ⌝ }
+{
+    let c = words::word(b, 4);
+    let n = words::word(b, 2);
+    if c <= n { laid_sound(b) } else { false }
+}

@@ -1,0 +1,175 @@
+-- The records of an input one after the other: what is told so far, followed by the lines of the rest, is the whole.
+use Prim.Native.Nat.{ℕ, _+_, _-_, _*_, _≤_, _<_}
+use native.Mathlib.Omega.{arith}
+use mathlib.Core.Path.{_≡_, refl, sym, ap, _∙_}
+use mathlib.Core.Logic.{_≢_}
+use mathlib.Core.Bool.{Bool, true, false, _&&_, not}
+use mathlib.Core.List.{List, [], _∷_, _++_}
+use lib.IntN.{ℤ, pos}
+use lib.Dec.{eqb, ltb}
+use lib.ListN.{length, take, drop, getD, replicate, length-take, length-drop, length-replicate, drop-of-length-le}
+use lib.Seq.{drop-drop, getD-drop}
+use borrow.Author.Tests.{ltb-true, ltb-false, lt-ltb, le-ltb, ne-eqb, not-false}
+use Rattle.graph.specs.Basic.{if_then_else_}
+use Rattle.graph.specs.laws.State.{and-left, and-right}
+use Rattle.graph.specs.laws.Members.{by-test, clash}
+use Rattle.pass.specs.Scratch.{zeroScratch}
+use Rattle.records.specs.Record.{Record, illFormed, next, pairAt, decoded, nextRecord}
+use Rattle.records.specs.Run.{Stage, fresh, gathering, running, ended, Turn, turn, ends, linesIn, fittedLines, filled}
+use Rattle.records.specs.declared.setup.Setup.{Setup}
+use Rattle.records.specs.Standing.{Memory, memory, Stands, Standing, Roomy, Turned, Stepped}
+use Rattle.records.specs.Write.{page, putLines, Told}
+use Rattle.records.specs.laws.Lines.{linesFrom, lines-from-end, lines-from-step, lines-in-start, next-none, run-ended}
+use Rattle.records.specs.laws.Write.{told-none, told-stopped, told-over-all}
+use Rattle.records.specs.laws.Table.{Telling, telling-none, telling-more, telling-all}
+use Rattle.records.specs.laws.Standing.{turn-ill, turned-stop}
+
+-- ---- the next record
+
+module _ (b : List ℕ) (i : ℕ) (h : i < length b) where
+  rest-some : eqb (length (drop i b)) 0 ≡ false
+  rest-some = ne-eqb (length (drop i b)) 0 (λ q. omega (arith, length-drop i b))
+
+  pair-later : pairAt (drop i b) 0 ≡ pairAt b i
+  unfolding pairAt
+  pair-later =
+      let z : i + 0 ≡ i = omega arith in
+      rw (getD-drop i b 0 0, getD-drop i b 1 0, z)
+
+  -- input that ends inside it
+  pub next-cut : length b - i < 2 + pairAt b i → nextRecord (drop i b) ≡ next illFormed (drop (length b) b)
+  unfolding nextRecord
+  next-cut k =
+      let e : ltb (length (drop i b)) (2 + pairAt (drop i b) 0) ≡ true = lt-ltb (length (drop i b)) (2 + pairAt (drop i b) 0) (rw pair-later (omega (arith, length-drop i b))) in
+      rw (rest-some, e, drop-of-length-le b {i = length b} (omega arith))
+
+  pub next-body : (j : ℕ) → j ≡ i + 2 + pairAt b i → j ≤ length b → nextRecord (drop i b) ≡ next (decoded (take (j - (i + 2)) (drop (i + 2) b))) (drop j b)
+  unfolding nextRecord
+  next-body j ej k =
+      let e : ltb (length (drop i b)) (2 + pairAt (drop i b) 0) ≡ false = le-ltb (length (drop i b)) (2 + pairAt (drop i b) 0) (rw pair-later (omega (arith, length-drop i b))) in
+      let x : j - (i + 2) ≡ pairAt b i = omega arith in
+      let y : i + (2 + pairAt b i) ≡ j = omega arith in
+      rw (rest-some, e, pair-later, drop-drop 2 i b, drop-drop (2 + pairAt b i) i b, x, y)
+
+module _ {b : List ℕ} {i : ℕ} {k : ℕ} {m m' : Memory} {p q : List ℕ} {n l : ℕ} {full stopped : Bool} (h : i < length b) where
+  pub stepped-cut : {j : ℕ} → m .stage < 3 → length b - i < 2 + pairAt b i → j ≡ length b → Told p n full q l stopped (ends k 3 .lines) → m' .stage ≡ 3 → Stepped b i j k m m' p n full q l stopped
+  stepped-cut g short ej t e = rw ej (record {
+    said = illFormed;
+    is-next = next-cut b i h short;
+    turned = turned-stop 3 (λ s x. turn-ill m k s x g) t e;
+    on = h;
+    within = omega arith;
+  })
+
+  pub stepped-body : {j : ℕ} → j ≡ i + 2 + pairAt b i → j ≤ length b → Turned k m m' p n full q l stopped (decoded (take (j - (i + 2)) (drop (i + 2) b))) → Stepped b i j k m m' p n full q l stopped
+  stepped-body {j} e g t = record {
+    said = decoded (take (j - (i + 2)) (drop (i + 2) b));
+    is-next = next-body b i h j e g;
+    turned = t;
+    on = omega arith;
+    within = g;
+  }
+
+-- a body of two bytes' length
+pub part-short : (n : ℕ) (l : List ℕ) → n ≤ 65535 → length (take n l) ≤ 65535
+part-short n l h = omega (arith, length-take n l)
+
+-- ---- all records
+
+-- at place i, behind k records: where the run stands, and that the lines told and those of the rest are all
+pub record Progress (b lines₀ : List ℕ) (i k : ℕ) (m : Memory) (scratch : List ℤ) (lines : List ℕ) (n : ℕ) (full : Bool) : Type 0 where
+  pub at : Stage
+  pub stands : Stands m at
+  pub telling : Telling lines₀ 0 false lines n full (linesIn b) (linesFrom (k + 1) at (drop i b))
+  pub place : i ≤ length b
+  pub counted : k ≤ i
+  pub roomy : Roomy (m .block) scratch (m .edges) (m .virtuals)
+  pub same : length lines ≡ length lines₀
+
+zeros-long : (n m : ℕ) → m ≤ n → m ≤ length (replicate n (pos 0))
+zeros-long n m h = rw (length-replicate {A = ℤ} n (pos 0)) h
+
+zeros-are : (n : ℕ) → replicate n (pos 0) ≡ zeroScratch (length (replicate n (pos 0)))
+unfolding zeroScratch
+zeros-are n = rw (length-replicate {A = ℤ} n (pos 0))
+
+pub roomy-start : Roomy (replicate 4096 (pos 0)) (replicate 768 (pos 0)) (replicate 384 (pos 0)) (replicate 65 (pos 0))
+roomy-start = record {
+  words = zeros-long 4096 4096 (omega arith);
+  scratch-words = zeros-long 768 768 (omega arith);
+  edge-words = zeros-long 384 384 (omega arith);
+  virtual-words = zeros-long 65 65 (omega arith);
+  zero = zeros-are 768;
+}
+
+pub progress-start : (b lines : List ℕ) (k j : ℕ) (t : Setup) (block scratch edges virtuals : List ℤ) → k ≡ 0 → j ≡ 0 → Roomy block scratch edges virtuals → Progress b lines 0 k (memory j t block edges virtuals) scratch lines 0 false
+unfolding Stands
+progress-start b lines k j t block scratch edges virtuals ek ej r = record {
+  at = fresh;
+  stands = ej;
+  telling = telling-none (omega arith) (rw ek (sym (lines-in-start b)));
+  place = omega arith;
+  counted = omega arith;
+  roomy = r;
+  same = refl;
+}
+
+module _ {b lines₀ : List ℕ} {i k : ℕ} {m : Memory} {scratch : List ℤ} {lines : List ℕ} {n : ℕ} {full : Bool} (p : Progress b lines₀ i k m scratch lines n full) where
+  -- the next record
+  pub progress-step : {j k' : ℕ} {m' : Memory} {scratch' : List ℤ} {lines' : List ℕ} {n' : ℕ} {full' : Bool} → Stepped b i j (k + 1) m m' lines n full lines' n' full' → k' ≡ k + 1 → scratch' ≡ scratch
+      → length (m' .block) ≡ length (m .block) → length (m' .edges) ≡ length (m .edges) → length (m' .virtuals) ≡ length (m .virtuals) → length lines' ≡ length lines
+      → Progress b lines₀ j k' m' scratch' lines' n' full'
+  progress-step {j} q ek es lb le lv ll = record {
+    at = turn (k + 1) (p .at) (q .said) .stage;
+    stands = q .turned .stands (p .at) (p .stands);
+    telling = rw ek (telling-more (p .telling) (lines-from-step (k + 1) (p .at) (drop i b) (q .said) (drop j b) (q .is-next)) (q .turned .told (p .at) (p .stands)));
+    place = q .within;
+    counted = omega (arith, p .counted, q .on);
+    roomy = record {
+      words = rw lb (p .roomy .words);
+      scratch-words = rw es (p .roomy .scratch-words);
+      edge-words = rw le (p .roomy .edge-words);
+      virtual-words = rw lv (p .roomy .virtual-words);
+      zero = rw es (p .roomy .zero);
+    };
+    same = ll ∙ p .same;
+  }
+
+  -- all are told at the end of the input
+  told-at-end : length b ≤ i → Told lines₀ 0 false lines n full (linesIn b)
+  told-at-end h = telling-all (p .telling) (lines-from-end (k + 1) (p .at) (drop i b) (next-none (drop i b) (omega (arith, length-drop i b))))
+
+  -- where the run has ended
+  stage-ended : (s : Stage) → Stands m s → 3 ≤ m .stage → linesFrom (k + 1) s (drop i b) ≡ []
+  unfolding Stands linesFrom
+  stage-ended fresh q h = absurd (omega arith)
+  stage-ended (gathering g) q h = absurd (omega (arith, q .0))
+  stage-ended (running c) q h = absurd (omega (arith, q .0))
+  stage-ended ended q h = run-ended (length (drop i b)) (k + 1) (drop i b)
+
+  told-at-stop : 3 ≤ m .stage → Told lines₀ 0 false lines n full (linesIn b)
+  told-at-stop h = telling-all (p .telling) (stage-ended (p .at) (p .stands) h)
+
+  -- and behind a line that does not fit
+  told-when-full : full ≡ true → Told lines₀ 0 false lines n full (linesIn b)
+  told-when-full e =
+      let rest : List (List ℕ) = linesFrom (k + 1) (p .at) (drop i b) in
+      let t : Told lines n true lines n true ([] ++ rest) = told-stopped rest (told-none (p .telling .room)) in
+      record { page-is = rw e (t .page-is) ∙ p .telling .goes-on; room = p .telling .room }
+
+  pub progress-told : ltb i (length b) && ltb (m .stage) 3 && not full ≡ false → Told lines₀ 0 false lines n full (linesIn b)
+  progress-told h =
+      by-test full (λ e. told-when-full e) (λ e.
+      by-test (ltb (m .stage) 3)
+      (λ f. by-test (ltb i (length b)) (λ g. clash true refl (rw (e, f, g) at h)) (λ g. told-at-end (ltb-false i (length b) g)))
+      (λ f. told-at-stop (ltb-false (m .stage) 3 f)))
+
+  pub progress-done : ltb i (length b) && ltb (m .stage) 3 && not full ≡ false → (lines ≡ filled b lines₀) × (n ≡ length (fittedLines b (length lines₀)))
+  unfolding filled fittedLines
+  progress-done h = told-over-all (linesIn b) (progress-told h)
+
+-- while there are bytes, the run has not ended and all lines fit
+pub goes-on : (i n s : ℕ) (full : Bool) → ltb i n && ltb s 3 && not full ≡ true → (i < n) × (s < 3)
+goes-on i n s full h =
+    let both = and-left (ltb i n && ltb s 3) (not full) h in
+    (ltb-true i n (and-left (ltb i n) (ltb s 3) both), ltb-true s 3 (and-right (ltb i n) (ltb s 3) both))
