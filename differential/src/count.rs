@@ -1,7 +1,7 @@
 //! The summary: what was compared, by kind of answer and by kind of graph.
 use crate::compare::Found;
 use crate::graphs::KINDS;
-use crate::records::{fields, kind};
+use crate::records::{fields, kind, Record};
 use crate::streams::{Stream, POLICIES};
 use std::collections::BTreeMap;
 
@@ -30,11 +30,14 @@ pub struct Counts {
     several: usize,
 }
 
-const ORDER: [&str; 13] = ["node", "done", "prepared", "free", "free -1", "conflict", "virtual", "expand", "stop", "stop, peer", "edge", "contact", "refused"];
+const ORDER: [&str; 14] = ["node", "done", "prepared", "free", "free -1", "conflict", "conflict, stop", "virtual", "expand", "stop", "stop, peer", "edge", "contact", "refused"];
 
-fn answer(line: &str) -> (usize, String) {
-    let w: Vec<_> = line.split(' ').skip(1).collect();
+/// The kind of a line. A conflict that does not name the node that was asked comes from a shrink stop.
+fn answer(line: &str, records: &[Record]) -> (usize, String) {
+    let mut w: Vec<_> = line.split(' ').collect();
+    let asked = &records[w.remove(0).parse::<usize>().unwrap() - 1];
     let name = match (w[0], w.len()) {
+        ("conflict", _) if w[3].parse().ok() != fields(asked).first().copied() => "conflict, stop".to_string(),
         ("free", _) if w[1] == "-1" => "free -1".to_string(),
         ("stop", 4) => "stop, peer".to_string(),
         ("refused", _) => w.join(" "),
@@ -71,7 +74,7 @@ impl Counts {
                 self.passes = self.passes.max(n);
                 self.several += usize::from(n > 1);
             }
-            self.answers.entry(answer(line)).or_default()[g] += 1;
+            self.answers.entry(answer(line, &s.records)).or_default()[g] += 1;
         }
         self.graph(s);
         self.nests(s);
