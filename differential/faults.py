@@ -13,8 +13,8 @@ SRC = os.environ.get('FB_SRC', os.path.join(ROOT, '..', 'shared', 'docs', 'src')
 FAULTS = [
     ('the gap to a Stay peer is halved', 'DualNodeGrowState::Stay => remaining_length,', 'DualNodeGrowState::Stay => remaining_length / 2,', 0),
     ('an odd gap is halved upward', 'remaining_length / 2\n', '(remaining_length + 1) / 2\n', 0),
-    ('every overgrown entry grows', '                *overgrown += length;\n',
-     '                *overgrown += length;\n                for x in dual_node_internal.overgrown_stack.iter_mut().take(last_index) { x.1 += length; }\n', 0),
+    ('every overgrown entry grows (shrinking them all as well would undo it)', '                *overgrown += length;\n',
+     '                *overgrown += length;\n                for x in dual_node_internal.overgrown_stack.iter_mut().take(last_index) { x.1 += length.max(0); }\n', 0),
     ('one of two edges that fill together is dropped', 'edge.left_growth + edge.right_growth == edge.weight && peer_dual_node.is_none() {',
      'edge.left_growth + edge.right_growth == edge.weight && peer_dual_node.is_none()\n'
      '&& !self.propagating_vertices.iter().any(|x| x.0 == if is_left { edge.right.clone() } else { edge.left.clone() }) {', 0),
@@ -24,7 +24,6 @@ FAULTS = [
      '                    if is_left { edge.left_growth -= over } else { edge.right_growth -= over }\n                }\n'
      '                (edge.left_growth + edge.right_growth, edge.weight)\n', 0),
     ('shrinking forgets the top overgrown amount', 'max_length_abs = std::cmp::min(max_length_abs, *overgrown);', '', 0),
-    ('only edges that are exactly full are shrunk along', 'edge.left_growth + edge.right_growth >= edge.weight;', 'edge.left_growth + edge.right_growth == edge.weight;', 0),
     ('a circle is joined backward', 'for dual_node_weak in nodes_circle.iter() {\n                        let dual_node_ptr', 'for dual_node_weak in nodes_circle.iter().rev() {\n                        let dual_node_ptr', 0),
     ('a stop forgets its second peer', 'if &peer_dual_node_ptr != other_dual_node_ptr {', 'if false {', 0),
     ('taking a vertex over an edge of weight 0 calls for no other pass', 'newly_propagated_edge_has_zero_weight = true;', '', 0),
@@ -58,7 +57,7 @@ def main():
             found = re.search(r'^different: (\d+)$', p.stdout, re.M)
             n = int(found.group(1)) if found else -1
             small = min(re.findall(r'^reduced to: (.*)$', p.stdout, re.M), key=len, default='')
-            print('%-66s %s' % (name, '%d of %s streams differ' % (n, runs) if n >= 0 else 'no summary: ' + p.stderr[-300:]), flush=True)
+            print('%-70s %s' % (name, '%d of %s streams differ' % (n, runs) if n >= 0 else 'no summary: ' + p.stderr[-300:]), flush=True)
             if small:
                 print('    ' + small, flush=True)
             missed += n <= 0

@@ -8,7 +8,8 @@ pub struct Graph {
     pub virtuals: Vec<i32>,
 }
 
-pub const KINDS: [&str; 7] = ["patch", "rounds", "strip", "multigraph", "hub", "chain", "dense"];
+pub const KINDS: [&str; 8] = ["patch", "rounds", "strip", "multigraph", "hub", "chain", "dense", "tree"];
+pub const TREE: usize = 7;
 
 /// How weights are drawn.
 #[derive(Clone, Copy)]
@@ -219,6 +220,19 @@ fn dense(r: &mut Random, w: Weights) -> Graph {
     Graph { kind: 6, v, edges, virtuals: some_virtuals(r, v, 15) }
 }
 
+/// A tree, some edges doubled: a cluster overgrows its leaves one after another.
+fn tree(r: &mut Random, w: Weights) -> Graph {
+    let v = r.range(3, 24);
+    let near = r.range(1, 8);
+    let mut edges: Vec<_> = (1..v).map(|x| (r.range((x - near).max(0), x - 1), x, weight(r, w))).collect();
+    for _ in 0..if r.chance(30) { r.range(1, 3) } else { 0 } {
+        let e = r.pick(&edges);
+        edges.push((e.1, e.0, weight(r, w)));
+    }
+    let virtuals = if r.chance(50) { vec![] } else { vec![r.range(0, v - 1)] };
+    Graph { kind: TREE, v, edges, virtuals }
+}
+
 pub fn graph(r: &mut Random) -> Graph {
     let w = r.pick(&[Weights::Same, Weights::Even, Weights::Even, Weights::Odd, Weights::Zero, Weights::Zero, Weights::Sparse, Weights::Large]);
     match r.range(0, 99) {
@@ -234,10 +248,11 @@ pub fn graph(r: &mut Random) -> Graph {
             let d = r.pick(&[5, 7, 9, 11, 13, 15]);
             strip(r, d, w)
         }
-        37..=61 => multigraph(r, w),
-        62..=75 => hub(r, w),
-        76..=88 => chain(r, w),
-        _ => dense(r, w),
+        37..=58 => multigraph(r, w),
+        59..=69 => hub(r, w),
+        70..=80 => chain(r, w),
+        81..=88 => dense(r, w),
+        _ => tree(r, w),
     }
 }
 

@@ -17,6 +17,8 @@ pub struct Stream {
 
 pub const POLICIES: [&str; 6] = ["decoding", "any calls", "breathing", "nesting", "bad fields", "unprepared"];
 
+const BREATHING: usize = 2;
+
 /// How often a policy does what, in parts.
 struct Policy {
     follow: i32,
@@ -259,7 +261,7 @@ fn broken(r: &mut Random) -> Record {
 pub fn stream(seed: u64) -> Stream {
     let r = &mut Random::new(seed);
     let g = graphs::graph(r);
-    let policy = r.below(POLICIES.len());
+    let policy = if g.kind == graphs::TREE && r.chance(50) { BREATHING } else { r.below(POLICIES.len()) };
     let mut calls = match r.range(0, 19) {
         0 => r.range(600, 2500),
         1..=6 => r.range(150, 600),
