@@ -50,7 +50,7 @@ fn tell(what: &[u8], n: usize) {
 
 // 1 where a frame was read.
 fn read(x: usize) -> usize
-    ensures { λ r. ⌜ (x ≡ 0 → r ≡ 0) × (x ≢ 0 → r ≡ 1) ⌝ }
+    ensures { λ r. ⌜ (x ≡ 0 → r ≡ 0) × (x ≢ 0 → r ≡ 1) × (r ≤ 1) ⌝ }
 {
     if x == 0 { 0 } else { 1 }
 }
@@ -79,7 +79,10 @@ fn replay_all(records: &mut [u8], wanted: &mut [u8], lines: &mut [u8]) -> Count 
         frames += read(x);
         differ += differs(x);
     }
-    Count { frames: frames, differ: differ }
+    Count {
+        frames: frames,
+        differ: differ,
+    }
 }
 
 fn main() {

@@ -1,6 +1,18 @@
+use Prim.Native.Nat.{ℕ, _≤_}
+use native.Mathlib.Omega.{arith}
+use mathlib.Core.Path.{_≡_}
+use mathlib.Core.List.{List}
+use lib.ListN.{length}
+use Rattle.records.specs.Run.{linesIn, fittedLines}
+use Rattle.records.specs.laws.Lines.{fitting-le}
 use borrow.Author.Needs.{needs}
 use Rattle.replay.proofs.replay.Statement.{statement}
 use Rattle.replay.proofs.replay.Tie as tie
+
+-- what is written fits
+fitted : (b : List ℕ) (space : ℕ) {k : ℕ} → k ≡ length (fittedLines b space) → k ≤ space
+unfolding fittedLines
+fitted b space e = rw e (fitting-le space (linesIn b))
 
 cardrun-lines-requires : tie.Need-cardrun-lines-requires
 cardrun-lines-requires c κs = search needs
@@ -12,7 +24,7 @@ part-same-start : tie.Need-part-same-start
 part-same-start c = search needs
 
 part-same-end : tie.Need-part-same-end
-part-same-end c = ?
+part-same-end c = let s = c .before .before .before .before .before .before .before .before in let k = c .before .before .before .cardrun-lines in omega (arith, k .kept .1 .0, fitted (s .args .records .now) (length (s .args .lines .now)) (k .ensures .1))
 
 same-requires : tie.Need-same-requires
 same-requires c κs = search needs
