@@ -10,6 +10,7 @@ FILE may be - for standard input. The program is target/bin/cardrun, or the one 
 file, line and reason, and status 2. The text form stands at the top of tools/card_text.py.
 """
 import argparse
+import os
 import sys
 
 import card_draw
@@ -59,6 +60,7 @@ def main():
         if args.command == 'decode':
             for line in card_text.lines(data):
                 print(line)
+            sys.stdout.flush()
             return 0
         text = card_text.parse(data)
         if args.command == 'encode':
@@ -68,6 +70,9 @@ def main():
     except card_text.BadText as e:
         print(f'{name}:{e.line}: {e}', file=sys.stderr)
         return 2
+    except BrokenPipeError:  # the reader of our lines has gone
+        os.dup2(os.open(os.devnull, os.O_WRONLY), 1)
+        return 1
     except OSError as e:
         print(f'{e.filename}: {e.strerror}', file=sys.stderr)
         return 2

@@ -1,5 +1,6 @@
 """Runs records through cardrun and reads its lines."""
 import os
+import re
 import subprocess
 
 from card_text import DIRECTIONS, KINDS, split
@@ -26,7 +27,11 @@ def cardrun(records):
         raise NoAnswer(f"cannot run {os.path.relpath(program)} ({e.strerror}): build it with 'rt check cardrun', or name it in CARDRUN")
     if done.returncode:
         raise NoAnswer(f'{os.path.relpath(program)} ended with status {done.returncode}')
-    return done.stdout.decode()
+    lines = done.stdout.decode(errors='replace')
+    for line in lines.splitlines():
+        if not re.fullmatch(r'[0-9]+ [a-z]+( -?[0-9]+)*', line):
+            raise NoAnswer(f"{os.path.relpath(program)} wrote '{line[:40]}', which is no line of cardrun")
+    return lines
 
 
 class Run:
@@ -100,10 +105,10 @@ class Run:
 
     def unexpected(self, expected):
         """The expected answers that did not come, as (line, reason)."""
-        for r in self.records:
-            line, want = expected.get(r.offset, (None, None))
-            got = self.answers.get(r.number, [])
-            if line is not None and want != got:
+        number = {r.offset: r.number for r in self.records}
+        for offset, (line, want) in expected.items():
+            got = self.answers.get(number.get(offset), [])
+            if want != got:
                 yield line, f"expected {', '.join(want) or 'nothing'}; the answer is {', '.join(got) or 'nothing'}"
 
     def table(self):

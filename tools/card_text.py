@@ -101,7 +101,8 @@ def parse(data):
         raise BadText(data[:e.start].count(b'\n') + 1, f'not text: byte {data[e.start]:#04x} is not UTF-8')
     for line, whole in enumerate(text.split('\n'), 1):
         code, _, comment = whole.partition('#')
-        out.title = out.title or comment.strip()
+        if not code.strip() and not out.records:
+            out.title = out.title or comment.strip()
         for part in code.split(';'):
             call, arrow, answer = part.replace('->', '→').partition('→')
             words = call.split()

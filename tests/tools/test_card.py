@@ -171,6 +171,28 @@ class Card(unittest.TestCase):
                 self.assertEqual(card('draw', svg[:-3] + 'txt', '-o', out), (0, b'', ''))
                 self.assertEqual(content(out), content(svg), svg)
 
+    def test_the_first_graph_page(self):
+        steps = []  # command and what it writes
+        for line in content(TOP, 'docs', 'FIRST-GRAPH.md').decode().splitlines():
+            here = steps and "<<'END'" in steps[-1][0] and not steps[-1][0].endswith('\nEND')
+            if here:
+                steps[-1][0] += '\n' + line[4:]
+            elif line.startswith('    $ '):
+                steps.append([line[6:], ''])
+                inside = True
+            elif line.startswith('    ') and steps and inside:
+                steps[-1][1] += line[4:] + '\n'
+            else:
+                inside = False
+        self.assertGreater(len(steps), 7)
+        with tempfile.TemporaryDirectory() as folder:
+            for name in ('tools', 'examples', 'target'):
+                os.symlink(os.path.join(TOP, name), os.path.join(folder, name))
+            for command, want in steps:
+                r = subprocess.run(['sh', '-c', command], stdout=subprocess.PIPE, stderr=subprocess.STDOUT, cwd=folder)
+                self.assertEqual(r.stdout.decode(), want, command)
+            self.assertLess(4, len([f for f in os.listdir(folder) if f.endswith(('.svg', '.txt', '.records'))]))
+
 
 if __name__ == '__main__':
     unittest.main()
