@@ -36,10 +36,8 @@ def run(name, text):
     return 1 if bad else 0
 
 
-def draw(name, text, out):
-    table = card_text.record('table', [])
-    r = card_run.Run(text.records + table)
-    svg = card_draw.picture(r, text)
+def draw(text, out):
+    svg = card_draw.picture(card_run.Run(text.records + card_text.record('table', [])), text)
     with open(out, 'w', encoding='utf-8') as f:
         f.write(svg)
     return 0
@@ -66,7 +64,7 @@ def main():
         if args.command == 'encode':
             sys.stdout.buffer.write(text.records)
             return 0
-        return run(name, text) if args.command == 'run' else draw(name, text, args.out)
+        return run(name, text) if args.command == 'run' else draw(text, args.out)
     except card_text.BadText as e:
         print(f'{name}:{e.line}: {e}', file=sys.stderr)
         return 2

@@ -6,7 +6,8 @@
 VECTORS names the file of streams (default ../shared/vectors/streams.bin). The program is target/bin/cardrun or the one that
 CARDRUN names; while there is none, the model stands in for it (tests/tools/cardrun_model, MODEL).
 """
-import glob, os, struct, subprocess, sys, tempfile, unittest
+import glob, math, os, struct, subprocess, sys, tempfile, unittest
+from xml.etree import ElementTree
 
 HERE = os.path.dirname(os.path.abspath(__file__))
 TOP = os.path.dirname(os.path.dirname(HERE))
@@ -15,6 +16,7 @@ CARD = os.path.join(TOP, 'tools', 'card.py')
 if 'CARDRUN' not in os.environ and not os.path.exists(os.path.join(TOP, 'target', 'bin', 'cardrun')):
     os.environ['CARDRUN'] = os.path.join(HERE, 'cardrun_model')
 sys.path.insert(0, os.path.join(TOP, 'tools'))
+import card_draw  # noqa: E402
 import card_run  # noqa: E402
 import card_text  # noqa: E402
 
@@ -170,6 +172,22 @@ class Card(unittest.TestCase):
                 out = os.path.join(folder, 'out.svg')
                 self.assertEqual(card('draw', svg[:-3] + 'txt', '-o', out), (0, b'', ''))
                 self.assertEqual(content(out), content(svg), svg)
+
+    def test_growth_is_drawn_in_proportion(self):
+        def bars(svg, colour):
+            lines = [p for p in ElementTree.fromstring(svg).iter('{http://www.w3.org/2000/svg}polyline') if p.get('stroke') == colour]
+            return [[tuple(map(float, q.split(','))) for q in p.get('points').split()] for p in lines]
+        length = lambda p: round(math.dist(p[0], p[-1]), 1)
+        found = bars(content(TOP, 'examples', 'p1.svg'), card_draw.GROWN)
+        self.assertEqual([length(p) for p in found][:4], [80.0] * 4)  # 2 of 4 units at both defects, a unit having 40
+        self.assertEqual(found[1][-1], found[2][0])  # they meet
+        over = bars(content(TOP, 'examples', 'p9.svg'), card_draw.OVER)
+        self.assertEqual(length(over[0]), length(over[1]))
+        with tempfile.TemporaryDirectory() as folder:
+            out = os.path.join(folder, 'out.svg')
+            odd = '# a < b & "c"\ngraph 3 4 4 90; edge 0 1 0; edge 0 1 3; edge 1 0 5; edge 1 2 1000000; defect 0 grow; grow 0 1'
+            self.assertEqual(card('draw', '-', '-o', out, given=odd.encode()), (0, b'', ''))
+            self.assertIn('a < b & "c"', [t.text for t in ElementTree.parse(out).iter('{http://www.w3.org/2000/svg}text')])
 
     def test_the_first_graph_page(self):
         steps = []  # command and what it writes
