@@ -1,11 +1,11 @@
 -- Where a run stands, by what the memory holds: the struct of src/run.rt, the block, the scratch, and the words of edges and virtual vertices.
-use Prim.Native.Nat.{ℕ, _+_, _*_, _≤_, _<_}
+use Prim.Native.Nat.{ℕ, _*_, _≤_, _<_}
 use mathlib.Core.Path.{_≡_}
 use mathlib.Core.Bool.{Bool, true, false}
 use mathlib.Core.List.{List}
 use lib.IntN.{ℤ}
 use lib.ListN.{length, take, drop}
-use Rattle.graph.specs.State.{State, edgeCount, sideCount}
+use Rattle.graph.specs.State.{edgeCount, sideCount}
 use Rattle.graph.specs.Open.{sizesOk}
 use Rattle.graph.specs.Layout.{blockLength, stateOf}
 use Rattle.graph.specs.Form.{Formed}

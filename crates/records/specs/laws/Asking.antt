@@ -7,13 +7,12 @@ use mathlib.Core.Bool.{Bool, true, false}
 use mathlib.Core.List.{List, [], _∷_, _++_, map, append-nil}
 use lib.IntN.{ℤ, pos}
 use lib.Dec.{eqb, leb}
-use lib.ListN.{length, getD, take, drop, set, replicate, take-append-drop}
+use lib.ListN.{length, getD, take, drop, set, take-append-drop}
 use lib.Seq.{take-suc-set, take-at, length-take-le}
-use borrow.Author.Tests.{eqb-true, leb-true, eq-eqb}
-use Rattle.graph.specs.Basic.{if_then_else_}
+use borrow.Author.Tests.{eqb-true}
 use Rattle.graph.specs.Word.{toNat}
-use Rattle.graph.specs.State.{State, edgeCount, sideCount}
-use Rattle.graph.specs.Open.{cleared, opened, sizesOk}
+use Rattle.graph.specs.State.{State, sideCount}
+use Rattle.graph.specs.Open.{opened}
 use Rattle.graph.specs.Opening.{Cleared}
 use Rattle.graph.specs.Layout.{blockLength, stateOf}
 use Rattle.graph.specs.Form.{Formed}
@@ -24,17 +23,17 @@ use Rattle.calls.specs.declared.Answer.{Answer}
 use Rattle.calls.specs.Answer.{Reply}
 use Rattle.calls.specs.Reply.{Usable, Replies, RepliesInsert}
 use Rattle.calls.specs.Insert.{insertDefect, insertBlossom}
-use Rattle.calls.specs.Calls.{Call, Response, InsertDefect, InsertBlossom, SetGrowState, Prepare, MaxUpdateLength, Grow, ReadTable, Advance, Contacts, Clear, setGrowState, prepareDualNodeGrowth, maxUpdateLength, growDualNode, advance, clear, growthTable, contacts, growths, touching, answered, response, respond}
+use Rattle.calls.specs.Calls.{Call, InsertDefect, InsertBlossom, SetGrowState, Prepare, MaxUpdateLength, Grow, Advance, setGrowState, prepareDualNodeGrowth, maxUpdateLength, growDualNode, advance, clear, growthTable, contacts, growths, touching, answered, response, respond}
 use Rattle.reachable.specs.Reachable.{after, Reachable}
 use Rattle.reachable.specs.Theorems.{reachable-sound}
-use Rattle.records.specs.Record.{Record, sizes, anEdge, aVirtual, ask, illFormed, pairAt, field, fields, fieldCounts, signed, askLength, recordOf, decoded}
+use Rattle.records.specs.Record.{Record, sizes, ask, field, fields, fieldCounts, signed, askLength, recordOf, decoded}
 use Rattle.records.specs.Decode.{isRecord, wellFormed}
 use Rattle.records.specs.Lines.{line, wordsOf, linesFor}
 use Rattle.records.specs.Write.{Told}
 use Rattle.records.specs.declared.setup.Setup.{Setup}
 use Rattle.records.specs.Standing.{callOf, callIn, OfKind, Opened, Answers, partOf, Runs, Asked}
 use Rattle.records.specs.laws.Decode.{lengthy, formed-fits, formed-length, fields-there, circle-there, decoded-kind, kind-range}
-use Rattle.records.specs.laws.Opening.{Small, small-of}
+use Rattle.records.specs.laws.Opening.{small-of}
 
 -- ---- how long the body is
 

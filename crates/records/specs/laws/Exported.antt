@@ -1,28 +1,26 @@
 -- The records of an input one after the other: what is told so far, followed by the lines of the rest, is the whole.
-use Prim.Native.Nat.{ℕ, _+_, _-_, _*_, _≤_, _<_}
+use Prim.Native.Nat.{ℕ, _+_, _-_, _≤_, _<_}
 use native.Mathlib.Omega.{arith}
-use mathlib.Core.Path.{_≡_, refl, sym, ap, _∙_}
-use mathlib.Core.Logic.{_≢_}
+use mathlib.Core.Path.{_≡_, refl, sym, _∙_}
 use mathlib.Core.Bool.{Bool, true, false, _&&_, not}
-use mathlib.Core.List.{List, [], _∷_, _++_}
+use mathlib.Core.List.{List, [], _++_}
 use lib.IntN.{ℤ, pos}
 use lib.Dec.{eqb, ltb}
-use lib.ListN.{length, take, drop, getD, replicate, length-take, length-drop, length-replicate, drop-of-length-le}
+use lib.ListN.{length, take, drop, replicate, length-take, length-drop, length-replicate, drop-of-length-le}
 use lib.Seq.{drop-drop, getD-drop}
-use borrow.Author.Tests.{ltb-true, ltb-false, lt-ltb, le-ltb, ne-eqb, not-false}
-use Rattle.graph.specs.Basic.{if_then_else_}
+use borrow.Author.Tests.{ltb-true, ltb-false, lt-ltb, le-ltb, ne-eqb}
 use Rattle.graph.specs.laws.State.{and-left, and-right}
 use Rattle.graph.specs.laws.Members.{by-test, clash}
 use Rattle.pass.specs.Scratch.{zeroScratch}
-use Rattle.records.specs.Record.{Record, illFormed, next, pairAt, decoded, nextRecord}
-use Rattle.records.specs.Run.{Stage, fresh, gathering, running, ended, Turn, turn, ends, linesIn, fittedLines, filled}
+use Rattle.records.specs.Record.{illFormed, next, pairAt, decoded, nextRecord}
+use Rattle.records.specs.Run.{Stage, fresh, gathering, running, ended, turn, ends, linesIn, fittedLines, filled}
 use Rattle.records.specs.declared.setup.Setup.{Setup}
-use Rattle.records.specs.Standing.{Memory, memory, Stands, Standing, Roomy, Turned, Stepped}
-use Rattle.records.specs.Write.{page, putLines, Told}
+use Rattle.records.specs.Standing.{Memory, memory, Stands, Roomy, Turned, Stepped}
+use Rattle.records.specs.Write.{Told}
 use Rattle.records.specs.laws.Lines.{linesFrom, lines-from-end, lines-from-step, lines-in-start, next-none, run-ended}
 use Rattle.records.specs.laws.Write.{told-none, told-stopped, told-over-all}
 use Rattle.records.specs.laws.Table.{Telling, telling-none, telling-more, telling-all}
-use Rattle.records.specs.laws.Standing.{turn-ill, turned-stop}
+use Rattle.records.specs.laws.Standing.{stands-fresh, roomy-kept, turn-ill, turned-stop}
 
 -- ---- the next record
 
@@ -103,10 +101,9 @@ roomy-start = record {
 }
 
 pub progress-start : (b lines : List ℕ) (k j : ℕ) (t : Setup) (block scratch edges virtuals : List ℤ) → k ≡ 0 → j ≡ 0 → Roomy block scratch edges virtuals → Progress b lines 0 k (memory j t block edges virtuals) scratch lines 0 false
-unfolding Stands
 progress-start b lines k j t block scratch edges virtuals ek ej r = record {
   at = fresh;
-  stands = ej;
+  stands = stands-fresh _ ej;
   telling = telling-none (omega arith) (rw ek (sym (lines-in-start b)));
   place = omega arith;
   counted = omega arith;
@@ -125,13 +122,7 @@ module _ {b lines₀ : List ℕ} {i k : ℕ} {m : Memory} {scratch : List ℤ} {
     telling = rw ek (telling-more (p .telling) (lines-from-step (k + 1) (p .at) (drop i b) (q .said) (drop j b) (q .is-next)) (q .turned .told (p .at) (p .stands)));
     place = q .within;
     counted = omega (arith, p .counted, q .on);
-    roomy = record {
-      words = rw lb (p .roomy .words);
-      scratch-words = rw es (p .roomy .scratch-words);
-      edge-words = rw le (p .roomy .edge-words);
-      virtual-words = rw lv (p .roomy .virtual-words);
-      zero = rw es (p .roomy .zero);
-    };
+    roomy = roomy-kept (p .roomy) lb es le lv;
     same = ll ∙ p .same;
   }
 

@@ -1,5 +1,5 @@
 -- One record by what the memory holds is one record of the definition.
-use Prim.Native.Nat.{ℕ, _+_, _-_, _*_, _/_, _≤_, _<_}
+use Prim.Native.Nat.{ℕ, _-_, _≤_, _<_}
 use native.Mathlib.Omega.{arith}
 use mathlib.Core.Path.{_≡_, refl, sym, ap, _∙_}
 use mathlib.Core.Logic.{_≢_}
@@ -7,30 +7,29 @@ use mathlib.Core.Bool.{Bool, true, false}
 use mathlib.Core.List.{List, [], _∷_}
 use lib.IntN.{ℤ}
 use lib.Dec.{eqb}
-use lib.ListN.{length, take, getD, length-map}
+use lib.ListN.{length, length-map}
 use borrow.Author.Tests.{eq-eqb, ne-eqb, eqb-true, eqb-false}
-use Rattle.graph.specs.Basic.{if_then_else_}
-use Rattle.graph.specs.State.{State, edgeCount}
+use Rattle.graph.specs.State.{edgeCount}
 use Rattle.graph.specs.Open.{Edge, opened, graphOf, blankState, openRefusal}
-use Rattle.graph.specs.Layout.{blockLength, stateOf}
+use Rattle.graph.specs.Layout.{stateOf}
 use Rattle.graph.specs.laws.Opened.{accepted}
 use Rattle.graph.specs.laws.Members.{by-test}
 use Rattle.calls.specs.declared.Answer.the-variants.{Refused}
-use Rattle.calls.specs.Calls.{Call, Response, answered, respond}
-use Rattle.reachable.specs.Reachable.{after, Reachable}
-use Rattle.records.specs.Record.{Record, sizes, anEdge, aVirtual, ask, illFormed, field, fieldCounts, recordOf, decoded}
+use Rattle.calls.specs.Calls.{Call, respond}
+use Rattle.reachable.specs.Reachable.{after}
+use Rattle.records.specs.Record.{Record, sizes, anEdge, aVirtual, ask, illFormed, field, recordOf, decoded}
 use Rattle.records.specs.Decode.{wellFormed}
 use Rattle.records.specs.Lines.{line, wordsOf, linesFor}
-use Rattle.records.specs.Run.{Gathered, withEdge, withVirtual, Stage, fresh, gathering, running, ended, Turn, turn, ends, toldTurn, openTurn, tooLarge, runRefusal}
+use Rattle.records.specs.Run.{Gathered, Stage, fresh, gathering, running, ended, turn, ends, toldTurn, openTurn, tooLarge, runRefusal}
 use Rattle.records.specs.declared.setup.Setup.{Setup}
 use Rattle.records.specs.Setup.{fromSizes, edgeAdded, storedEdge, virtualAdded, storedVirtual, Holding}
-use Rattle.records.specs.Opening.{largeSizes, complete, openCode, openBlock, OpenedAs}
-use Rattle.records.specs.Standing.{callIn, OfKind, partOf, Runs, Asked, Memory, memory, Stands, Standing, Gathers, Turned}
+use Rattle.records.specs.Opening.{largeSizes, complete, openCode, openBlock}
+use Rattle.records.specs.Standing.{callIn, OfKind, partOf, Runs, Asked, Memory, memory, Stands, Standing, Gathers, Roomy, Turned}
 use Rattle.records.specs.Write.{Told}
 use Rattle.records.specs.laws.Decode.{decoded-kind, decoded-ill}
 use Rattle.records.specs.laws.Write.{told-lines, told-none}
 use Rattle.records.specs.laws.Holding.{onlySizes, holding-start, holding-edge, holding-virtual, stored-few}
-use Rattle.records.specs.laws.Opening.{Small, small-of, complete-sizes, open-large, open-incomplete, code-held, block-held}
+use Rattle.records.specs.laws.Opening.{complete-sizes, open-large, open-incomplete, code-held, block-held}
 use Rattle.records.specs.laws.Asking.{asks}
 
 -- ---- the stage by its number
@@ -53,9 +52,24 @@ module _ (m : Memory) where
   pub standing-few : Standing m → m .stage ≡ 1 → m .setup .virtuals ≤ 64
   standing-few p e = stored-few (stands-gathering (p .at) (p .stands) e .holding)
 
+  pub stands-fresh : m .stage ≡ 0 → Stands m fresh
+  unfolding Stands
+  stands-fresh e = e
+
   pub stands-ended : m .stage ≡ 3 → Stands m ended
   unfolding Stands
   stands-ended e = e
+
+-- words that are as many as before, with the scratch as it was
+pub roomy-kept : {block scratch edges virtuals block' scratch' edges' virtuals' : List ℤ} → Roomy block scratch edges virtuals
+    → length block' ≡ length block → scratch' ≡ scratch → length edges' ≡ length edges → length virtuals' ≡ length virtuals → Roomy block' scratch' edges' virtuals'
+roomy-kept r b s e v = record {
+  words = rw b (r .words);
+  scratch-words = rw s (r .scratch-words);
+  edge-words = rw e (r .edge-words);
+  virtual-words = rw v (r .virtual-words);
+  zero = rw s (r .zero);
+}
 
 -- ---- a record that ends the run
 

@@ -1,6 +1,6 @@
 use lib.ListN.{length, drop}
 use Prim.Native.Nat.{_+_, _-_, _≤_}
-use mathlib.Core.Path.{_≡_, refl, ap}
+use mathlib.Core.Path.{refl, ap}
 use native.Mathlib.Omega.{arith}
 use Rattle.records.specs.laws.Exported.{stepped-cut, stepped-body, part-short}
 use borrow.Author.Needs.{needs}
@@ -17,7 +17,10 @@ same-length : tie.Need-same-length
 same-length c = search needs
 
 returns : tie.Need-returns
-returns c = let a = c .before .before .before .before .before .before .before in let e = c .before .before .cut .ensures in (stepped-cut (a .pre .0) (a .pre .3) (omega arith) (e .3) (e .0) (e .1), e .2, refl)
+returns c =
+    let a = c .before .before .before .before .before .before .before in
+    let e = c .before .before .cut .ensures in
+    (stepped-cut (a .pre .0) (a .pre .3) (omega arith) (e .3) (e .0) (e .1), e .2, refl)
 
 pair-requires : tie.Need-pair-requires
 pair-requires c κs = search needs
@@ -29,7 +32,10 @@ same-length-2 : tie.Need-same-length-2
 same-length-2 c = search needs
 
 returns-2 : tie.Need-returns-2
-returns-2 c = let a = c .before .before .before .before .before .before .before .before .before in let e = c .before .before .cut2 .ensures in (stepped-cut (a .pre .0) (a .pre .3) (omega (arith, c .before .before .before .before .before .pair .ensures)) (e .3) (e .0) (e .1), e .2, refl)
+returns-2 c =
+    let a = c .before .before .before .before .before .before .before .before .before in
+    let e = c .before .before .cut2 .ensures in
+    (stepped-cut (a .pre .0) (a .pre .3) (omega (arith, c .before .before .before .before .before .pair .ensures)) (e .3) (e .0) (e .1), e .2, refl)
 
 add-e : tie.Need-add-e
 add-e c = search needs
@@ -50,7 +56,11 @@ part-turn-end : tie.Need-part-turn-end
 part-turn-end c = search needs
 
 turn-requires : tie.Need-turn-requires
-turn-requires c κs = let a = c .before .before .before .before .before .before .before .before .before .before .before in let n = c .before .before .before .before .before .before .before .pair .result in let h : a .args .i + 2 + n - (a .args .i + 2) ≤ 65535 = omega (arith, c .before .before .before .before .before .before .before .pair .ensures .1) in (a .pre .2, a .pre .3, search needs, a .pre .4, part-short (a .args .i + 2 + n - (a .args .i + 2)) (drop (a .args .i + 2) (a .args .records .now)) h, a .pre .5)
+turn-requires c κs =
+    let a = c .before .before .before .before .before .before .before .before .before .before .before in
+    let n = c .before .before .before .before .before .before .before .pair .result in
+    let h : a .args .i + 2 + n - (a .args .i + 2) ≤ 65535 = omega (arith, c .before .before .before .before .before .before .before .pair .ensures .1) in
+    (a .pre .2, a .pre .3, search needs, a .pre .4, part-short (a .args .i + 2 + n - (a .args .i + 2)) (drop (a .args .i + 2) (a .args .records .now)) h, a .pre .5)
 
 same-length-3 : tie.Need-same-length-3
 same-length-3 c = search needs
@@ -68,7 +78,12 @@ same-length-7 : tie.Need-same-length-7
 same-length-7 c = search needs
 
 returns-3 : tie.Need-returns-3
-returns-3 c = let a = c .before .before .before .before .before .before .before .before .before .before .before .before .before .before .before .before .before .before .before .before in let e = c .before .before .before .before .before .before .before .before .turn .ensures in let two : 2 ≤ length (a .args .records .now) - a .args .i = c .before .before .before .before .before .before .before .before .before .before .before .before .before .before .before .before .before .if1 .left in let more : c .before .before .before .before .before .before .before .before .before .before .before .before .before .before .before .before .pair .result ≤ length (a .args .records .now) - a .args .i - 2 = c .before .before .before .before .before .before .before .before .before .before .before .before .before .before .before .if2 .left in (stepped-body (a .pre .0) (ap (λ x. a .args .i + 2 + x) (c .before .before .before .before .before .before .before .before .before .before .before .before .before .before .before .before .pair .ensures .0)) (omega arith) (e .0), e .1, e .2)
+returns-3 c =
+    let a = c .before .before .before .before .before .before .before .before .before .before .before .before .before .before .before .before .before .before .before .before in
+    let e = c .before .before .before .before .before .before .before .before .turn .ensures in
+    let two : 2 ≤ length (a .args .records .now) - a .args .i = c .before .before .before .before .before .before .before .before .before .before .before .before .before .before .before .before .before .if1 .left in
+    let more : c .before .before .before .before .before .before .before .before .before .before .before .before .before .before .before .before .pair .result ≤ length (a .args .records .now) - a .args .i - 2 = c .before .before .before .before .before .before .before .before .before .before .before .before .before .before .before .if2 .left in
+    (stepped-body (a .pre .0) (ap (λ x. a .args .i + 2 + x) (c .before .before .before .before .before .before .before .before .before .before .before .before .before .before .before .before .pair .ensures .0)) (omega arith) (e .0), e .1, e .2)
 
 pub step-on-spec : {M : Type 1} → statement M
 step-on-spec =

@@ -25,13 +25,18 @@ loop-holds : tie.Need-loop-holds Inv-loop μ-loop
 loop-holds c = (progress-start _ _ _ _ _ _ _ _ _ (c .fresh .ensures .1) (c .fresh .ensures .0) (c .before .before .before .pre), search needs, search needs, search needs, search needs)
 
 step-on-requires : tie.Need-step-on-requires Inv-loop μ-loop
-step-on-requires c κs = let s = c .before .before .before .before .before .before .before .before .loop in let g = goes-on (s .i) _ (s .r .stage) (s .o .full) (c .before .before .before .before .before .if1 .taken) in (g .0, s .inv .0 .counted, s .inv .0 .telling .room, g .1, record { at = s .inv .0 .at; stands = s .inv .0 .stands }, s .inv .0 .roomy)
+step-on-requires c κs =
+    let s = c .before .before .before .before .before .before .before .before .loop in
+    let g = goes-on (s .i) _ (s .r .stage) (s .o .full) (c .before .before .before .before .before .if1 .taken) in
+    (g .0, s .inv .0 .counted, s .inv .0 .telling .room, g .1, record { at = s .inv .0 .at; stands = s .inv .0 .stands }, s .inv .0 .roomy)
 
 loop-less : tie.Need-loop-less Inv-loop μ-loop
 loop-less c = omega (arith, c .before .before .before .before .before .before .before .before .step-on .ensures .0 .on, c .before .before .before .before .before .before .before .before .step-on .ensures .0 .within)
 
 loop-again : tie.Need-loop-again Inv-loop μ-loop
-loop-again c = let e = c .before .before .before .before .before .before .before .before .step-on .ensures in (progress-step (c .before .before .before .before .before .before .before .before .before .before .before .before .before .before .before .before .before .loop .inv .0) (e .0) (e .1) (e .2) (search needs) (search needs) (search needs) (search needs), search needs, search needs, search needs, search needs)
+loop-again c =
+    let e = c .before .before .before .before .before .before .before .before .step-on .ensures in
+    (progress-step (c .before .before .before .before .before .before .before .before .before .before .before .before .before .before .before .before .before .loop .inv .0) (e .0) (e .1) (e .2) (search needs) (search needs) (search needs) (search needs), search needs, search needs, search needs, search needs)
 
 same-length : tie.Need-same-length Inv-loop μ-loop
 same-length c = c .before .before .before .loop .inv .0 .same

@@ -30,7 +30,10 @@ same-length-2 : tie.Need-same-length-2
 same-length-2 c = search needs
 
 returns : tie.Need-returns
-returns c = let a = c .before .before .before .before .before .before .before .before .before .before in let t = asked-table (a .pre .1) (a .pre .4) _ (c .before .before .before .before .before .before .before .block-length .ensures) (a .pre .2) _ (c .before .before .before .before .before .before .if1 .taken) (c .before .before .table .ensures) in (t .0, t .1, refl)
+returns c =
+    let a = c .before .before .before .before .before .before .before .before .before .before in
+    let t = asked-table (a .pre .1) (a .pre .4) _ (c .before .before .before .before .before .before .before .block-length .ensures) (a .pre .2) _ (c .before .before .before .before .before .before .if1 .taken) (c .before .before .table .ensures) in
+    (t .0, t .1, refl)
 
 sub-contacts : tie.Need-sub-contacts
 sub-contacts c = search needs
@@ -51,7 +54,10 @@ same-length-4 : tie.Need-same-length-4
 same-length-4 c = search needs
 
 returns-2 : tie.Need-returns-2
-returns-2 c = let a = c .before .before .before .before .before .before .before .before .before .before .before in let t = asked-contacts (a .pre .1) (a .pre .4) _ (c .before .before .before .before .before .before .before .before .block-length .ensures) (a .pre .2) _ (c .before .before .before .before .before .before .if2 .taken) (c .before .before .contacts .ensures) in (t .0, t .1, refl)
+returns-2 c =
+    let a = c .before .before .before .before .before .before .before .before .before .before .before in
+    let t = asked-contacts (a .pre .1) (a .pre .4) _ (c .before .before .before .before .before .before .before .before .block-length .ensures) (a .pre .2) _ (c .before .before .before .before .before .before .if2 .taken) (c .before .before .contacts .ensures) in
+    (t .0, t .1, refl)
 
 mul-q : tie.Need-mul-q
 mul-q c = search needs
@@ -72,10 +78,14 @@ part-call-start-2 : tie.Need-part-call-start-2
 part-call-start-2 c = search needs
 
 part-call-end-2 : tie.Need-part-call-end-2
-part-call-end-2 c = let z = small-of _ (c .before .before .before .before .before .before .before .pre .1 .small) in omega (arith, c .before .before .before .before .before .before .before .pre .5)
+part-call-end-2 c =
+    let z = small-of _ (c .before .before .before .before .before .before .before .pre .1 .small) in
+    omega (arith, c .before .before .before .before .before .before .before .pre .5)
 
 call-requires : tie.Need-call-requires
-call-requires c κs = let a = c .before .before .before .before .before .before .before .before in (part-opened (a .pre .1) (a .pre .4) _ (c .before .before .before .before .before .block-length .ensures) _ (a .pre .5) (a .pre .6), a .pre .2, a .pre .3, c .before .before .before .before .if1 .left, c .before .before .before .if2 .left)
+call-requires c κs =
+    let a = c .before .before .before .before .before .before .before .before in
+    (part-opened (a .pre .1) (a .pre .4) _ (c .before .before .before .before .before .block-length .ensures) _ (a .pre .5) (a .pre .6), a .pre .2, a .pre .3, c .before .before .before .before .if1 .left, c .before .before .before .if2 .left)
 
 answer-requires : tie.Need-answer-requires
 answer-requires c κs = search needs
@@ -90,7 +100,11 @@ same-length-7 : tie.Need-same-length-7
 same-length-7 c = search needs
 
 returns-3 : tie.Need-returns-3
-returns-3 c = let a = c .before .before .before .before .before .before .before .before .before .before .before .before .before .before .before in let e = c .before .before .before .before .before .before .call .ensures in let l = c .before .before .before .before .before .before .before .before .before .before .before .before .block-length .ensures in (told-lines (c .before .before .answer .ensures) (asked-lines (a .pre .1) (a .pre .4) _ l (e .0) _), asked-block (a .pre .1) (a .pre .4) _ l (e .0), part-kept (6 * a .args .s .e - 0) (a .args .scratch .now) (e .1))
+returns-3 c =
+    let a = c .before .before .before .before .before .before .before .before .before .before .before .before .before .before .before in
+    let e = c .before .before .before .before .before .before .call .ensures in
+    let l = c .before .before .before .before .before .before .before .before .before .before .before .before .block-length .ensures in
+    (told-lines (c .before .before .answer .ensures) (asked-lines (a .pre .1) (a .pre .4) _ l (e .0) _), asked-block (a .pre .1) (a .pre .4) _ l (e .0), part-kept (6 * a .args .s .e - 0) (a .args .scratch .now) (e .1))
 
 pub ask-spec : {M : Type 1} → statement M
 ask-spec =

@@ -12,10 +12,15 @@ same-length : tie.Need-same-length
 same-length c = search needs
 
 returns : tie.Need-returns
-returns c = let a = c .before .before .before .before .before .before .before .before in let e = c .before .before .stop .ensures in (turned-stop 3 (call-early (a .pre .3) (a .pre .4) _ _ (c .before .before .before .before .if1 .taken)) (e .0) (e .1), e .2, refl)
+returns c =
+    let a = c .before .before .before .before .before .before .before .before in
+    let e = c .before .before .stop .ensures in
+    (turned-stop 3 (call-early (a .pre .3) (a .pre .4) _ _ (c .before .before .before .before .if1 .taken)) (e .0) (e .1), e .2, refl)
 
 first-requires : tie.Need-first-requires
-first-requires c κs = let a = c .before .before .before .before .before .before .before .before .before in (a .pre .0, c .before .before .before .if2 .taken, stands-gathering _ (a .pre .2 .at) (a .pre .2 .stands) (c .before .before .before .if2 .taken), a .pre .3, a .pre .4, a .pre .5)
+first-requires c κs =
+    let a = c .before .before .before .before .before .before .before .before .before in
+    (a .pre .0, c .before .before .before .if2 .taken, stands-gathering _ (a .pre .2 .at) (a .pre .2 .stands) (c .before .before .before .if2 .taken), a .pre .3, a .pre .4, a .pre .5)
 
 same-length-2 : tie.Need-same-length-2
 same-length-2 c = search needs
@@ -30,7 +35,10 @@ returns-2 : tie.Need-returns-2
 returns-2 c = search needs
 
 ask-requires : tie.Need-ask-requires
-ask-requires c κs = let a = c .before .before .before .before .before .before .before .before .before .before in let two : a .args .r .stage ≡ 2 = omega arith in (a .pre .0, stands-running _ (a .pre .2 .at) (a .pre .2 .stands) two, a .pre .3, a .pre .4, a .pre .5 .words, a .pre .5 .scratch-words, a .pre .5 .zero)
+ask-requires c κs =
+    let a = c .before .before .before .before .before .before .before .before .before .before in
+    let two : a .args .r .stage ≡ 2 = omega arith in
+    (a .pre .0, stands-running _ (a .pre .2 .at) (a .pre .2 .stands) two, a .pre .3, a .pre .4, a .pre .5 .words, a .pre .5 .scratch-words, a .pre .5 .zero)
 
 same-length-5 : tie.Need-same-length-5
 same-length-5 c = search needs
@@ -42,7 +50,11 @@ same-length-7 : tie.Need-same-length-7
 same-length-7 c = search needs
 
 returns-3 : tie.Need-returns-3
-returns-3 c = let a = c .before .before .before .before .before .before .before .before .before .before .before .before .before .before .before in let two : a .args .r .stage ≡ 2 = omega arith in let e = c .before .before .before .before .ask .ensures in (turned-call (a .pre .3) (a .pre .4) _ _ _ _ _ two (e .1) (e .0), refl, e .2)
+returns-3 c =
+    let a = c .before .before .before .before .before .before .before .before .before .before .before .before .before .before .before in
+    let two : a .args .r .stage ≡ 2 = omega arith in
+    let e = c .before .before .before .before .ask .ensures in
+    (turned-call (a .pre .3) (a .pre .4) _ _ _ _ _ two (e .1) (e .0), refl, e .2)
 
 pub asked-spec : {M : Type 1} → statement M
 asked-spec =

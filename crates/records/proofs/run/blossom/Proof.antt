@@ -33,7 +33,10 @@ same-length-2 : tie.Need-same-length-2
 same-length-2 c = search needs
 
 returns : tie.Need-returns
-returns c = let a = c .before .before .before .before .before .before .before .before .before .before .before .before in let e = c .before .before .insert-blossom .ensures in (answers-blossom (a .pre .1) _ _ refl (c .before .before .before .before .before .before .before .field .ensures .0) (circle-part (c .before .before .before .before .before .before .before .before .before .circle-into .last .0) (c .before .before .before .before .before .before .before .before .before .circle-into .result) (c .before .before .before .before .before .before .before .before .before .circle-into .ensures .0)) (e .0), e .1)
+returns c =
+    let a = c .before .before .before .before .before .before .before .before .before .before .before .before in
+    let e = c .before .before .insert-blossom .ensures in
+    (answers-blossom (a .pre .1) _ _ refl (c .before .before .before .before .before .before .before .field .ensures .0) (circle-part (c .before .before .before .before .before .before .before .before .before .circle-into .last .0) (c .before .before .before .before .before .before .before .before .before .circle-into .result) (c .before .before .before .before .before .before .before .before .before .circle-into .ensures .0)) (e .0), e .1)
 
 pub blossom-spec : {M : Type 1} → statement M
 blossom-spec =

@@ -16,7 +16,9 @@ pair-requires : tie.Need-pair-requires
 pair-requires c κs = omega (arith, kind-there _ (sym (c .before .well-formed .ensures) ∙ c .if1 .taken))
 
 gather-requires : tie.Need-gather-requires
-gather-requires c κs = let a = c .before .before .before .before .before .before .before .before .before .before .before in (a .pre .0, a .pre .1, (λ e. standing-few _ (a .pre .3) e), record { formed = sym (c .before .before .before .before .before .before .well-formed .ensures) ∙ c .before .before .before .before .before .if1 .taken; is = sym (c .before .before .before .before .pair .ensures .0); short = a .pre .4 }, c .before .before .before .if2 .taken, a .pre .5 .edge-words, a .pre .5 .virtual-words)
+gather-requires c κs =
+    let a = c .before .before .before .before .before .before .before .before .before .before .before in
+    (a .pre .0, a .pre .1, (λ e. standing-few _ (a .pre .3) e), record { formed = sym (c .before .before .before .before .before .before .well-formed .ensures) ∙ c .before .before .before .before .before .if1 .taken; is = sym (c .before .before .before .before .pair .ensures .0); short = a .pre .4 }, c .before .before .before .if2 .taken, a .pre .5 .edge-words, a .pre .5 .virtual-words)
 
 same-length : tie.Need-same-length
 same-length c = search needs
@@ -28,10 +30,14 @@ same-length-3 : tie.Need-same-length-3
 same-length-3 c = search needs
 
 returns : tie.Need-returns
-returns c = let e = c .before .before .before .before .gather .ensures in (e .0 (c .before .before .before .before .before .before .before .before .before .before .before .before .before .before .before .before .args .block .now), e .1, refl)
+returns c =
+    let e = c .before .before .before .before .gather .ensures in
+    (e .0 (c .before .before .before .before .before .before .before .before .before .before .before .before .before .before .before .before .args .block .now), e .1, refl)
 
 asked-requires : tie.Need-asked-requires
-asked-requires c κs = let a = c .before .before .before .before .before .before .before .before .before .before .before .before .before in (a .pre .0, a .pre .1, a .pre .3, record { formed = sym (c .before .before .before .before .before .before .before .before .well-formed .ensures) ∙ c .before .before .before .before .before .before .before .if1 .taken; is = sym (c .before .before .before .before .before .before .pair .ensures .0); short = a .pre .4 }, omega arith, a .pre .5)
+asked-requires c κs =
+    let a = c .before .before .before .before .before .before .before .before .before .before .before .before .before in
+    (a .pre .0, a .pre .1, a .pre .3, record { formed = sym (c .before .before .before .before .before .before .before .before .well-formed .ensures) ∙ c .before .before .before .before .before .before .before .if1 .taken; is = sym (c .before .before .before .before .before .before .pair .ensures .0); short = a .pre .4 }, omega arith, a .pre .5)
 
 same-length-4 : tie.Need-same-length-4
 same-length-4 c = search needs
@@ -58,7 +64,10 @@ same-length-9 : tie.Need-same-length-9
 same-length-9 c = search needs
 
 returns-3 : tie.Need-returns-3
-returns-3 c = let a = c .before .before .before .before .before .before .before .before .before .before in let e = c .before .before .stop .ensures in (turned-stop 3 (ill-stops _ _ _ (sym (c .before .before .before .before .before .well-formed .ensures) ∙ c .before .before .before .before .if1 .left) (a .pre .1)) (e .0) (e .1), e .2, refl)
+returns-3 c =
+    let a = c .before .before .before .before .before .before .before .before .before .before in
+    let e = c .before .before .stop .ensures in
+    (turned-stop 3 (ill-stops _ _ _ (sym (c .before .before .before .before .before .well-formed .ensures) ∙ c .before .before .before .before .if1 .left) (a .pre .1)) (e .0) (e .1), e .2, refl)
 
 pub turn-spec : {M : Type 1} → statement M
 turn-spec =
