@@ -11,8 +11,8 @@ Written by `differential/speed.sh`. Both sides read the same records and write t
 `cardrun_lines`, the Rust by its own methods behind the records of differential/rust-side, built for release, without assertions. All calls are accepted ones. Runs alternate;
 each number is the best of 60 runs, as nanoseconds a call with reading its record and writing its lines. A ratio below 1 means that the port is faster.
 
-The Rust's pointers are a stand-in (docs/DIFFERENCES.md): as in the original's safe variant each access takes a lock of `parking_lot`. The columns without locks have the same code on
-pointers that take none.
+The Rust's pointers are a stand-in (docs/DIFFERENCES.md): `Arc` with a lock of `parking_lot`, which is taken at each access. The columns without locks have the same code on pointers that
+take none. Its records and lines are those of differential/rust-side/common/session.rs, written with `write!` into a vector of enough space.
 
 T
     echo "Machine: $(uname -m), \`nproc\` $(nproc), $(sed -n 's/^model name[^:]*: //p' /proc/cpuinfo | head -1); other work ran beside. $(rustc --version | cut -d' ' -f1,2)."
