@@ -108,6 +108,7 @@ pub fn patch(r: &mut Random, d: i32, w: Weights) -> Graph {
 }
 
 /// A whole patch of distance d in several rounds, at the library's sizes.
+#[cfg(library)]
 pub fn large(r: &mut Random, d: i32, rounds: i32, diagonal: bool, w: Weights) -> Graph {
     stacked(r, d, d, rounds, diagonal, w)
 }

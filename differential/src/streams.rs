@@ -314,6 +314,7 @@ pub fn opening(g: &Graph, n: i32, l: i32) -> Vec<Record> {
 }
 
 /// A stream on a graph of the library's sizes: good fields for the most part, a table at the end.
+#[cfg(library)]
 pub fn large(seed: u64, g: &Graph) -> Stream {
     let r = &mut Random::new(seed);
     let policy = r.pick(&[0, 1, BREATHING, 3, 5]);
