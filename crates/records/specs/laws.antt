@@ -10,3 +10,4 @@ pub mod Opening
 pub mod Asking
 pub mod Standing
 pub mod Exported
+pub mod Few

@@ -1,14 +1,15 @@
 -- The records of an input one after the other: what is told so far, followed by the lines of the rest, is the whole.
 use Prim.Native.Nat.{ℕ, _+_, _-_, _≤_, _<_}
 use native.Mathlib.Omega.{arith}
-use mathlib.Core.Path.{_≡_, refl, sym, _∙_}
+use mathlib.Core.Path.{_≡_, refl, sym, ap, _∙_}
 use mathlib.Core.Bool.{Bool, true, false, _&&_, not}
-use mathlib.Core.List.{List, [], _++_}
+use mathlib.Core.List.{List, []}
 use lib.IntN.{ℤ, pos}
 use lib.Dec.{eqb, ltb}
 use lib.ListN.{length, take, drop, replicate, length-take, length-drop, length-replicate, drop-of-length-le}
 use lib.Seq.{drop-drop, getD-drop}
 use borrow.Author.Tests.{ltb-true, ltb-false, lt-ltb, le-ltb, ne-eqb}
+use Rattle.graph.specs.Basic.{fold}
 use Rattle.graph.specs.laws.State.{and-left, and-right}
 use Rattle.graph.specs.laws.Members.{by-test, clash}
 use Rattle.pass.specs.Scratch.{zeroScratch}
@@ -16,10 +17,10 @@ use Rattle.records.specs.Record.{illFormed, next, pairAt, decoded, nextR
 use Rattle.records.specs.Run.{Stage, fresh, gathering, running, ended, turn, ends, linesIn, fittedLines, filled}
 use Rattle.records.specs.declared.setup.Setup.{Setup}
 use Rattle.records.specs.Standing.{Memory, memory, Stands, Roomy, Turned, Stepped}
-use Rattle.records.specs.Write.{Told}
+use Rattle.records.specs.Write.{page, putLines, Told}
 use Rattle.records.specs.laws.Lines.{linesFrom, lines-from-end, lines-from-step, lines-in-start, next-none, run-ended}
-use Rattle.records.specs.laws.Write.{told-none, told-stopped, told-over-all}
-use Rattle.records.specs.laws.Table.{Telling, telling-none, telling-more, telling-all}
+use Rattle.records.specs.laws.Write.{put-full, put-over}
+use Rattle.records.specs.laws.Table.{Telling, telling-none, telling-more}
 use Rattle.records.specs.laws.Standing.{stands-fresh, roomy-kept, turn-ill, turned-stop}
 
 -- ---- the next record
@@ -126,38 +127,36 @@ module _ {b lines₀ : List ℕ} {i k : ℕ} {m : Memory} {scratch : List ℤ} {
     same = ll ∙ p .same;
   }
 
-  -- all are told at the end of the input
-  told-at-end : length b ≤ i → Told lines₀ 0 false lines n full (linesIn b)
-  told-at-end h = telling-all (p .telling) (lines-from-end (k + 1) (p .at) (drop i b) (next-none (drop i b) (omega (arith, length-drop i b))))
+  -- nothing is left to tell at the end of the input
+  rest-at-end : length b ≤ i → linesFrom (k + 1) (p .at) (drop i b) ≡ []
+  rest-at-end h = lines-from-end (k + 1) (p .at) (drop i b) (next-none (drop i b) (omega (arith, length-drop i b)))
 
-  -- where the run has ended
-  stage-ended : (s : Stage) → Stands m s → 3 ≤ m .stage → linesFrom (k + 1) s (drop i b) ≡ []
+  -- nor where the run has ended
+  rest-ended : (s : Stage) → Stands m s → 3 ≤ m .stage → linesFrom (k + 1) s (drop i b) ≡ []
   unfolding Stands linesFrom
-  stage-ended fresh q h = absurd (omega arith)
-  stage-ended (gathering g) q h = absurd (omega (arith, q .0))
-  stage-ended (running c) q h = absurd (omega (arith, q .0))
-  stage-ended ended q h = run-ended (length (drop i b)) (k + 1) (drop i b)
+  rest-ended fresh q h = absurd (omega arith)
+  rest-ended (gathering g) q h = absurd (omega (arith, q .0))
+  rest-ended (running c) q h = absurd (omega (arith, q .0))
+  rest-ended ended q h = run-ended (length (drop i b)) (k + 1) (drop i b)
 
-  told-at-stop : 3 ≤ m .stage → Told lines₀ 0 false lines n full (linesIn b)
-  told-at-stop h = telling-all (p .telling) (stage-ended (p .at) (p .stands) h)
+  put-rest : linesFrom (k + 1) (p .at) (drop i b) ≡ [] → page lines n full ≡ putLines (page lines₀ 0 false) (linesIn b)
+  unfolding putLines fold
+  put-rest e = ap (putLines (page lines n full)) (sym e) ∙ p .telling .goes-on
 
-  -- and behind a line that does not fit
-  told-when-full : full ≡ true → Told lines₀ 0 false lines n full (linesIn b)
-  told-when-full e =
-      let rest : List (List ℕ) = linesFrom (k + 1) (p .at) (drop i b) in
-      let t : Told lines n true lines n true ([] ++ rest) = told-stopped rest (told-none (p .telling .room)) in
-      record { page-is = rw e (t .page-is) ∙ p .telling .goes-on; room = p .telling .room }
+  -- and behind a line that does not fit nothing is put
+  put-when-full : full ≡ true → page lines n full ≡ putLines (page lines₀ 0 false) (linesIn b)
+  put-when-full e = rw e (sym (put-full lines n (linesFrom (k + 1) (p .at) (drop i b)))) ∙ p .telling .goes-on
 
-  pub progress-told : ltb i (length b) && ltb (m .stage) 3 && not full ≡ false → Told lines₀ 0 false lines n full (linesIn b)
-  progress-told h =
-      by-test full (λ e. told-when-full e) (λ e.
+  put-all : ltb i (length b) && ltb (m .stage) 3 && not full ≡ false → page lines n full ≡ putLines (page lines₀ 0 false) (linesIn b)
+  put-all h =
+      by-test full (λ e. put-when-full e) (λ e.
       by-test (ltb (m .stage) 3)
-      (λ f. by-test (ltb i (length b)) (λ g. clash true refl (rw (e, f, g) at h)) (λ g. told-at-end (ltb-false i (length b) g)))
-      (λ f. told-at-stop (ltb-false (m .stage) 3 f)))
+      (λ f. by-test (ltb i (length b)) (λ g. clash true refl (rw (e, f, g) at h)) (λ g. put-rest (rest-at-end (ltb-false i (length b) g))))
+      (λ f. put-rest (rest-ended (p .at) (p .stands) (ltb-false (m .stage) 3 f))))
 
   pub progress-done : ltb i (length b) && ltb (m .stage) 3 && not full ≡ false → (lines ≡ filled b lines₀) × (n ≡ length (fittedLines b (length lines₀)))
   unfolding filled fittedLines
-  progress-done h = told-over-all (linesIn b) (progress-told h)
+  progress-done h = put-over lines₀ lines n full (linesIn b) (put-all h)
 
 -- while there are bytes, the run has not ended and all lines fit
 pub goes-on : (i n s : ℕ) (full : Bool) → ltb i n && ltb s 3 && not full ≡ true → (i < n) × (s < 3)
