@@ -3,12 +3,12 @@
 ghost use mathlib.Core.Path.{_≡_};
 ghost use Prim.Native.Nat.{_+_, _<_, _≤_};
 ghost use lib.ListN.{length};
-ghost use Rattle.records.specs.Standing.{memory, Standing, Roomy};
+ghost use Rattle.run.specs.Standing.{memory, Standing, Roomy};
 use records::bytes;
 use records::lines::Out;
-use records::run;
-use records::run::After;
-use records::run::Run;
+use run::turn;
+use run::turn::After;
+use run::turn::Run;
 
 // The lines of a record are written; the run after it.
 fn written(t: After, lines: &[u8]) -> Run
@@ -26,7 +26,7 @@ fn cut(r: Run, lines: &mut [u8]) -> Run
     requires { ⌜ r .record < 18446744073709551615 ⌝ }
     ensures { λ x. ⌜ (x .stage ≡ 3) × (x .record ≡ r .record + 1) ⌝ }
 {
-    let t = run::cut(lines, r, Out { at: 0, full: false });
+    let t = turn::cut(lines, r, Out { at: 0, full: false });
     written(t, lines)
 }
 
@@ -53,7 +53,7 @@ fn take_record(
     if n < k {
         return cut(r, lines);
     }
-    let t = run::turn(
+    let t = turn::turn(
         lines,
         r,
         Out { at: 0, full: false },
@@ -78,7 +78,7 @@ fn take_records(
 )
     requires { ⌜ (length (now head) ≡ 2) × (65535 ≤ length (now body)) × Roomy (now block) (now scratch) (now edges) (now virtuals) ⌝ }
 {
-    let mut r = run::fresh();
+    let mut r = turn::fresh();
     while (r.stage < 3) & (r.record < 18446744073709551615) {
         let got = io::read_full(0, head);
         if got == 0 {

@@ -3,13 +3,13 @@ use lib.Dec.{ltb}
 use borrow.Author.Tests.{ltb-true}
 use Rattle.graph.specs.laws.State.{and-left, and-right}
 use Rattle.records.specs.Run.{fresh}
-use Rattle.records.specs.laws.Standing.{stands-fresh, roomy-kept}
+use Rattle.run.specs.laws.Standing.{stands-fresh, roomy-kept}
 use borrow.Author.Needs.{needs}
 use native.Mathlib.Omega.{arith}
 use Prim.Native.Nat.{_-_}
 use mathlib.Core.Path.{_≡_}
 use lib.ListN.{length}
-use Rattle.records.specs.Standing.{memory, Standing, Roomy}
+use Rattle.run.specs.Standing.{memory, Standing, Roomy}
 use Rattle.cardrun.proofs.take_records.Statement.{statement}
 use Rattle.cardrun.proofs.take_records.Tie as tie
 
