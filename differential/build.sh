@@ -1,0 +1,19 @@
+# Builds the archive of crate `records` and the bench; sets `bench` to its program. Read by run.sh, speed.sh and sample.sh.
+#   ARCHIVE         another archive with the call cardrun_lines (default: what `rt staticlib records` writes)
+#   FB_SRC          the folder of the three Rust files (default: ../shared/docs/src beside the repository)
+#   CARGO_REGISTRY  where Debian's librust packages put their sources
+set -e
+root=$(cd "$here/.." && pwd)
+mkdir -p "$root/target"
+if [ -z "$ARCHIVE" ]; then
+    (cd "$root" && rt staticlib records) > "$root/target/differential.log" 2>&1 || { tail "$root/target/differential.log"; exit 1; }
+    ARCHIVE=$root/target/staticlib/librecords.a
+fi
+export ARCHIVE
+export CARGO_TARGET_DIR="${CARGO_TARGET_DIR:-$root/target/differential}"
+registry=${CARGO_REGISTRY:-/usr/share/cargo/registry}
+if [ ! -d "$registry/parking_lot-0.12.1" ] && [ -z "$CARGO_REGISTRY" ]; then
+    echo "needs Debian's packages librust-{derivative,serde,serde-json,cfg-if,rand-xoshiro,parking-lot}-dev" >&2
+fi
+(cd "$here" && cargo build --quiet --release --offline --config 'source.crates-io.replace-with="debian"' --config "source.debian.directory=\"$registry\"")
+bench=$CARGO_TARGET_DIR/release/differential

@@ -1,0 +1,71 @@
+#!/usr/bin/env python3
+"""faults.py [RUNS]: the comparison must notice faults. Each edit below goes into a copy of the Rust; run.sh on it must find differences.
+
+Needs what run.sh needs, and its archive built before. FB_SRC as for run.sh.
+"""
+import os, re, shutil, subprocess, sys, tempfile
+
+HERE = os.path.dirname(os.path.abspath(__file__))
+ROOT = os.path.dirname(HERE)
+SRC = os.environ.get('FB_SRC', os.path.join(ROOT, '..', 'shared', 'docs', 'src'))
+
+# name, old text, new text, which of the places (None: all)
+FAULTS = [
+    ('the gap to a Stay peer is halved', 'DualNodeGrowState::Stay => remaining_length,', 'DualNodeGrowState::Stay => remaining_length / 2,', 0),
+    ('an odd gap is halved upward', 'remaining_length / 2\n', '(remaining_length + 1) / 2\n', 0),
+    ('every overgrown entry grows (shrinking them all as well would undo it)', '                *overgrown += length;\n',
+     '                *overgrown += length;\n                for x in dual_node_internal.overgrown_stack.iter_mut().take(last_index) { x.1 += length.max(0); }\n', 0),
+    ('one of two edges that fill together is dropped', 'edge.left_growth + edge.right_growth == edge.weight && peer_dual_node.is_none() {',
+     'edge.left_growth + edge.right_growth == edge.weight && peer_dual_node.is_none()\n'
+     '&& !self.propagating_vertices.iter().any(|x| x.0 == if is_left { edge.right.clone() } else { edge.left.clone() }) {', 0),
+    ('an edge held twice is capped at its weight', '                (edge.left_growth + edge.right_growth, edge.weight)\n',
+     '                let over = edge.left_growth + edge.right_growth - edge.weight;\n'
+     '                if over > 0 && edge.left_dual_node == edge.right_dual_node {\n'
+     '                    if is_left { edge.left_growth -= over } else { edge.right_growth -= over }\n                }\n'
+     '                (edge.left_growth + edge.right_growth, edge.weight)\n', 0),
+    ('shrinking forgets the top overgrown amount', 'max_length_abs = std::cmp::min(max_length_abs, *overgrown);', '', 0),
+    ('a circle is joined backward', 'for dual_node_weak in nodes_circle.iter() {\n                        let dual_node_ptr', 'for dual_node_weak in nodes_circle.iter().rev() {\n                        let dual_node_ptr', 0),
+    ('a stop forgets its second peer', 'if &peer_dual_node_ptr != other_dual_node_ptr {', 'if false {', 0),
+    ('taking a vertex over an edge of weight 0 calls for no other pass', 'newly_propagated_edge_has_zero_weight = true;', '', 0),
+    ('clear keeps the growth', 'self.clear_graph();\n        self.nodes_length = 0;', 'self.nodes_length = 0;', 0),
+]
+
+
+def edited(text, old, new, place):
+    at = [m.start() for m in re.finditer(re.escape(old), text)]
+    assert at, old
+    return text[:at[place]] + new + text[at[place] + len(old):]
+
+
+def main():
+    runs = sys.argv[1] if len(sys.argv) > 1 else '2000'
+    missed = 0
+    work = tempfile.mkdtemp()
+    env = dict(os.environ, FB_SRC=os.path.join(work, 'src'), FOUND=os.path.join(work, 'found'))
+    env.setdefault('ARCHIVE', os.path.join(ROOT, 'target', 'staticlib', 'librecords.a'))
+    env.setdefault('CARGO_TARGET_DIR', os.path.join(ROOT, 'target', 'faults'))
+    try:
+        for name, old, new, place in FAULTS:
+            shutil.rmtree(env['FB_SRC'], ignore_errors=True)
+            os.mkdir(env['FB_SRC'])
+            for m in ('dual_module_serial', 'dual_module', 'util'):
+                path = os.path.join(SRC, 'src--src--%s.rs.txt' % m)
+                text = open(path if os.path.exists(path) else os.path.join(SRC, m + '.rs')).read()
+                with open(os.path.join(env['FB_SRC'], m + '.rs'), 'w') as f:
+                    f.write(edited(text, old, new, place) if m == 'dual_module_serial' else text)
+            p = subprocess.run([os.path.join(HERE, 'run.sh'), runs, '1'], env=env, capture_output=True, text=True)
+            found = re.search(r'^different: (\d+)$', p.stdout, re.M)
+            n = int(found.group(1)) if found else -1
+            small = min(re.findall(r'^reduced to: (.*)$', p.stdout, re.M), key=len, default='')
+            print('%-70s %s' % (name, '%d of %s streams differ' % (n, runs) if n >= 0 else 'no summary: ' + p.stderr[-300:]), flush=True)
+            if small:
+                print('    ' + small, flush=True)
+            missed += n <= 0
+    finally:
+        shutil.rmtree(work, ignore_errors=True)
+    print('%d of %d faults noticed' % (len(FAULTS) - missed, len(FAULTS)))
+    sys.exit(missed > 0)
+
+
+if __name__ == '__main__':
+    main()

@@ -1,0 +1,124 @@
+//! Times the port and the Rust on the same records: both read records and write lines, in one process, in alternation, best of several.
+use crate::compare::flat;
+use crate::graphs::{self, Graph, Weights};
+use crate::port;
+use crate::random::Random;
+use crate::records::{kind, record, Record};
+use crate::streams;
+use std::time::Instant;
+
+const ROUNDS: usize = 60;
+
+macro_rules! rust_side {
+    ($name:ident, $krate:ident) => {
+        /// Records in, lines out, by the Rust's own methods.
+        fn $name(mut records: &[u8], lines: Vec<u8>) -> Vec<u8> {
+            let mut s = $krate::session::Session::new(true);
+            s.lines = lines;
+            while let Some(n) = $krate::session::record_length(records) {
+                s.run(&records[..n]);
+                records = &records[n..];
+            }
+            s.lines
+        }
+    };
+}
+rust_side!(with_locks, release);
+rust_side!(without_locks, unlocked);
+
+/// Nanoseconds a call: port, Rust, Rust without locks.
+fn measure(records: &[Record]) -> (usize, [f64; 3]) {
+    let bytes = flat(records);
+    let calls = records.iter().filter(|r| kind(r) > 3).count();
+    let mut space = vec![0; 4096 + bytes.len() * 64];
+    let n = port::cardrun_lines(&bytes, &mut space);
+    let mut lines = Vec::with_capacity(n + 64);
+    for f in [with_locks, without_locks] {
+        lines = f(&bytes, lines);
+        assert!(lines == space[..n], "the lines differ");
+        assert!(!String::from_utf8_lossy(&lines).contains("refused"), "a call is refused");
+        lines.clear();
+    }
+    let mut best = [f64::MAX; 3];
+    for _ in 0..ROUNDS {
+        let t = Instant::now();
+        assert!(port::cardrun_lines(&bytes, &mut space) == n);
+        best[0] = best[0].min(t.elapsed().as_secs_f64());
+        for (i, f) in [with_locks as fn(&[u8], Vec<u8>) -> Vec<u8>, without_locks].into_iter().enumerate() {
+            let t = Instant::now();
+            lines = f(&bytes, lines);
+            best[1 + i] = best[1 + i].min(t.elapsed().as_secs_f64());
+            assert!(lines.len() == n);
+            lines.clear();
+        }
+    }
+    (calls, best.map(|s| s * 1e9 / calls as f64))
+}
+
+fn row(name: &str, records: &[Record]) {
+    let (calls, t) = measure(records);
+    println!("| {name} | {calls} | {:.0} | {:.0} | {:.0} | {:.2} | {:.2} |", t[0], t[1], t[2], t[0] / t[1], t[0] / t[2]);
+}
+
+fn heading(first: &str) {
+    println!("\n| {first} | calls | port, ns a call | Rust, ns a call | Rust without locks | port / Rust | port / Rust without locks |\n|---|---|---|---|---|---|---|");
+}
+
+/// One defect that is grown by 1, asked, shrunk by 1 and asked again.
+fn pulse(g: &Graph, at: i32, times: usize) -> Vec<Record> {
+    let mut out = vec![record(1, &[g.v, g.edges.len() as i32, 32, 2000])];
+    out.extend(g.edges.iter().map(|e| record(2, &[e.0, e.1, e.2])));
+    out.push(record(4, &[at, 1]));
+    out.push(record(9, &[0, 1]));
+    for _ in 0..times {
+        out.push(record(9, &[0, 1]));
+        out.push(record(8, &[0, 1, 1]));
+        out.push(record(9, &[0, -1]));
+        out.push(record(8, &[0, 0, 1]));
+    }
+    out
+}
+
+/// A path of v vertices with heavy edges: the boundary of its middle is 2 sides.
+fn path(v: i32) -> Graph {
+    Graph { kind: 5, v, edges: (1..v).map(|x| (x - 1, x, 1_000_000)).collect(), virtuals: vec![] }
+}
+
+/// 64 vertices and 128 edges, of which `spokes` are at vertex 0.
+fn star(spokes: i32) -> Graph {
+    let mut edges: Vec<_> = (0..spokes).map(|i| (0, 1 + i % 63, 1_000_000)).collect();
+    edges.extend((spokes..128).map(|i| (1 + i % 62, 2 + i % 62, 1_000_000)));
+    Graph { kind: 4, v: 64, edges, virtuals: vec![] }
+}
+
+pub fn table() {
+    let r = &mut Random::new(7);
+    println!("\n## Decoding runs, records to lines");
+    heading("graph");
+    let even = Weights::Even;
+    let mut patches = vec![];
+    for d in [3, 5, 7, 9, 11] {
+        patches.push((format!("distance {d}, 1 round"), graphs::patch(r, d, even)));
+    }
+    for (d, n) in [(3, 8), (5, 3), (7, 2)] {
+        patches.push((format!("distance {d}, {n} rounds"), graphs::rounds(r, d, n, false, even)));
+    }
+    patches.push(("strip of distance 15".to_string(), graphs::strip(r, 15, even)));
+    for (i, (name, g)) in patches.iter().enumerate() {
+        let records = streams::decoding(i as u64, g, 10_000);
+        row(&format!("{name}: V {}, E {}", g.v, g.edges.len()), &records);
+    }
+    println!("\n## Cost against V");
+    println!("\nOne defect in the middle of a path, boundary of 2 sides: grow by 1, length, shrink by 1, length, in turn.");
+    heading("V");
+    for v in [4, 8, 16, 32, 64] {
+        row(&v.to_string(), &pulse(&path(v), v / 2, 2_500));
+    }
+    println!("\n## Cost against boundary length");
+    println!("\nThe same calls on a defect at the hub of a star, V 64, E 128.");
+    heading("sides");
+    for spokes in [2, 4, 8, 16, 32, 64, 126] {
+        row(&spokes.to_string(), &pulse(&star(spokes), 0, 2_500));
+    }
+    // Library calls over words at distances 7, 11 and 15, with and without the soundness test, get their rows here once a crate exports them.
+}
