@@ -78,8 +78,8 @@ fn stop(lines: &mut [u8], r: Run, o: Out, k: usize) -> After
 
 // The entries of a circle, which are all fields but the first, at the front of c; how many they are.
 fn circle_into(c: &mut [i64], body: &[u8]) -> usize
-    requires { ⌜ OfKind (now body) 5 × (16384 ≤ length (now c)) ⌝ }
-    ensures { λ r. ⌜ (map toNat (take r (now (c .exit))) ≡ fields ((length (now (body .entry)) - 2) / 4 - 1) (now (body .entry)) 1) × (r ≤ 16384) ⌝ }
+    requires { ⌜ OfKind (now body) 5 × (length (now body) ≤ 4 * length (now c) + 6) ⌝ }
+    ensures { λ r. ⌜ (map toNat (take r (now (c .exit))) ≡ fields ((length (now (body .entry)) - 2) / 4 - 1) (now (body .entry)) 1) × (r ≤ length (now (c .entry))) ⌝ }
 {
     let k = (body.len() - 2) / 4 - 1;
     let mut i = 0;
@@ -90,15 +90,27 @@ fn circle_into(c: &mut [i64], body: &[u8]) -> usize
     k
 }
 
-// The blossom that a body asks for.
+// The blossom that a body asks for, with its circle in c.
+fn blossom_in(b: &mut [i64], t: &mut [i64], body: &[u8], c: &mut [i64]) -> Answer
+    requires { ⌜ Opened (now b) (now t) × OfKind (now body) 5 × (length (now body) ≤ 4 * length (now c) + 6) ⌝ }
+    ensures { λ r. ⌜ Answers (now (b .entry)) (now (b .exit)) r (callIn (now (body .entry))) × (now (t .exit) ≡ now (t .entry)) ⌝ }
+{
+    let n = circle_into(c, body);
+    let x = bytes::field(body, 0);
+    blossom::insert_blossom(b, t, x, &c[0..n])
+}
+
+// The same with words of its own: a circle that can be accepted has at most 32 members, so that few words are set to zero for it.
 fn blossom(b: &mut [i64], t: &mut [i64], body: &[u8]) -> Answer
     requires { ⌜ Opened (now b) (now t) × OfKind (now body) 5 ⌝ }
     ensures { λ r. ⌜ Answers (now (b .entry)) (now (b .exit)) r (callIn (now (body .entry))) × (now (t .exit) ≡ now (t .entry)) ⌝ }
 {
+    if body.len() <= 134 {
+        let mut c = [0i64; 32];
+        return blossom_in(b, t, body, &mut c);
+    }
     let mut c = [0i64; 16384];
-    let n = circle_into(&mut c, body);
-    let x = bytes::field(body, 0);
-    blossom::insert_blossom(b, t, x, &c[0..n])
+    blossom_in(b, t, body, &mut c)
 }
 
 // The call of a body of this kind, which is not one that only reads.

@@ -2,11 +2,8 @@ use native.Mathlib.Omega.{arith}
 use mathlib.Core.Path.{refl}
 use Rattle.run.specs.laws.Asking.{circle-length, circle-part, opened-usable, answers-blossom}
 use borrow.Author.Needs.{needs}
-use Rattle.run.proofs.turn.blossom.Statement.{statement}
-use Rattle.run.proofs.turn.blossom.Tie as tie
-
-slice-aggregate-circle-into : tie.Need-slice-aggregate-circle-into
-slice-aggregate-circle-into c = search needs
+use Rattle.run.proofs.turn.blossom_in.Statement.{statement}
+use Rattle.run.proofs.turn.blossom_in.Tie as tie
 
 circle-into-requires : tie.Need-circle-into-requires
 circle-into-requires c κs = search needs
@@ -32,17 +29,19 @@ same-length c = search needs
 same-length-2 : tie.Need-same-length-2
 same-length-2 c = search needs
 
+same-length-3 : tie.Need-same-length-3
+same-length-3 c = search needs
+
 returns : tie.Need-returns
 returns c =
     let a = c .before .before .before .before .before .before .before .before .before .before .before .before in
     let e = c .before .before .insert-blossom .ensures in
     (answers-blossom (a .pre .1) _ _ refl (c .before .before .before .before .before .before .before .field .ensures .0) (circle-part (c .before .before .before .before .before .before .before .before .before .circle-into .last .0) (c .before .before .before .before .before .before .before .before .before .circle-into .result) (c .before .before .before .before .before .before .before .before .before .circle-into .ensures .0)) (e .0), e .1)
 
-pub blossom-spec : {M : Type 1} → statement M
-blossom-spec =
+pub blossom-in-spec : {M : Type 1} → statement M
+blossom-in-spec =
     tie.close
     (tie.spec
-    slice-aggregate-circle-into
     circle-into-requires
     field-requires
     sub-insert-blossom
@@ -51,4 +50,5 @@ blossom-spec =
     insert-blossom-requires
     same-length
     same-length-2
+    same-length-3
     returns)
