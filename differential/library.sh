@@ -9,7 +9,7 @@ for d in rlib stamp inc obj log; do
     [ -d "$root/target/$d" ] && cp -r "$root/target/$d" "$copy/target"
 done
 git init -q "$copy"
-echo "library: graph memory pass calls lent" >> "$copy/crates.txt"
+echo "library: graph memory pass calls blossom lent" >> "$copy/crates.txt"
 cat > "$copy/crates/library/src/lib.rt" <<'RT'
 // The calls on lent memory for C. Of an answer only its kind goes over.
 use calls::Answer;

@@ -8,7 +8,6 @@ pub mod Readable
 pub mod Growth
 pub mod Moving
 pub mod Insert
-pub mod Circle
 pub mod Calls
 pub mod Examples
 pub mod Opens

@@ -1,8 +1,6 @@
 -- Laws about the definitions of `calls`.
 pub mod Accepted
 pub mod Advance
-pub mod Blossom
-pub mod Circle
 pub mod Defect
 pub mod Growth
 pub mod Length

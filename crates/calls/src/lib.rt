@@ -8,7 +8,6 @@ pub mod stop; // the length answer at dual variable 0
 pub mod scan; // the length answer
 pub mod growth; // growth of a prepared node
 pub mod defect; // insertion of a defect
-pub mod blossom; // insertion of a blossom
 pub mod core; // the calls on a sound block with a scratch that is all zero
 pub mod advance; // growth by the length answer
 pub mod read; // reading: the growth table, the full edges, the representative vertex

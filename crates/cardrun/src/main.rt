@@ -1,14 +1,17 @@
-// The program: records from standard input, lines to standard output. Each record is the same step as in the exported call (records::run).
+// The program: records from standard input, lines to standard output. Each record is the same step as in the exported call (run::turn).
 
 ghost use mathlib.Core.Path.{_≡_};
 ghost use Prim.Native.Nat.{_+_, _<_, _≤_};
-ghost use lib.ListN.{length};
-ghost use Rattle.records.specs.Standing.{memory, Standing, Roomy};
+ghost use lib.ListN.{length, take};
+ghost use Rattle.records.specs.Record.{decoded};
+ghost use Rattle.records.specs.Lines.{joined};
+ghost use Rattle.records.specs.Run.{Stage, turn, ends};
+ghost use Rattle.run.specs.Standing.{memory, Stands, Standing, Roomy};
 use records::bytes;
 use records::lines::Out;
-use records::run;
-use records::run::After;
-use records::run::Run;
+use run::turn;
+use run::turn::After;
+use run::turn::Run;
 
 // The lines of a record are written; the run after it.
 fn written(t: After, lines: &[u8]) -> Run
@@ -21,12 +24,45 @@ fn written(t: After, lines: &[u8]) -> Run
     t.run
 }
 
+// The line of input that ends inside a record.
+fn tell_cut(lines: &mut [u8], r: Run) -> After
+    requires { ⌜ (16384 ≤ length (now lines)) × (r .record < 18446744073709551615) ⌝ }
+    ensures { λ x. ⌜ (take (x .out .at) (now (lines .exit)) ≡ joined (ends (r .record + 1) 3 .lines)) × (x .out .at ≤ length (now (lines .exit))) × (x .run .stage ≡ 3) × (x .run .record ≡ r .record + 1) ⌝ }
+{
+    turn::cut(lines, r, Out { at: 0, full: false })
+}
+
+// The lines of the record whose body this is: all that the definition gives.
+fn tell_record(
+    lines: &mut [u8],
+    r: Run,
+    body: &[u8],
+    block: &mut [i64],
+    scratch: &mut [i64],
+    edges: &mut [i64],
+    virtuals: &mut [i64],
+) -> After
+    requires { ⌜ (16384 ≤ length (now lines)) × (r .stage < 3) × (r .record < 18446744073709551615) × Standing (memory (r .stage) (r .setup) (now block) (now edges) (now virtuals)) × (length (now body) ≤ 65535) × Roomy (now block) (now scratch) (now edges) (now virtuals) ⌝ }
+    ensures { λ x. ⌜ ((s : Stage) → Stands (memory (r .stage) (r .setup) (now (block .entry)) (now (edges .entry)) (now (virtuals .entry))) s → Stands (memory (x .run .stage) (x .run .setup) (now (block .exit)) (now (edges .exit)) (now (virtuals .exit))) (turn (r .record + 1) s (decoded (now (body .entry))) .stage) × (take (x .out .at) (now (lines .exit)) ≡ joined (turn (r .record + 1) s (decoded (now (body .entry))) .lines))) × (x .out .at ≤ length (now (lines .exit))) × (x .run .record ≡ r .record + 1) × (now (scratch .exit) ≡ now (scratch .entry)) ⌝ }
+{
+    turn::turn(
+        lines,
+        r,
+        Out { at: 0, full: false },
+        body,
+        block,
+        scratch,
+        edges,
+        virtuals,
+    )
+}
+
 // Input that ends inside a record.
 fn cut(r: Run, lines: &mut [u8]) -> Run
-    requires { ⌜ r .record < 18446744073709551615 ⌝ }
+    requires { ⌜ (16384 ≤ length (now lines)) × (r .record < 18446744073709551615) ⌝ }
     ensures { λ x. ⌜ (x .stage ≡ 3) × (x .record ≡ r .record + 1) ⌝ }
 {
-    let t = run::cut(lines, r, Out { at: 0, full: false });
+    let t = tell_cut(lines, r);
     written(t, lines)
 }
 
@@ -42,7 +78,7 @@ fn take_record(
     edges: &mut [i64],
     virtuals: &mut [i64],
 ) -> Run
-    requires { ⌜ (r .stage < 3) × (r .record < 18446744073709551615) × (2 ≤ length (now head)) × (65535 ≤ length (now body)) × Standing (memory (r .stage) (r .setup) (now block) (now edges) (now virtuals)) × Roomy (now block) (now scratch) (now edges) (now virtuals) ⌝ }
+    requires { ⌜ (r .stage < 3) × (r .record < 18446744073709551615) × (2 ≤ length (now head)) × (65535 ≤ length (now body)) × (16384 ≤ length (now lines)) × Standing (memory (r .stage) (r .setup) (now block) (now edges) (now virtuals)) × Roomy (now block) (now scratch) (now edges) (now virtuals) ⌝ }
     ensures { λ x. ⌜ (x .record ≡ r .record + 1) × Standing (memory (x .stage) (x .setup) (now (block .exit)) (now (edges .exit)) (now (virtuals .exit))) × (now (scratch .exit) ≡ now (scratch .entry)) ⌝ }
 {
     if got < 2 {
@@ -53,16 +89,7 @@ fn take_record(
     if n < k {
         return cut(r, lines);
     }
-    let t = run::turn(
-        lines,
-        r,
-        Out { at: 0, full: false },
-        &body[0..k],
-        block,
-        scratch,
-        edges,
-        virtuals,
-    );
+    let t = tell_record(lines, r, &body[0..k], block, scratch, edges, virtuals);
     written(t, lines)
 }
 
@@ -76,9 +103,9 @@ fn take_records(
     edges: &mut [i64],
     virtuals: &mut [i64],
 )
-    requires { ⌜ (length (now head) ≡ 2) × (65535 ≤ length (now body)) × Roomy (now block) (now scratch) (now edges) (now virtuals) ⌝ }
+    requires { ⌜ (length (now head) ≡ 2) × (65535 ≤ length (now body)) × (16384 ≤ length (now lines)) × Roomy (now block) (now scratch) (now edges) (now virtuals) ⌝ }
 {
-    let mut r = run::fresh();
+    let mut r = turn::fresh();
     while (r.stage < 3) & (r.record < 18446744073709551615) {
         let got = io::read_full(0, head);
         if got == 0 {

@@ -7,7 +7,6 @@ ghost use Rattle.pass.specs.Scratch.{zeroScratch};
 ghost use Rattle.lent.specs.Called.{DefectCalled, BlossomCalled, StateCalled, PrepareCalled, LengthCalled, GrowCalled, AdvanceCalled, ClearCalled, VertexRead, TableRead, ContactsRead, ContactsCounted};
 use calls::Answer;
 use calls::advance;
-use calls::blossom;
 use calls::core;
 use calls::defect;
 use calls::read;

@@ -6,7 +6,7 @@ use mathlib.Core.List.{List}
 use lib.Dec.{leb}
 use lib.ListN.{length}
 use lib.Seq.{sets}
-use Rattle.graph.specs.Basic.{if_then_else_, fold}
+use Rattle.graph.specs.Basic.{if_then_else_, fold, all}
 
 -- the bytes b with the text w from place n on are c, and m is the place behind it
 pub record Written (b : List ℕ) (n : ℕ) (c : List ℕ) (m : ℕ) (w : List ℕ) : Type 0 where
@@ -33,7 +33,12 @@ putLine p l =
 unfoldable pub putLines : Page → List (List ℕ) → Page
 putLines p ls = fold putLine p ls
 
--- from b, n, full to c, m, stopped: the lines ls were put, and no more was written than there is room
+-- no line is longer than 128 bytes
+unfoldable pub shortLines : List (List ℕ) → Bool
+shortLines ls = all (λ l. leb (length l) 128) ls
+
+-- from b, n, full to c, m, stopped: the lines ls were put, which are short, and no more was written than there is room
 pub record Told (b : List ℕ) (n : ℕ) (full : Bool) (c : List ℕ) (m : ℕ) (stopped : Bool) (ls : List (List ℕ)) : Type 0 where
   pub page-is : page c m stopped ≡ putLines (page b n full) ls
+  pub short : shortLines ls ≡ true
   pub room : m ≤ length c

@@ -5,8 +5,4 @@ pub mod Write
 pub mod Told
 pub mod Table
 pub mod Setup
-pub mod Holding
 pub mod Opening
-pub mod Asking
-pub mod Standing
-pub mod Exported

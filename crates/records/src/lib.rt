@@ -1,11 +1,9 @@
 // Records in, lines out. The definitions are in specs/.
 
 pub mod bytes; // numbers of bytes
-pub mod exported; // the call for a host
 pub mod lines; // lines, as far as they fit
 pub mod opening; // the opening
 pub mod record; // whether a body is a record
-pub mod run; // a run, record by record
 pub mod setup; // what is read before the opening
 pub mod signed_text; // signed numbers
 pub mod table; // the lines of a table and of contacts

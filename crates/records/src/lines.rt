@@ -16,7 +16,7 @@ pub struct Out {
 
 // The line goes behind the others, if it fits and all before it did.
 fn put_line(lines: &mut [u8], o: Out, l: &[u8]) -> Out
-    requires { ⌜ o .at ≤ length (now lines) ⌝ }
+    requires { ⌜ (o .at ≤ length (now lines)) × (length (now l) ≤ 128) ⌝ }
     ensures { λ r. ⌜ Told (now (lines .entry)) (o .at) (o .full) (now (lines .exit)) (r .at) (r .full) (now (l .entry) ∷ []) ⌝ }
 {
     if o.full {

@@ -7,7 +7,7 @@ ghost use Prim.Native.Nat.{_≤_};
 use libc::STDIN_FILENO;
 use libc::STDOUT_FILENO;
 use records::bytes;
-use records::exported;
+use run::exported;
 
 // The records of a frame give lines, which are compared: 1 if they are equal, 2 else.
 fn replay(records: &[u8], wanted: &[u8], lines: &mut [u8]) -> usize {

@@ -3,8 +3,8 @@ use borrow.Author.Needs.{needs}
 use Rattle.cardrun.proofs.cut.Statement.{statement}
 use Rattle.cardrun.proofs.cut.Tie as tie
 
-cut-requires : tie.Need-cut-requires
-cut-requires c κs = search needs
+tell-cut-requires : tie.Need-tell-cut-requires
+tell-cut-requires c κs = search needs
 
 written-requires : tie.Need-written-requires
 written-requires c κs = search needs
@@ -14,9 +14,9 @@ same-length c = search needs
 
 returns : tie.Need-returns
 returns c =
-    let e = c .before .before .before .before .cut .ensures in
+    let e = c .before .before .before .before .tell-cut .ensures in
     let w = c .written .ensures in
-    (ap (λ x. x .stage) w ∙ e .1, ap (λ x. x .«record») w ∙ e .2)
+    (ap (λ x. x .stage) w ∙ e .2, ap (λ x. x .«record») w ∙ e .3)
 
 pub cut-spec : {M : Type 1} → statement M
-cut-spec = tie.close (tie.spec cut-requires written-requires same-length returns)
+cut-spec = tie.close (tie.spec tell-cut-requires written-requires same-length returns)

@@ -1,5 +1,5 @@
 use mathlib.Core.Path.{refl}
-use Rattle.records.specs.laws.Exported.{roomy-start}
+use Rattle.run.specs.laws.Exported.{roomy-start}
 use borrow.Author.Needs.{needs}
 use Rattle.cardrun.proofs.main.Statement.{statement}
 use Rattle.cardrun.proofs.main.Tie as tie
@@ -26,7 +26,7 @@ slice-aggregate-take-records-7 : tie.Need-slice-aggregate-take-records-7
 slice-aggregate-take-records-7 c = search needs
 
 take-records-requires : tie.Need-take-records-requires
-take-records-requires c κs = (refl, search needs, roomy-start)
+take-records-requires c κs = (refl, search needs, search needs, roomy-start)
 
 returns : tie.Need-returns
 returns c = search needs

@@ -4,8 +4,8 @@ use mathlib.Core.Path.{_∙_, ap, refl}
 use mathlib.Core.List.{_++_}
 use lib.ListN.{drop, length-append, length-take, length-drop}
 use Rattle.records.specs.Run.{ended}
-use Rattle.records.specs.laws.Standing.{stands-ended}
-use Rattle.records.specs.laws.Exported.{part-short}
+use Rattle.run.specs.laws.Standing.{stands-ended}
+use Rattle.run.specs.laws.Exported.{part-short}
 use borrow.Author.Needs.{needs}
 use Rattle.cardrun.proofs.take_record.Statement.{statement}
 use Rattle.cardrun.proofs.take_record.Tie as tie
@@ -50,26 +50,24 @@ returns-2 c =
     let e = c .before .before .cut2 .ensures in
     (e .1, record { at = ended; stands = stands-ended _ (e .0) }, refl)
 
-sub-turn : tie.Need-sub-turn
-sub-turn c = search needs
+sub-tell-record : tie.Need-sub-tell-record
+sub-tell-record c = search needs
 
-part-turn-start : tie.Need-part-turn-start
-part-turn-start c = search needs
+part-tell-record-start : tie.Need-part-tell-record-start
+part-tell-record-start c = search needs
 
-part-turn-end : tie.Need-part-turn-end
-part-turn-end c = search needs
+part-tell-record-end : tie.Need-part-tell-record-end
+part-tell-record-end c = search needs
 
-turn-requires : tie.Need-turn-requires
-turn-requires c κs =
+tell-record-requires : tie.Need-tell-record-requires
+tell-record-requires c κs =
     let a = c .before .before .before .before .before .before .before .before .before .before .before .before .before .before .before .before .before in
     let n = c .before .before .before .before .before .before .before .before .before .before .before .before .pair .result in
     let h : n - 0 ≤ 65535 = omega (arith, c .before .before .before .before .before .before .before .before .before .before .before .before .pair .ensures .1) in
-    (omega arith, a .pre .0, a .pre .1, a .pre .4, part-short (n - 0) (c .before .before .before .before .before .before .before .before .before .before .read-full .last .1 .0 ++ drop (n - 0) (a .args .body .now)) h, a .pre .5)
+    (a .pre .4, a .pre .0, a .pre .1, a .pre .5, part-short (n - 0) (c .before .before .before .before .before .before .before .before .before .before .read-full .last .1 .0 ++ drop (n - 0) (a .args .body .now)) h, a .pre .6)
 
 written-requires : tie.Need-written-requires
-written-requires c κs =
-    let p = c .before .before .before .before .before .before .before .before .before .before .before .before .before .before .before .before .before .before .before .before .before .before .before .before .before .pre .4 in
-    c .before .before .before .before .before .before .before .turn .ensures .0 .told (p .at) (p .stands) .room
+written-requires c κs = search needs
 
 same-length-4 : tie.Need-same-length-4
 same-length-4 c = simp (length-append, length-drop, length-take) (omega (arith, simp (length-take, length-drop) at (c .before .before .before .before .before .before .before .before .before .before .before .before .before .before .before .before .before .before .before .read-full .kept .1 .0), c .before .before .before .before .before .before .before .before .before .before .before .before .before .before .before .before .before .before .before .before .before .pair .ensures .1, c .before .before .before .before .before .before .before .before .before .before .before .before .before .before .before .before .before .before .before .before .before .before .before .before .before .before .pre .3))
@@ -91,10 +89,10 @@ same-length-9 c = search needs
 
 returns-3 : tie.Need-returns-3
 returns-3 c =
-    let p = c .before .before .before .before .before .before .before .before .before .before .before .before .before .before .before .before .before .before .before .before .before .before .before .before .before .before .pre .4 in
-    let e = c .before .before .before .before .before .before .before .before .turn .ensures in
+    let p = c .before .before .before .before .before .before .before .before .before .before .before .before .before .before .before .before .before .before .before .before .before .before .before .before .before .before .pre .5 in
+    let e = c .before .before .before .before .before .before .before .before .tell-record .ensures in
     let w = c .written .ensures in
-    (ap (λ x. x .«record») w ∙ e .1, rw w (record { at = _; stands = e .0 .stands (p .at) (p .stands) }), e .2)
+    (ap (λ x. x .«record») w ∙ e .2, rw w (record { at = _; stands = e .0 (p .at) (p .stands) .0 }), e .3)
 
 pub take-record-spec : {M : Type 1} → statement M
 take-record-spec =
@@ -112,10 +110,10 @@ take-record-spec =
     same-length-2
     same-length-3
     returns-2
-    sub-turn
-    part-turn-start
-    part-turn-end
-    turn-requires
+    sub-tell-record
+    part-tell-record-start
+    part-tell-record-end
+    tell-record-requires
     written-requires
     same-length-4
     same-length-5

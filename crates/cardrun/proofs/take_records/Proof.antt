@@ -3,13 +3,13 @@ use lib.Dec.{ltb}
 use borrow.Author.Tests.{ltb-true}
 use Rattle.graph.specs.laws.State.{and-left, and-right}
 use Rattle.records.specs.Run.{fresh}
-use Rattle.records.specs.laws.Standing.{stands-fresh, roomy-kept}
+use Rattle.run.specs.laws.Standing.{stands-fresh, roomy-kept}
 use borrow.Author.Needs.{needs}
 use native.Mathlib.Omega.{arith}
 use Prim.Native.Nat.{_-_}
 use mathlib.Core.Path.{_≡_}
 use lib.ListN.{length}
-use Rattle.records.specs.Standing.{memory, Standing, Roomy}
+use Rattle.run.specs.Standing.{memory, Standing, Roomy}
 use Rattle.cardrun.proofs.take_records.Statement.{statement}
 use Rattle.cardrun.proofs.take_records.Tie as tie
 
@@ -26,7 +26,7 @@ fresh-requires : tie.Need-fresh-requires Inv-loop μ-loop
 fresh-requires c κs = search needs
 
 loop-holds : tie.Need-loop-holds Inv-loop μ-loop
-loop-holds c = (record { at = fresh; stands = stands-fresh _ (c .fresh .ensures .0) }, c .before .before .before .before .pre .2, refl, refl, refl, refl, refl, refl, refl)
+loop-holds c = (record { at = fresh; stands = stands-fresh _ (c .fresh .ensures .0) }, c .before .before .before .before .pre .3, refl, refl, refl, refl, refl, refl, refl)
 
 read-full-requires : tie.Need-read-full-requires Inv-loop μ-loop
 read-full-requires c κs = search needs
@@ -61,7 +61,7 @@ take-record-requires c κs =
     let t = c .before .before .before .before .before .before .before .before .before .before .before .before .if1 .taken in
     let a = ltb (s .r .stage) 3 in
     let b = ltb (s .r .«record») 18446744073709551615 in
-    (ltb-true _ _ (and-left a b t), ltb-true _ _ (and-right a b t), omega (arith, s .inv .2, c .before .before .before .before .before .before .before .before .before .before .before .before .before .before .before .before .before .before .before .before .pre .0, c .before .before .before .before .before .before .before .before .before .before .read-full .kept .1 .0), omega (arith, s .inv .3, c .before .before .before .before .before .before .before .before .before .before .before .before .before .before .before .before .before .before .before .before .pre .1), s .inv .0, s .inv .1)
+    (ltb-true _ _ (and-left a b t), ltb-true _ _ (and-right a b t), omega (arith, s .inv .2, c .before .before .before .before .before .before .before .before .before .before .before .before .before .before .before .before .before .before .before .before .pre .0, c .before .before .before .before .before .before .before .before .before .before .read-full .kept .1 .0), omega (arith, s .inv .3, c .before .before .before .before .before .before .before .before .before .before .before .before .before .before .before .before .before .before .before .before .pre .1), omega (arith, s .inv .4, c .before .before .before .before .before .before .before .before .before .before .before .before .before .before .before .before .before .before .before .before .pre .2), s .inv .0, s .inv .1)
 
 loop-less : tie.Need-loop-less Inv-loop μ-loop
 loop-less c =

@@ -2,7 +2,7 @@ use mathlib.Core.List.{map}
 use Rattle.graph.specs.Word.{toNat}
 use Rattle.lent.specs.Called.{blossomWrites}
 use Rattle.lent.specs.laws.Called.{memory-refused-scratch, memory-lendable, lendable-usable, insert-same-scratch, insert-done-scratch, test-so, test-not}
-use Rattle.calls.specs.laws.Blossom.{blossom-refused}
+use Rattle.blossom.specs.laws.Blossom.{blossom-refused}
 use borrow.Author.Needs.{needs}
 use Rattle.lent.proofs.insert_blossom.Statement.{statement}
 use Rattle.lent.proofs.insert_blossom.Tie as tie

@@ -1,18 +1,17 @@
 -- Laws of the digits of a number, of a run record by record, and of the lines that fit.
-use Prim.Native.Nat.{ℕ, zero, suc, _+_, _-_, _*_, _/_, _%_, _≤_, _<_}
+use Prim.Native.Nat.{ℕ, zero, suc, _+_, _-_, _/_, _%_, _≤_, _<_}
 use native.Mathlib.Omega.{arith}
 use mathlib.Core.Path.{_≡_, refl, sym, ap, _∙_}
-use mathlib.Core.Bool.{Bool, true, false, _&&_, _||_, not}
-use mathlib.Core.List.{List, [], _∷_, _++_, append-nil}
+use mathlib.Core.Bool.{Bool, true, false}
+use mathlib.Core.List.{List, [], _∷_, _++_}
 use lib.Dec.{eqb, leb, ltb}
-use lib.ListN.{length, drop, take, length-append, length-drop}
-use borrow.Author.Tests.{eq-eqb, eqb-true, eqb-false, ltb-true, ltb-false, le-leb, leb-true, leb-false}
-use Rattle.graph.specs.Basic.{if_then_else_}
+use lib.ListN.{length, length-append, length-drop}
+use borrow.Author.Tests.{eq-eqb, eqb-false, ltb-true, ltb-false, le-leb, leb-true}
 use Rattle.graph.specs.laws.Members.{by-test, clash}
 use Rattle.records.specs.Text.{digitsBy, decimal}
-use Rattle.records.specs.Record.{Record, illFormed, Next, nothing, next, nextRecord, pairAt, decoded}
+use Rattle.records.specs.Record.{Record, Next, nothing, next, nextRecord, pairAt}
 use Rattle.records.specs.Lines.{joined, fitting}
-use Rattle.records.specs.Run.{Stage, fresh, ended, Turn, turn, runFrom, linesIn, linesOf, fittedLines}
+use Rattle.records.specs.Run.{Stage, fresh, ended, turn, runFrom, linesIn, linesOf, fittedLines}
 
 -- ---- digits
 

@@ -6,13 +6,14 @@ use mathlib.Core.Path.{_≡_, refl, sym, ap, _∙_}
 use mathlib.Core.Bool.{Bool, true, false}
 use mathlib.Core.List.{List, [], _∷_, _++_, map}
 use lib.IntN.{ℤ}
+use lib.Dec.{leb}
 use lib.ListN.{length, drop, drop-of-length-le}
 use lib.Seq.{drop-cons}
-use Rattle.graph.specs.Basic.{only, below, fold}
+use Rattle.graph.specs.Basic.{only, below, fold, all as every}
 use Rattle.graph.specs.State.{State, growthAt, edgeCount, sideCount}
 use Rattle.graph.specs.Layout.{stateOf, stateFrom}
 use Rattle.graph.specs.Form.{Formed, Laid}
-use Rattle.graph.specs.laws.Members.{by-test, length-below}
+use Rattle.graph.specs.laws.Members.{by-test, length-below, all-append}
 use Rattle.graph.specs.laws.Opened.{getD-below}
 use Rattle.graph.specs.laws.Table.{side-row}
 use Rattle.graph.specs.laws.State.{fold-append}
@@ -20,7 +21,7 @@ use Rattle.calls.specs.Calls.{growths, touching, growthTable, contacts}
 use Rattle.records.specs.Text.{ascii, spaced}
 use Rattle.records.specs.Lines.{line, edgeLines, contactLine, linesFor}
 use Rattle.records.specs.Table.{edgeLine, touches, linesAt}
-use Rattle.records.specs.Write.{page, putLine, putLines, Told}
+use Rattle.records.specs.Write.{page, putLine, putLines, shortLines, Told}
 
 -- ---- counts
 
@@ -92,16 +93,17 @@ contacts-end k c e h = let n : length (below (edgeCount c)) ≤ e = omega (arith
 -- so much is told that the lines rest, told as well, are all
 pub record Telling (b : List ℕ) (n : ℕ) (full : Bool) (c : List ℕ) (m : ℕ) (stopped : Bool) (all rest : List (List ℕ)) : Type 0 where
   pub goes-on : putLines (page c m stopped) rest ≡ putLines (page b n full) all
+  pub short : shortLines rest ≡ true → shortLines all ≡ true
   pub room : m ≤ length c
 
 pub telling-none : {b : List ℕ} {n : ℕ} {full : Bool} {all rest : List (List ℕ)} → n ≤ length b → rest ≡ all → Telling b n full b n full all rest
-telling-none {b} {n} {full} {all} {rest} h e = record { goes-on = rw e; room = h }
+telling-none {b} {n} {full} {all} {rest} h e = record { goes-on = rw e; short = λ s. rw (← e) s; room = h }
 
 pub telling-more : {b c d : List ℕ} {n m k : ℕ} {full stopped ended : Bool} {all rest ls more : List (List ℕ)} → Telling b n full c m stopped all rest → rest ≡ ls ++ more → Told c m stopped d k ended ls → Telling b n full d k ended all more
-unfolding putLines
+unfolding putLines shortLines
 telling-more {b} {c} {d} {n} {m} {k} {full} {stopped} {ended} {all} {rest} {ls} {more} p e t =
-    record { goes-on = ap (λ q. putLines q more) (t .page-is) ∙ sym (fold-append putLine (page c m stopped) ls more) ∙ ap (putLines (page c m stopped)) (sym e) ∙ p .goes-on; room = t .room }
+    record { goes-on = ap (λ q. putLines q more) (t .page-is) ∙ sym (fold-append putLine (page c m stopped) ls more) ∙ ap (putLines (page c m stopped)) (sym e) ∙ p .goes-on; short = λ s. p .short (rw e (all-append (λ l. leb (length l) 128) ls more (t .short) s)); room = t .room }
 
 pub telling-all : {b c : List ℕ} {n m : ℕ} {full stopped : Bool} {all rest : List (List ℕ)} → Telling b n full c m stopped all rest → rest ≡ [] → Told b n full c m stopped all
-unfolding putLines fold
-telling-all {b} {c} {n} {m} {full} {stopped} {all} {rest} p e = record { page-is = ap (putLines (page c m stopped)) (sym e) ∙ p .goes-on; room = p .room }
+unfolding putLines fold shortLines every
+telling-all {b} {c} {n} {m} {full} {stopped} {all} {rest} p e = record { page-is = ap (putLines (page c m stopped)) (sym e) ∙ p .goes-on; short = p .short (rw e refl); room = p .room }

@@ -11,13 +11,13 @@ use lib.Dec.{leb, ltb}
 use lib.ListN.{length, take, drop, set, getD, length-append, take-append-drop}
 use lib.Seq.{sets, sets-eq, length-sets, take-suc, take-at}
 use borrow.Author.Tests.{ltb-true, ltb-false, leb-true, leb-false, le-leb, lt-leb}
-use Rattle.graph.specs.Basic.{fold}
+use Rattle.graph.specs.Basic.{fold, all}
 use Rattle.graph.specs.laws.Members.{by-test, clash}
-use Rattle.graph.specs.laws.State.{fold-append}
+use Rattle.graph.specs.laws.State.{and-left, and-right}
 use Rattle.records.specs.Text.{decimal, signedText, spaced}
-use Rattle.records.specs.Lines.{line, fitting, over}
-use Rattle.records.specs.Write.{Written, Page, page, putLine, putLines, Told}
-use Rattle.records.specs.laws.Lines.{decimal-last, decimal-more, fitting-le}
+use Rattle.records.specs.Lines.{line, joined, fitting, over}
+use Rattle.records.specs.Write.{Written, Page, page, putLine, putLines, shortLines, Told}
+use Rattle.records.specs.laws.Lines.{decimal-last, decimal-more, fitting-le, fitting-all}
 
 -- ---- lengths of numbers
 
@@ -138,18 +138,23 @@ line-parts k w v = ap (λ l. l ++ (10 ∷ [])) (append-assoc (decimal k) (32 ∷
 
 -- ---- lines that fit
 
-pub told-full : (b : List ℕ) (n : ℕ) (full : Bool) (l : List ℕ) → full ≡ true → n ≤ length b → Told b n full b n full (l ∷ [])
-unfolding page putLine putLines fold
-told-full b n full l e h = record { page-is = rw e; room = h }
+one-line : (l : List ℕ) → length l ≤ 128 → shortLines (l ∷ []) ≡ true
+unfolding shortLines all
+one-line l h = rw (le-leb (length l) 128 h)
 
-pub told-over : (b : List ℕ) (n : ℕ) (full : Bool) (l : List ℕ) → full ≡ false → n ≤ length b → length b - n < length l → Told b n full b n true (l ∷ [])
+pub told-full : (b : List ℕ) (n : ℕ) (full : Bool) (l : List ℕ) → full ≡ true → n ≤ length b → length l ≤ 128 → Told b n full b n full (l ∷ [])
 unfolding page putLine putLines fold
-told-over b n full l e h k = record { page-is = rw (e, lt-leb (n + length l) (length b) (omega arith)); room = h }
+told-full b n full l e h s = record { page-is = rw e; short = one-line l s; room = h }
 
-pub told-fits : (b : List ℕ) (n : ℕ) (full : Bool) (c : List ℕ) (m : ℕ) (l : List ℕ) → full ≡ false → n ≤ length b → length l ≤ length b - n → Written b n c m l → Told b n full c m false (l ∷ [])
+pub told-over : (b : List ℕ) (n : ℕ) (full : Bool) (l : List ℕ) → full ≡ false → n ≤ length b → length b - n < length l → length l ≤ 128 → Told b n full b n true (l ∷ [])
 unfolding page putLine putLines fold
-told-fits b n full c m l e h k p =
+told-over b n full l e h k s = record { page-is = rw (e, lt-leb (n + length l) (length b) (omega arith)); short = one-line l s; room = h }
+
+pub told-fits : (b : List ℕ) (n : ℕ) (full : Bool) (c : List ℕ) (m : ℕ) (l : List ℕ) → full ≡ false → n ≤ length b → length l ≤ length b - n → length l ≤ 128 → Written b n c m l → Told b n full c m false (l ∷ [])
+unfolding page putLine putLines fold
+told-fits b n full c m l e h k s p =
     record {
+      short = one-line l s;
       page-is = rw (e, le-leb (n + length l) (length b) (omega arith), p .bytes, p .place);
       room = omega (arith, written-length p, p .place);
     }
@@ -162,13 +167,13 @@ pub told-as : {b c l v : List ℕ} {n m : ℕ} {full stopped : Bool} → Told b 
 told-as p e = told-lines p (ap (λ x. x ∷ []) e)
 
 pub told-none : {b : List ℕ} {n : ℕ} {full : Bool} → n ≤ length b → Told b n full b n full []
-unfolding putLines fold
-told-none h = record { page-is = refl; room = h }
+unfolding putLines fold shortLines all
+told-none h = record { page-is = refl; short = refl; room = h }
 
 -- ---- all the lines
 
 -- after a line that did not fit none is put
-put-full : (b : List ℕ) (n : ℕ) (ls : List (List ℕ)) → putLines (page b n true) ls ≡ page b n true
+pub put-full : (b : List ℕ) (n : ℕ) (ls : List (List ℕ)) → putLines (page b n true) ls ≡ page b n true
 unfolding putLines fold putLine page
 put-full b n [] = refl
 put-full b n (l ∷ ls) = put-full b n ls
@@ -198,23 +203,28 @@ put-fitting b n (l ∷ ls) h =
     let q : length b < n + length l = leb-false (n + length l) (length b) e in
     rw (e, lt-leb (length l) (length b - n) (omega arith), put-full b n ls) (record { bytes = refl; at = omega arith }))
 
--- lines told from the start on: the bytes are written over with those that fit
-pub told-over-all : {b c : List ℕ} {m : ℕ} {stopped : Bool} (ls : List (List ℕ)) → Told b 0 false c m stopped ls → (c ≡ over (fitting (length b) ls) b) × (m ≡ length (fitting (length b) ls))
+-- lines put from the start on: the bytes are written over with those that fit
+pub put-over : (b c : List ℕ) (m : ℕ) (stopped : Bool) (ls : List (List ℕ)) → page c m stopped ≡ putLines (page b 0 false) ls → (c ≡ over (fitting (length b) ls) b) × (m ≡ length (fitting (length b) ls))
 unfolding over page
-told-over-all {b} {c} {m} {stopped} ls t =
+put-over b c m stopped ls t =
     let z : length b - 0 ≡ length b = omega arith in
     let f = put-fitting b 0 ls (omega arith) in
     let le = fitting-le (length b) ls in
     let y : 0 + length (fitting (length b) ls) ≡ length (fitting (length b) ls) = omega arith in
-    (ap (λ p. p .bytes) (t .page-is) ∙ rw z at (f .bytes) ∙ sets-eq (fitting (length b) ls) b 0 (omega arith) ∙ rw y, ap (λ p. p .at) (t .page-is) ∙ rw (z, y) at (f .at))
+    (ap (λ p. p .bytes) t ∙ rw z at (f .bytes) ∙ sets-eq (fitting (length b) ls) b 0 (omega arith) ∙ rw y, ap (λ p. p .at) t ∙ rw (z, y) at (f .at))
 
--- ---- lines told after lines
+-- how long short lines are together
+pub short-joined : (ls : List (List ℕ)) → shortLines ls ≡ true → length (joined ls) ≤ 128 * length ls
+unfolding shortLines all joined
+short-joined [] h = omega arith
+short-joined (l ∷ ls) h =
+    let one : length l ≤ 128 = leb-true (length l) 128 (and-left (leb (length l) 128) (shortLines ls) h) in
+    omega (arith, length-append l (joined ls), short-joined ls (and-right (leb (length l) 128) (shortLines ls) h))
 
-pub told-then : {b c d : List ℕ} {n m k : ℕ} {full stopped ended : Bool} {ls more : List (List ℕ)} → Told b n full c m stopped ls → Told c m stopped d k ended more → Told b n full d k ended (ls ++ more)
-unfolding putLines
-told-then {b} {c} {d} {n} {m} {k} {full} {stopped} {ended} {ls} {more} p q =
-    record { page-is = q .page-is ∙ ap (λ x. putLines x more) (p .page-is) ∙ sym (fold-append putLine (page b n full) ls more); room = q .room }
-
--- after a line that did not fit all further lines change nothing
-pub told-stopped : {b c : List ℕ} {n m : ℕ} {full : Bool} {ls : List (List ℕ)} (more : List (List ℕ)) → Told b n full c m true ls → Told b n full c m true (ls ++ more)
-told-stopped {b} {c} {n} {m} {full} {ls} more p = told-then p (record { page-is = sym (put-full c m more); room = p .room })
+-- so few lines all fit
+pub told-few : {b c : List ℕ} {m : ℕ} {stopped : Bool} (ls : List (List ℕ)) → Told b 0 false c m stopped ls → 128 * length ls ≤ length b → take m c ≡ joined ls
+unfolding over
+told-few {b} {c} {m} {stopped} ls t h =
+    let o = put-over b c m stopped ls (t .page-is) in
+    let e : fitting (length b) ls ≡ joined ls = fitting-all (length b) ls (omega (arith, short-joined ls (t .short))) in
+    rw (o .0, o .1, e) (take-at (joined ls) (drop (length (joined ls)) b) (length (joined ls)) refl)

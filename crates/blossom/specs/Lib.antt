@@ -1,0 +1,3 @@
+-- What the contracts inside `blossom` cite: a circle while it is joined. The call itself is defined in crate `calls` (specs/Insert).
+pub mod Circle
+pub mod laws

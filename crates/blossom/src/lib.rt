@@ -1,0 +1,234 @@
+// Insertion of a blossom.
+
+ghost use mathlib.Core.Path.{_≡_};
+ghost use mathlib.Core.Logic.{_≢_};
+ghost use mathlib.Core.Bool.{not, true, false};
+ghost use mathlib.Core.List.{map};
+ghost use Prim.Native.Nat.{_+_, _*_, _<_};
+ghost use lib.Dec.{ltb};
+ghost use lib.ListN.{length};
+ghost use Rattle.graph.specs.Basic.{fold, all, any, distinct};
+ghost use Rattle.graph.specs.State.{sideCount, nodeCount, boundaryOf};
+ghost use Rattle.graph.specs.Sound.{entries};
+ghost use Rattle.graph.specs.Word.{toNat};
+ghost use Rattle.graph.specs.Layout.{stateOf};
+ghost use Rattle.graph.specs.Form.{Formed, Becomes, sidesOk};
+ghost use Rattle.pass.specs.Scratch.{zeroScratch};
+ghost use Rattle.calls.specs.Refuse.{badNode, inBlossom, entriesBut, storeShort};
+ghost use Rattle.calls.specs.Insert.{noCircle, blossomRefusal, prepareStep, joinSide, joinStep, joinCircle, insertBlossom};
+ghost use Rattle.blossom.specs.Circle.{Joinable, JoinedIn, joinedIn};
+ghost use Rattle.calls.specs.Reply.{Usable, RepliesInsert};
+use calls::Answer;
+use calls::refuse;
+use graph::insert;
+use graph::lists;
+use graph::node;
+use graph::rows;
+use graph::side;
+use graph::words;
+use pass::prepare;
+use pass::scratch;
+
+// ---- what refuses it
+
+// Whether some number of the circle is no node.
+fn any_bad(b: &[i64], circle: &[i64]) -> bool
+    requires { ⌜ Formed (now b) ⌝ }
+    ensures { λ r. ⌜ r ≡ any (badNode (stateOf (now (b .entry)))) (map toNat (now (circle .entry))) ⌝ }
+{
+    let c = rows::node_count(b);
+    let mut i = 0;
+    while i < circle.len() {
+        let m = words::word(circle, i);
+        if c <= m {
+            return true;
+        } else {
+            i += 1;
+        }
+    }
+    false
+}
+
+// Whether some member of the circle lies in a blossom.
+fn any_inner(b: &[i64], circle: &[i64]) -> bool
+    requires { ⌜ Formed (now b) × (any (badNode (stateOf (now b))) (map toNat (now circle)) ≡ false) ⌝ }
+    ensures { λ r. ⌜ r ≡ any (inBlossom (stateOf (now (b .entry)))) (map toNat (now (circle .entry))) ⌝ }
+{
+    let mut i = 0;
+    while i < circle.len() {
+        let m = words::word(circle, i);
+        if refuse::in_blossom(b, m) {
+            return true;
+        } else {
+            i += 1;
+        }
+    }
+    false
+}
+
+// Whether some number of the circle stands twice: each that was met is marked.
+fn repeats(circle: &[i64]) -> bool
+    requires { ⌜ all (λ m. ltb m 1024) (map toNat (now circle)) ≡ true ⌝ }
+    ensures { λ r. ⌜ r ≡ not (distinct (map toNat (now (circle .entry)))) ⌝ }
+{
+    let mut marks = [0usize; 1024];
+    let mut i = 0;
+    while i < circle.len() {
+        let m = words::word(circle, i);
+        if marks[m] == 1 {
+            return true;
+        } else {
+            marks[m] = 1;
+            i += 1;
+        }
+    }
+    false
+}
+
+// Whether the circle has an even count, under 3, or a repeat.
+fn no_circle(circle: &[i64]) -> bool
+    requires { ⌜ all (λ m. ltb m 1024) (map toNat (now circle)) ≡ true ⌝ }
+    ensures { λ r. ⌜ r ≡ noCircle (map toNat (now (circle .entry))) ⌝ }
+{
+    if (circle.len() % 2 == 0) | (circle.len() < 3) {
+        true
+    } else {
+        repeats(circle)
+    }
+}
+
+// How many entries the lists of the circle's members have.
+fn entries_in(b: &[i64], circle: &[i64]) -> usize
+    requires { ⌜ Formed (now b) × (any (badNode (stateOf (now b))) (map toNat (now circle)) ≡ false) × (distinct (map toNat (now circle)) ≡ true) ⌝ }
+    ensures { λ r. ⌜ r + entriesBut (stateOf (now (b .entry))) (map toNat (now (circle .entry))) ≡ entries (stateOf (now (b .entry))) ⌝ }
+{
+    let mut sum = 0;
+    let mut i = 0;
+    while i < circle.len() {
+        let m = words::word(circle, i);
+        sum += refuse::entries_of(b, m);
+        i += 1;
+    }
+    sum
+}
+
+// Whether the store is too small for the lists of the members and of the blossom, each of which may come to have 2 E + V entries.
+fn store_short_circle(b: &[i64], circle: &[i64]) -> bool
+    requires { ⌜ Formed (now b) × (any (badNode (stateOf (now b))) (map toNat (now circle)) ≡ false) × (distinct (map toNat (now circle)) ≡ true) ⌝ }
+    ensures { λ r. ⌜ r ≡ storeShort (stateOf (now (b .entry))) (map toNat (now (circle .entry))) (length (map toNat (now (circle .entry))) + 1) ⌝ }
+{
+    let used = lists::entry_count(b);
+    let own = entries_in(b, circle);
+    refuse::over_store(b, used - own, circle.len() + 1)
+}
+
+// What refuses a blossom of the circle in grow state x: 0 or the number.
+pub fn blossom_refusal(b: &[i64], x: usize, circle: &[i64]) -> usize
+    requires { ⌜ Formed (now b) ⌝ }
+    ensures { λ r. ⌜ r ≡ blossomRefusal (stateOf (now (b .entry))) x (map toNat (now (circle .entry))) ⌝ }
+{
+    if (2 < x) | any_bad(b, circle) {
+        return 3;
+    }
+    if any_inner(b, circle) {
+        return 6;
+    }
+    if no_circle(circle) {
+        return 7;
+    }
+    if rows::node_limit(b) <= rows::node_count(b) {
+        return 8;
+    }
+    if store_short_circle(b, circle) { 9 } else { 0 }
+}
+
+// ---- the members
+
+// Each member of the circle is prepared for shrinking.
+fn prepare_members(b: &mut [i64], t: &mut [i64], circle: &[i64])
+    requires { ⌜ Formed (now b) × (now t ≡ zeroScratch (3 * sideCount (stateOf (now b)))) × Joinable (stateOf (now b)) (map toNat (now circle)) ⌝ }
+    ensures { λ r. ⌜ Becomes (now (b .entry)) (now (b .exit)) (fold prepareStep (stateOf (now (b .entry))) (map toNat (now (circle .entry)))) × (now (t .exit) ≡ now (t .entry)) × Joinable (stateOf (now (b .exit))) (map toNat (now (circle .entry))) ⌝ }
+{
+    let mut i = 0;
+    while i < circle.len() {
+        let m = words::word(circle, i);
+        prepare::prepare_dual_node_growth(b, t, m, 0);
+        i += 1;
+    }
+}
+
+// The sides that member m holds join the boundary of blossom n, behind the k that stand at the front of t; how many they are then.
+fn join_sides(b: &mut [i64], t: &mut [i64], m: usize, n: usize, k: usize) -> usize
+    requires { ⌜ JoinedIn (now b) (now b) (now t) n k (joinedIn (now b) (now t) k) × (m < nodeCount (stateOf (now b))) × (sidesOk (stateOf (now b)) m ≡ true) × (n < 1024) × (m ≢ n) ⌝ }
+    ensures { λ r. ⌜ JoinedIn (now (b .entry)) (now (b .exit)) (now (t .exit)) n r (fold (joinSide n m) (joinedIn (now (b .entry)) (now (t .entry)) k) (boundaryOf (stateOf (now (b .entry))) m)) ⌝ }
+{
+    let l = lists::boundary_len(b, m);
+    let mut i = 0;
+    let mut q = k;
+    while i < l {
+        let s = lists::boundary_side(b, m, i);
+        if side::holder(b, s) == m + 1 {
+            side::set_holder(b, s, n + 1);
+            words::put(t, q, s);
+            q += 1;
+            i += 1;
+        } else {
+            i += 1;
+        }
+    }
+    q
+}
+
+// Member m is joined to blossom n: its sides, and it becomes Stay and lies in n.
+fn join_member(b: &mut [i64], t: &mut [i64], m: usize, n: usize, k: usize) -> usize
+    requires { ⌜ JoinedIn (now b) (now b) (now t) n k (joinedIn (now b) (now t) k) × (m < nodeCount (stateOf (now b))) × (sidesOk (stateOf (now b)) m ≡ true) × (n < 1024) × (m ≢ n) ⌝ }
+    ensures { λ r. ⌜ JoinedIn (now (b .entry)) (now (b .exit)) (now (t .exit)) n r (joinStep n (joinedIn (now (b .entry)) (now (t .entry)) k) m) ⌝ }
+{
+    let q = join_sides(b, t, m, n, k);
+    node::set_grow_state(b, m, 0);
+    node::set_parent(b, m, n + 1);
+    q
+}
+
+// The members of the circle are joined to blossom n, whose sides are written at the front of t; how many they are.
+fn join_members(b: &mut [i64], t: &mut [i64], circle: &[i64], n: usize) -> usize
+    requires { ⌜ Formed (now b) × (now t ≡ zeroScratch (3 * sideCount (stateOf (now b)))) × Joinable (stateOf (now b)) (map toNat (now circle)) × (n ≡ nodeCount (stateOf (now b))) ⌝ }
+    ensures { λ r. ⌜ JoinedIn (now (b .entry)) (now (b .exit)) (now (t .exit)) n r (fold (joinStep n) (joinedIn (now (b .entry)) (now (t .entry)) 0) (map toNat (now (circle .entry)))) × Joinable (stateOf (now (b .exit))) (map toNat (now (circle .entry))) ⌝ }
+{
+    let mut i = 0;
+    let mut k = 0;
+    while i < circle.len() {
+        let m = words::word(circle, i);
+        k = join_member(b, t, m, n, k);
+        i += 1;
+    }
+    k
+}
+
+// The members of the circle are prepared, then joined to the next node n.
+fn join_circle(b: &mut [i64], t: &mut [i64], circle: &[i64], n: usize) -> usize
+    requires { ⌜ Formed (now b) × (now t ≡ zeroScratch (3 * sideCount (stateOf (now b)))) × Joinable (stateOf (now b)) (map toNat (now circle)) × (n ≡ nodeCount (stateOf (now b))) ⌝ }
+    ensures { λ r. ⌜ JoinedIn (now (b .entry)) (now (b .exit)) (now (t .exit)) n r (joinCircle (stateOf (now (b .entry))) (map toNat (now (circle .entry)))) × Joinable (stateOf (now (b .exit))) (map toNat (now (circle .entry))) ⌝ }
+{
+    prepare_members(b, t, circle);
+    join_members(b, t, circle, n)
+}
+
+// ---- the blossom
+
+// The next node is a blossom of the circle, in grow state x.
+pub fn insert_blossom(b: &mut [i64], t: &mut [i64], x: usize, circle: &[i64]) -> Answer
+    requires { ⌜ Usable (now b) (now t) ⌝ }
+    ensures { λ r. ⌜ RepliesInsert (now (b .entry)) (now (b .exit)) r (insertBlossom (stateOf (now (b .entry))) x (map toNat (now (circle .entry)))) × (now (t .exit) ≡ now (t .entry)) ⌝ }
+{
+    let k = blossom_refusal(b, x, circle);
+    if k != 0 {
+        return Answer::Refused(k);
+    }
+    let n = rows::node_count(b);
+    let l = join_circle(b, t, circle, n);
+    let class = rows::vertex_count(b) + words::word(circle, 0);
+    insert::push_node(b, class, x, t, l);
+    scratch::wipe(t, 0, l);
+    Answer::Node(n)
+}

@@ -1,0 +1,6 @@
+-- Laws of a run in memory.
+pub mod Asking
+pub mod Exported
+pub mod Few
+pub mod Holding
+pub mod Standing
