@@ -6,10 +6,11 @@ ghost use Prim.Native.Nat.{_≤_};
 ghost use lib.Signed.{nonNeg};
 ghost use lib.ListN.{length};
 ghost use Rattle.calls.specs.Answer.{flag};
-ghost use Rattle.host.specs.Words.{answerNumbers, Tells};
+ghost use Rattle.host.specs.Words.{answerNumbers, openAnswer, openNumbers, countedNumbers, Tells};
 ghost use Rattle.calls.specs.declared.Answer.the-variants.{NonZeroGrow};
 use calls::Answer;
 use graph::words;
+use lent::Counted;
 
 // The numbers are written over the front of the list; how many they are.
 pub fn front(list: &mut [usize], numbers: &[usize]) -> usize
@@ -64,5 +65,37 @@ pub fn tell(list: &mut [usize], a: Answer) -> usize
         Answer::Prepared(n) => front(list, &[9, n]),
         Answer::Vertex(v) => front(list, &[10, v]),
         Answer::Refused(n) => front(list, &[11, n]),
+    }
+}
+
+// What an opening answers: k is the number of its refusal, 0 where it is done.
+fn opened(k: usize) -> Answer
+    ensures { λ r. ⌜ r ≡ openAnswer k ⌝ }
+{
+    if k == 0 {
+        Answer::Done
+    } else {
+        Answer::Refused(k)
+    }
+}
+
+// The same for an opening.
+pub fn tell_opened(list: &mut [usize], k: usize) -> usize
+    requires { ⌜ 5 ≤ length (now list) ⌝ }
+    ensures { λ r. ⌜ Tells (openNumbers k) (now (list .entry)) (now (list .exit)) r ⌝ }
+{
+    let a = opened(k);
+    tell(list, a)
+}
+
+// The same for a reading that counts.
+pub fn tell_counted(list: &mut [usize], c: Counted) -> usize
+    requires { ⌜ 5 ≤ length (now list) ⌝ }
+    ensures { λ r. ⌜ Tells (countedNumbers c) (now (list .entry)) (now (list .exit)) r ⌝ }
+{
+    let a = c.answer;
+    match a {
+        Answer::Done => front(list, &[7, c.count]),
+        _ => tell(list, a),
     }
 }

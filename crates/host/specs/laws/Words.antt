@@ -1,6 +1,6 @@
 -- Answers as numbers: how they are written over the front of a list, and how many they are.
 use Prim.Native.Nat.{ℕ, suc, _+_, _≤_, _<_}
-use native.Mathlib.Nat.{zero-add}
+use native.Mathlib.Nat.{not-le-of-lt}
 use native.Mathlib.Numerals.{add-one}
 use native.Mathlib.Omega.{arith}
 use mathlib.Core.Path.{_≡_, refl, sym, ap, _∙_}
@@ -9,7 +9,7 @@ use lib.ListN.{length, take, drop, set, getD}
 use lib.Seq.{paste-suc, take-all}
 use Rattle.calls.specs.declared.Answer.{Answer}
 use Rattle.calls.specs.declared.Answer.the-variants.{NonZeroGrow, Unlimited, Conflicting, TouchingVirtual, BlossomNeedExpand, VertexShrinkStop, VertexShrinkStopPeer, Done, Node, Prepared, Vertex, Refused}
-use Rattle.host.specs.Words.{answerNumbers, Tells}
+use Rattle.host.specs.Words.{answerNumbers, Tells, Told}
 
 -- one number more over the front
 pub front-more : (numbers list : List ℕ) (i : ℕ) → i < length numbers → i < length list → set (take i numbers ++ drop i list) i (getD numbers i 0) ≡ take (i + 1) numbers ++ drop (i + 1) list
@@ -41,3 +41,14 @@ answer-short (Node n) = omega arith
 answer-short (Prepared k) = omega arith
 answer-short (Vertex v) = omega arith
 answer-short (Refused k) = omega arith
+
+-- ---- an exported call
+
+module _ {A : Type 0} {numbers : A → List ℕ} {list : List ℕ} {Still : Type 0} {Says : A → Type 0} where
+  -- no room for an answer
+  pub told-short : length list < 5 → Still → Told numbers list list 0 Still Says
+  told-short h s = record { short = λ q. (refl, refl, s); told = λ q. absurd (not-le-of-lt h q) }
+
+  -- room, and the answer told
+  pub told-all : {list' : List ℕ} {k : ℕ} → 5 ≤ length list → (a : A) → Says a → Tells (numbers a) list list' k → Told numbers list list' k Still Says
+  told-all h a s t = record { short = λ q. absurd (not-le-of-lt q h); told = λ q. record { answer = a; says = s; tells = t } }
