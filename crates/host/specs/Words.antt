@@ -37,6 +37,7 @@ pub record Tells (numbers list list' : List ℕ) (k : ℕ) : Type 0 where
 unfoldable pub openAnswer : ℕ → Answer
 openAnswer k = if eqb k 0 then Done else Refused k
 
+-- told in the same numbers
 abbrev pub openNumbers : ℕ → List ℕ
 openNumbers k = answerNumbers (openAnswer k)
 
@@ -44,17 +45,18 @@ openNumbers k = answerNumbers (openAnswer k)
 unfoldable pub countNumbers : Answer → ℕ → List ℕ
 countNumbers a n = if eqb (getD (answerNumbers a) 0 0) 7 then 7 ∷ n ∷ [] else answerNumbers a
 
+-- the same of what such a reading gives back
 abbrev pub countedNumbers : Counted → List ℕ
 countedNumbers c = countNumbers (c .answer) (c .count)
 
--- an answer that is so stands at the front of the list, in k numbers
+-- an answer of which Says holds stands at the front of the list, in k numbers
 pub record Saying {A : Type 0} (numbers : A → List ℕ) (list list' : List ℕ) (k : ℕ) (Says : A → Type 0) : Type 0 where
   pub answer : A
   pub says : Says answer
   pub tells : Tells (numbers answer) list list' k
 
 -- What an exported call promises that gives back k. A list of five words or more: the call was made, and what it answers is told there.
--- A shorter one: nothing was called and nothing written, and k is 0.
+-- A shorter one: nothing was called and k is 0; the list and, by Still, all else that the call may write are as they were.
 pub record Told {A : Type 0} (numbers : A → List ℕ) (list list' : List ℕ) (k : ℕ) (Still : Type 0) (Says : A → Type 0) : Type 0 where
   pub short : length list < 5 → (k ≡ 0) × (list' ≡ list) × Still
   pub told : 5 ≤ length list → Saying numbers list list' k Says

@@ -1,6 +1,5 @@
 use borrow.Author.Tests.{eq-eqb, ne-eqb}
 use Rattle.host.specs.Words.{openAnswer}
-use borrow.Author.Needs.{needs}
 use Rattle.host.proofs.answer.opened.Statement.{statement}
 use Rattle.host.proofs.answer.opened.Tie as tie
 
