@@ -1,4 +1,5 @@
-// Links the archive of crate `run`: ARCHIVE names it, by default target/staticlib/librun.a of the repository.
+// Links the archive of crate `run`: ARCHIVE names it, by default target/staticlib/librun.a of the repository. LIBRARY names
+// an archive with the calls on lent memory (library.sh); without it the library is neither compared nor measured.
 use std::{env, path::PathBuf};
 
 fn main() {
@@ -8,4 +9,11 @@ fn main() {
     println!("cargo:rerun-if-env-changed=ARCHIVE");
     println!("cargo:rerun-if-changed={}", archive.display());
     println!("cargo:rustc-link-arg={}", archive.display());
+    println!("cargo:rerun-if-env-changed=LIBRARY");
+    println!("cargo:rustc-check-cfg=cfg(library)");
+    if let Ok(library) = env::var("LIBRARY") {
+        println!("cargo:rerun-if-changed={library}");
+        println!("cargo:rustc-link-arg={library}");
+        println!("cargo:rustc-cfg=library");
+    }
 }

@@ -1,5 +1,7 @@
-# Builds the archive of crate `run` and the bench; sets `bench` to its program. Read by run.sh, speed.sh and sample.sh.
+# Builds the archive of crate `run` and the bench; sets `bench` to its program. Read by the other scripts; those that set
+# `with_library` get the calls on lent memory too.
 #   ARCHIVE         another archive with the call cardrun_lines (default: what `rt staticlib run` writes)
+#   LIBRARY         another archive with the calls on lent memory (default: library.sh makes one)
 #   FB_SRC          the folder of the three Rust files (default: ../shared/docs/src beside the repository)
 #   CARGO_REGISTRY  where Debian's librust packages put their sources
 set -e
@@ -15,5 +17,6 @@ registry=${CARGO_REGISTRY:-/usr/share/cargo/registry}
 if [ ! -d "$registry/parking_lot-0.12.1" ] && [ -z "$CARGO_REGISTRY" ]; then
     echo "needs Debian's packages librust-{derivative,serde,serde-json,cfg-if,rand-xoshiro,parking-lot}-dev" >&2
 fi
+[ -z "$with_library" ] || [ -n "$LIBRARY" ] || . "$here/library.sh"
 (cd "$here" && cargo build --quiet --release --offline --config 'source.crates-io.replace-with="debian"' --config "source.debian.directory=\"$registry\"")
 bench=$CARGO_TARGET_DIR/release/differential

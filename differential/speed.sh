@@ -1,5 +1,6 @@
 #!/bin/sh
 # speed.sh: measures port and Rust and writes docs/SPEED.md.
+with_library=yes
 here=$(cd "$(dirname "$0")" && pwd)
 . "$here/build.sh"
 out=$root/docs/SPEED.md
@@ -17,13 +18,6 @@ take none. Its records and lines are those of differential/rust-side/common/sess
 T
     echo "Machine: $(uname -m), \`nproc\` $(nproc), $(sed -n 's/^model name[^:]*: //p' /proc/cpuinfo | head -1); other work ran beside. $(rustc --version | cut -d' ' -f1,2)."
     "$bench" speed
-    cat <<'T'
-
-## Library calls
-
-Calls over words at distances 7, 11 and 15, with and without the soundness test, are not measured: no crate exports them yet. Their place is the end of `table` in
-differential/src/speed.rs. `bench/soundness.sh` times the soundness test alone.
-T
 } > "$out.new"
 mv "$out.new" "$out"
 sed -n '/^## /,$p' "$out"

@@ -107,6 +107,12 @@ pub fn patch(r: &mut Random, d: i32, w: Weights) -> Graph {
     stacked(r, d, d, 1, false, w)
 }
 
+/// A whole patch of distance d in several rounds, at the library's sizes.
+#[cfg(library)]
+pub fn large(r: &mut Random, d: i32, rounds: i32, diagonal: bool, w: Weights) -> Graph {
+    stacked(r, d, d, rounds, diagonal, w)
+}
+
 /// As many rounds of distance d as fit, at most `most`.
 pub fn rounds(r: &mut Random, d: i32, most: i32, diagonal: bool, w: Weights) -> Graph {
     let mut n = most;

@@ -2,6 +2,8 @@
 mod compare;
 mod count;
 mod graphs;
+#[cfg(library)]
+mod library;
 mod port;
 mod random;
 mod records;
@@ -75,12 +77,14 @@ fn main() {
             true
         }
         Some("replay") => sample::replay(a.get(2).expect("a file")),
+        #[cfg(library)]
+        Some("library") => library::compare(number(a.get(2), 2000), number(a.get(3), 1)),
         Some("speed") => {
             speed::table();
             true
         }
         _ => {
-            eprintln!("differential compare [RUNS] [SEED] | one SEED | sample FILE [SEED] | replay FILE | speed");
+            eprintln!("differential compare [RUNS] [SEED] | one SEED | sample FILE [SEED] | replay FILE | speed | library [RUNS] [SEED]");
             false
         }
     };

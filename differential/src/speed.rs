@@ -7,7 +7,7 @@ use crate::records::{kind, record, Record};
 use crate::streams;
 use std::time::Instant;
 
-const ROUNDS: usize = 60;
+pub const ROUNDS: usize = 60;
 
 macro_rules! rust_side {
     ($name:ident, $krate:ident) => {
@@ -91,6 +91,22 @@ fn star(spokes: i32) -> Graph {
     Graph { kind: 4, v: 64, edges, virtuals: vec![] }
 }
 
+/// A hub with 8 near leaves, each with 3 far ones behind heavy edges, and 30 vertices in pairs. `others` of these are defects that stay;
+/// the defect at the hub, whose lists stand first in the store, takes the near leaves and releases them again.
+fn breathe(others: i32, times: usize) -> Vec<Record> {
+    let mut edges: Vec<_> = (1..9).map(|x| (0, x, 2)).collect();
+    edges.extend((9..33).map(|x| (1 + (x - 9) / 3, x, 1_000_000)));
+    edges.extend((0..15).map(|i| (33 + 2 * i, 34 + 2 * i, 1_000_000)));
+    let mut out = vec![record(1, &[63, edges.len() as i32, 32, 2000])];
+    out.extend(edges.iter().map(|e| record(2, &[e.0, e.1, e.2])));
+    out.push(record(4, &[0, 1]));
+    out.extend((0..others).map(|i| record(4, &[33 + i, 0])));
+    for _ in 0..times {
+        out.extend([record(9, &[0, 2]), record(9, &[0, 1]), record(9, &[0, -1]), record(9, &[0, -2])]);
+    }
+    out
+}
+
 pub fn table() {
     let r = &mut Random::new(7);
     println!("\n## Decoding runs, records to lines");
@@ -105,7 +121,7 @@ pub fn table() {
     }
     patches.push(("strip of distance 15".to_string(), graphs::strip(r, 15, even)));
     for (i, (name, g)) in patches.iter().enumerate() {
-        let records = streams::decoding(i as u64, g, 10_000);
+        let records = streams::decoding(i as u64, g, 10_000, 32, 2000);
         row(&format!("{name}: V {}, E {}", g.v, g.edges.len()), &records);
     }
     println!("\n## Cost against V");
@@ -120,5 +136,12 @@ pub fn table() {
     for spokes in [2, 4, 8, 16, 32, 64, 126] {
         row(&spokes.to_string(), &pulse(&star(spokes), 0, 2_500));
     }
-    // Library calls over words at distances 7, 11 and 15, with and without the soundness test, get their rows here once a crate exports them.
+    println!("\n## Cost against the number of nodes");
+    println!("\nA defect takes 8 vertices and releases them again, in 4 growths: its boundary has 8 sides, then 24. Its lists stand before those of the other defects.");
+    heading("other defects");
+    for others in [0, 10, 20, 30] {
+        row(&others.to_string(), &breathe(others, 2_500));
+    }
+    #[cfg(library)]
+    crate::library::speed();
 }

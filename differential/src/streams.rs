@@ -305,14 +305,56 @@ pub fn stream(seed: u64) -> Stream {
     s
 }
 
-/// A long run of a decoder on one graph: shots of some defects, each followed by a clear. Only accepted calls are left: refusals 3 to
-/// 9 and 13 change nothing and go, 10 to 12 leave a preparation, which takes their place.
-pub fn decoding(seed: u64, g: &Graph, calls: usize) -> Vec<Record> {
-    let r = &mut Random::new(seed);
-    let mut out = vec![record(1, &[g.v, g.edges.len() as i32, 32, 2000])];
+/// The records that open a graph.
+pub fn opening(g: &Graph, n: i32, l: i32) -> Vec<Record> {
+    let mut out = vec![record(1, &[g.v, g.edges.len() as i32, n, l])];
     out.extend(g.edges.iter().map(|e| record(2, &[e.0, e.1, e.2])));
     out.extend(g.virtuals.iter().map(|&v| record(3, &[v])));
+    out
+}
+
+/// A stream on a graph of the library's sizes: good fields for the most part, a table at the end.
+#[cfg(library)]
+pub fn large(seed: u64, g: &Graph) -> Stream {
+    let r = &mut Random::new(seed);
+    let policy = r.pick(&[0, 1, BREATHING, 3, 5]);
+    let mut s = Stream { graph: g.kind, policy, records: vec![], said: vec![], lines: vec![], outside: false };
     let mut session = Session::new(false);
+    session.limits = LIBRARY;
+    let (n, l) = (r.range(20, 1024), if r.chance(80) { 65_536 } else { r.range(10_000, 65_536) });
+    let mut view = View::default();
+    let mut asked = (0, vec![]);
+    let calls = r.range(100, 800);
+    let mut records = opening(g, n, l);
+    records.reverse();
+    for i in 0.. {
+        let rec = records.pop().unwrap_or_else(|| {
+            asked = if s.records.len() > calls as usize + g.edges.len() { (10, vec![]) } else { choose(r, &TABLE[policy], &view, g.v, &asked) };
+            record(asked.0, &asked.1)
+        });
+        let before = session.lines.len();
+        s.said.push(session.feed(&rec));
+        s.records.push(rec);
+        let line = String::from_utf8_lossy(&session.lines[before..]).lines().next().unwrap_or("").to_string();
+        view.see(asked.0, &asked.1, &line);
+        if session.ended || i > calls as usize + g.edges.len() {
+            break;
+        }
+    }
+    s.outside = s.said.iter().any(|x| x.outside);
+    s.lines = session.lines;
+    s
+}
+
+pub const LIBRARY: [i32; 4] = [1024, 4096, 1024, 65_536];
+
+/// A long run of a decoder on one graph: shots of some defects, each followed by a clear. Only accepted calls are left: refusals 3 to
+/// 9 and 13 change nothing and go, 10 to 12 leave a preparation, which takes their place.
+pub fn decoding(seed: u64, g: &Graph, calls: usize, n: i32, l: i32) -> Vec<Record> {
+    let r = &mut Random::new(seed);
+    let mut out = opening(g, n, l);
+    let mut session = Session::new(false);
+    session.limits = LIBRARY;
     for rec in &out {
         session.feed(rec);
     }

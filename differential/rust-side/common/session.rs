@@ -27,8 +27,12 @@ pub struct Session {
     card: Option<Card>,
     pub ended: bool,
     pub lines: Vec<u8>,
+    /// the largest V, E, N and L
+    pub limits: [i32; 4],
     fields: Vec<i32>,
 }
+
+pub const PROGRAM: [i32; 4] = [64, 128, 32, 2000];
 
 fn fields_fit(kind: u16, n: usize) -> bool {
     match kind {
@@ -71,7 +75,7 @@ pub fn record_length(input: &[u8]) -> Option<usize> {
 impl Session {
     /// `straight` calls the Rust's own methods and constructor; otherwise refusals are worked out and preparation is mended.
     pub fn new(straight: bool) -> Self {
-        Session { straight, record: 0, sizes: None, edges: vec![], virtuals: vec![], card: None, ended: false, lines: vec![], fields: vec![] }
+        Session { straight, record: 0, sizes: None, edges: vec![], virtuals: vec![], card: None, ended: false, lines: vec![], limits: PROGRAM, fields: vec![] }
     }
 
     fn end(&mut self, kind: u16, k: u8) -> Said {
@@ -113,7 +117,8 @@ impl Session {
     fn open(&mut self) -> Option<u8> {
         let s = self.sizes.unwrap();
         let within = |x: i32, lo: i32, hi: i32| lo <= x && x <= hi;
-        if !within(s[0], 1, 64) || !within(s[1], 1, 128) || !within(s[2], 1, 32) || !within(s[3], 0, 2000) || self.edges.len() != s[1] as usize {
+        let least = [1, 1, 1, 0];
+        if (0..4).any(|i| !within(s[i], least[i], self.limits[i])) || self.edges.len() != s[1] as usize {
             return Some(4);
         }
         let vertex = |v: i32| within(v, 0, s[0] - 1);
@@ -198,6 +203,20 @@ impl Session {
         let x = self.card.as_mut().unwrap().straight(kind, &a);
         write_answer(&mut self.lines, self.record, &x);
         self.fields = a;
+    }
+
+    /// A call by its fields, for timing: the kind of its answer, in the order of the port's answers.
+    pub fn ask(&mut self, kind: u16, a: &[i32]) -> usize {
+        match self.card.as_mut().unwrap().straight(kind, a) {
+            Answer::Length(MaxUpdateLength::NonZeroGrow((l, _))) => 1 + usize::from(l == Weight::MAX),
+            Answer::Length(MaxUpdateLength::Conflicting(..)) => 3,
+            Answer::Length(MaxUpdateLength::TouchingVirtual(..)) => 4,
+            Answer::Length(MaxUpdateLength::BlossomNeedExpand(..)) => 5,
+            Answer::Length(MaxUpdateLength::VertexShrinkStop((_, p))) => 6 + usize::from(p.is_some()),
+            Answer::Node(_) => 9,
+            Answer::Prepared(_) => 10,
+            _ => 8,
+        }
     }
 
     /// Whether the Rust's own constructor opened the graph.
