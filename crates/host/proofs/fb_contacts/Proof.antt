@@ -1,0 +1,28 @@
+use mathlib.Core.Path.{refl}
+use Rattle.host.specs.laws.Words.{told-short, told-all}
+use borrow.Author.Needs.{needs}
+use Rattle.host.proofs.fb_contacts.Statement.{statement}
+use Rattle.host.proofs.fb_contacts.Tie as tie
+
+returns : tie.Need-returns
+returns c = told-short (c .if1 .taken) refl
+
+contacts-requires : tie.Need-contacts-requires
+contacts-requires c κs = search needs
+
+tell-counted-requires : tie.Need-tell-counted-requires
+tell-counted-requires c κs = search needs
+
+same-length : tie.Need-same-length
+same-length c = search needs
+
+same-length-2 : tie.Need-same-length-2
+same-length-2 c = search needs
+
+returns-2 : tie.Need-returns-2
+returns-2 c = told-all (search needs) _ (c .before .before .before .before .before .contacts .ensures) (c .before .before .tell-counted .ensures)
+
+pub fb-contacts-spec : {M : Type 1} → statement M
+fb-contacts-spec =
+    tie.close
+    (tie.spec returns contacts-requires tell-counted-requires same-length same-length-2 returns-2)

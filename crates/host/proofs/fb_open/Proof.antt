@@ -1,0 +1,28 @@
+use mathlib.Core.Path.{refl}
+use Rattle.host.specs.laws.Words.{told-short, told-all}
+use borrow.Author.Needs.{needs}
+use Rattle.host.proofs.fb_open.Statement.{statement}
+use Rattle.host.proofs.fb_open.Tie as tie
+
+returns : tie.Need-returns
+returns c = told-short (c .if1 .taken) refl
+
+open-requires : tie.Need-open-requires
+open-requires c κs = search needs
+
+tell-opened-requires : tie.Need-tell-opened-requires
+tell-opened-requires c κs = search needs
+
+same-length : tie.Need-same-length
+same-length c = search needs
+
+same-length-2 : tie.Need-same-length-2
+same-length-2 c = search needs
+
+returns-2 : tie.Need-returns-2
+returns-2 c = told-all (search needs) _ (c .before .before .before .before .before .«open» .ensures) (c .before .before .tell-opened .ensures)
+
+pub fb-open-spec : {M : Type 1} → statement M
+fb-open-spec =
+    tie.close
+    (tie.spec returns open-requires tell-opened-requires same-length same-length-2 returns-2)

@@ -1,0 +1,28 @@
+use mathlib.Core.Path.{refl}
+use Rattle.host.specs.laws.Words.{told-short, told-all}
+use borrow.Author.Needs.{needs}
+use Rattle.host.proofs.fb_set_grow_state.Statement.{statement}
+use Rattle.host.proofs.fb_set_grow_state.Tie as tie
+
+returns : tie.Need-returns
+returns c = told-short (c .if1 .taken) refl
+
+set-grow-state-requires : tie.Need-set-grow-state-requires
+set-grow-state-requires c κs = search needs
+
+tell-requires : tie.Need-tell-requires
+tell-requires c κs = search needs
+
+same-length : tie.Need-same-length
+same-length c = search needs
+
+same-length-2 : tie.Need-same-length-2
+same-length-2 c = search needs
+
+returns-2 : tie.Need-returns-2
+returns-2 c = told-all (search needs) _ (c .before .before .before .before .before .set-grow-state .ensures) (c .before .before .tell .ensures)
+
+pub fb-set-grow-state-spec : {M : Type 1} → statement M
+fb-set-grow-state-spec =
+    tie.close
+    (tie.spec returns set-grow-state-requires tell-requires same-length same-length-2 returns-2)

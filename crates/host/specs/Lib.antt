@@ -1,0 +1,3 @@
+-- What the contracts of `host` cite: an answer as numbers; its laws are in laws/.
+pub mod Words
+pub mod laws

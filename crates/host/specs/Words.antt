@@ -1,0 +1,66 @@
+-- An answer told to a host of another language: numbers without sign at the front of a list that it lends.
+use Prim.Native.Nat.{ℕ, _≤_, _<_}
+use mathlib.Core.Path.{_≡_}
+use mathlib.Core.Bool.{not}
+use mathlib.Core.List.{List, [], _∷_, _++_}
+use lib.IntN.{ℤ, natAbs}
+use lib.Signed.{nonNeg}
+use lib.Dec.{eqb}
+use lib.ListN.{length, drop, getD}
+use Rattle.graph.specs.Basic.{if_then_else_}
+use Rattle.calls.specs.declared.Answer.{Answer}
+use Rattle.calls.specs.declared.Answer.the-variants.{NonZeroGrow, Unlimited, Conflicting, TouchingVirtual, BlossomNeedExpand, VertexShrinkStop, VertexShrinkStopPeer, Done, Node, Prepared, Vertex, Refused}
+use Rattle.calls.specs.Answer.{flag}
+use Rattle.lent.specs.declared.Counted.{Counted}
+
+-- the number of its case, and its values; a length is told as its sign, 1 below 0 and 0 else, and its magnitude
+unfoldable pub answerNumbers : Answer → List ℕ
+answerNumbers (NonZeroGrow l e) = 0 ∷ flag (not (nonNeg l)) ∷ natAbs l ∷ flag e ∷ []
+answerNumbers (Unlimited e) = 1 ∷ flag e ∷ []
+answerNumbers (Conflicting p g n h) = 2 ∷ p ∷ g ∷ n ∷ h ∷ []
+answerNumbers (TouchingVirtual n g v) = 3 ∷ n ∷ g ∷ v ∷ []
+answerNumbers (BlossomNeedExpand n) = 4 ∷ n ∷ []
+answerNumbers (VertexShrinkStop n) = 5 ∷ n ∷ []
+answerNumbers (VertexShrinkStopPeer n p g) = 6 ∷ n ∷ p ∷ g ∷ []
+answerNumbers Done = 7 ∷ []
+answerNumbers (Node n) = 8 ∷ n ∷ []
+answerNumbers (Prepared k) = 9 ∷ k ∷ []
+answerNumbers (Vertex v) = 10 ∷ v ∷ []
+answerNumbers (Refused k) = 11 ∷ k ∷ []
+
+-- the numbers were written over the front of the list, k of them; the rest of it is left
+pub record Tells (numbers list list' : List ℕ) (k : ℕ) : Type 0 where
+  pub listed : list' ≡ numbers ++ drop (length numbers) list
+  pub count : k ≡ length numbers
+
+-- an opening: done, or its refusal
+unfoldable pub openAnswer : ℕ → Answer
+openAnswer k = if eqb k 0 then Done else Refused k
+
+-- told in the same numbers
+abbrev pub openNumbers : ℕ → List ℕ
+openNumbers k = answerNumbers (openAnswer k)
+
+-- a reading of the full edges: one that is done, case 7, tells how many they are
+unfoldable pub countNumbers : Answer → ℕ → List ℕ
+countNumbers a n = if eqb (getD (answerNumbers a) 0 0) 7 then 7 ∷ n ∷ [] else answerNumbers a
+
+-- the same of what such a reading gives back
+abbrev pub countedNumbers : Counted → List ℕ
+countedNumbers c = countNumbers (c .answer) (c .count)
+
+-- an answer of which Says holds stands at the front of the list, in k numbers
+pub record Saying {A : Type 0} (numbers : A → List ℕ) (list list' : List ℕ) (k : ℕ) (Says : A → Type 0) : Type 0 where
+  pub answer : A
+  pub says : Says answer
+  pub tells : Tells (numbers answer) list list' k
+
+-- What an exported call promises that gives back k. A list of five words or more: the call was made, and what it answers is told there.
+-- A shorter one: nothing was called and k is 0; the list and, by Still, all else that the call may write are as they were.
+pub record Told {A : Type 0} (numbers : A → List ℕ) (list list' : List ℕ) (k : ℕ) (Still : Type 0) (Says : A → Type 0) : Type 0 where
+  pub short : length list < 5 → (k ≡ 0) × (list' ≡ list) × Still
+  pub told : 5 ≤ length list → Saying numbers list list' k Says
+
+-- block and scratch are as they were
+abbrev pub Kept : List ℤ → List ℤ → List ℤ → List ℤ → Type 0
+Kept b t b' t' = (b' ≡ b) × (t' ≡ t)

@@ -1,0 +1,2 @@
+-- Laws about answers told as numbers.
+pub mod Words

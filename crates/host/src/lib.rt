@@ -1,0 +1,220 @@
+// The calls on lent memory, exported for C. The host lends a list for the answer too: what is told stands at its front, in numbers,
+// and each call gives back how many. A list of fewer than five words has no room: then nothing happens, and 0 is given back.
+
+ghost use mathlib.Core.Path.{_≡_};
+ghost use Rattle.graph.specs.Opening.{OpenCalled};
+ghost use Rattle.lent.specs.Called.{DefectCalled, BlossomCalled, StateCalled, PrepareCalled, LengthCalled, GrowCalled, AdvanceCalled, ClearCalled, VertexRead, TableRead, ContactsRead, ContactsCounted};
+ghost use Rattle.host.specs.Words.{answerNumbers, openNumbers, countedNumbers, Told, Kept};
+
+pub mod answer; // an answer as numbers
+
+// A graph of v vertices and e edges is opened in the block, with places for n nodes and a store of l words; the scratch is only measured.
+#[no_mangle]
+pub extern "C" fn fb_open(
+    block: &mut [i64],
+    scratch: &[i64],
+    edges: &[i64],
+    virtuals: &[i64],
+    v: usize,
+    e: usize,
+    n: usize,
+    l: usize,
+    answer: &mut [usize],
+) -> usize
+    ensures { λ r. ⌜ Told openNumbers (now (answer .entry)) (now (answer .exit)) r (now (block .exit) ≡ now (block .entry)) (λ k. OpenCalled (now (block .entry)) (now (scratch .entry)) v e n l (now (edges .entry)) (now (virtuals .entry)) (now (block .exit)) k) ⌝ }
+{
+    if answer.len() < 5 {
+        return 0;
+    }
+    let k = memory::open::open(block, scratch, v, e, n, l, edges, virtuals);
+    answer::tell_opened(answer, k)
+}
+
+// The next node is a defect at a vertex.
+#[no_mangle]
+pub extern "C" fn fb_insert_defect(
+    block: &mut [i64],
+    scratch: &mut [i64],
+    vertex: usize,
+    state: usize,
+    answer: &mut [usize],
+) -> usize
+    ensures { λ r. ⌜ Told answerNumbers (now (answer .entry)) (now (answer .exit)) r (Kept (now (block .entry)) (now (scratch .entry)) (now (block .exit)) (now (scratch .exit))) (λ a. DefectCalled (now (block .entry)) (now (scratch .entry)) vertex state (now (block .exit)) (now (scratch .exit)) a) ⌝ }
+{
+    if answer.len() < 5 {
+        return 0;
+    }
+    let a = lent::insert_defect(block, scratch, vertex, state);
+    answer::tell(answer, a)
+}
+
+// The next node is a blossom of the circle's nodes.
+#[no_mangle]
+pub extern "C" fn fb_insert_blossom(
+    block: &mut [i64],
+    scratch: &mut [i64],
+    circle: &[i64],
+    state: usize,
+    answer: &mut [usize],
+) -> usize
+    ensures { λ r. ⌜ Told answerNumbers (now (answer .entry)) (now (answer .exit)) r (Kept (now (block .entry)) (now (scratch .entry)) (now (block .exit)) (now (scratch .exit))) (λ a. BlossomCalled (now (block .entry)) (now (scratch .entry)) state (now (circle .entry)) (now (block .exit)) (now (scratch .exit)) a) ⌝ }
+{
+    if answer.len() < 5 {
+        return 0;
+    }
+    let a = lent::insert_blossom(block, scratch, state, circle);
+    answer::tell(answer, a)
+}
+
+// A node gets a grow state.
+#[no_mangle]
+pub extern "C" fn fb_set_grow_state(
+    block: &mut [i64],
+    scratch: &[i64],
+    node: usize,
+    state: usize,
+    answer: &mut [usize],
+) -> usize
+    ensures { λ r. ⌜ Told answerNumbers (now (answer .entry)) (now (answer .exit)) r (now (block .exit) ≡ now (block .entry)) (λ a. StateCalled (now (block .entry)) (now (scratch .entry)) node state (now (block .exit)) a) ⌝ }
+{
+    if answer.len() < 5 {
+        return 0;
+    }
+    let a = lent::set_grow_state(block, scratch, node, state);
+    answer::tell(answer, a)
+}
+
+// A node is prepared to grow in a direction.
+#[no_mangle]
+pub extern "C" fn fb_prepare(
+    block: &mut [i64],
+    scratch: &mut [i64],
+    node: usize,
+    direction: usize,
+    answer: &mut [usize],
+) -> usize
+    ensures { λ r. ⌜ Told answerNumbers (now (answer .entry)) (now (answer .exit)) r (Kept (now (block .entry)) (now (scratch .entry)) (now (block .exit)) (now (scratch .exit))) (λ a. PrepareCalled (now (block .entry)) (now (scratch .entry)) node direction (now (block .exit)) (now (scratch .exit)) a) ⌝ }
+{
+    if answer.len() < 5 {
+        return 0;
+    }
+    let a = lent::prepare_dual_node_growth(block, scratch, node, direction);
+    answer::tell(answer, a)
+}
+
+// How far a node may grow in a direction; `first` says whether it is prepared first.
+#[no_mangle]
+pub extern "C" fn fb_max_update_length(
+    block: &mut [i64],
+    scratch: &mut [i64],
+    node: usize,
+    direction: usize,
+    first: bool,
+    answer: &mut [usize],
+) -> usize
+    ensures { λ r. ⌜ Told answerNumbers (now (answer .entry)) (now (answer .exit)) r (Kept (now (block .entry)) (now (scratch .entry)) (now (block .exit)) (now (scratch .exit))) (λ a. LengthCalled (now (block .entry)) (now (scratch .entry)) node direction first (now (block .exit)) (now (scratch .exit)) a) ⌝ }
+{
+    if answer.len() < 5 {
+        return 0;
+    }
+    let a = lent::compute_maximum_update_length_dual_node(block, scratch, node, direction, first);
+    answer::tell(answer, a)
+}
+
+// A node grows by a length: below 0 it shrinks.
+#[no_mangle]
+pub extern "C" fn fb_grow(
+    block: &mut [i64],
+    scratch: &mut [i64],
+    node: usize,
+    length: i64,
+    answer: &mut [usize],
+) -> usize
+    ensures { λ r. ⌜ Told answerNumbers (now (answer .entry)) (now (answer .exit)) r (Kept (now (block .entry)) (now (scratch .entry)) (now (block .exit)) (now (scratch .exit))) (λ a. GrowCalled (now (block .entry)) (now (scratch .entry)) node length (now (block .exit)) (now (scratch .exit)) a) ⌝ }
+{
+    if answer.len() < 5 {
+        return 0;
+    }
+    let a = lent::grow_dual_node(block, scratch, node, length);
+    answer::tell(answer, a)
+}
+
+// A node grows by all of its own length answer.
+#[no_mangle]
+pub extern "C" fn fb_advance(
+    block: &mut [i64],
+    scratch: &mut [i64],
+    node: usize,
+    answer: &mut [usize],
+) -> usize
+    ensures { λ r. ⌜ Told answerNumbers (now (answer .entry)) (now (answer .exit)) r (Kept (now (block .entry)) (now (scratch .entry)) (now (block .exit)) (now (scratch .exit))) (λ a. AdvanceCalled (now (block .entry)) (now (scratch .entry)) node (now (block .exit)) (now (scratch .exit)) a) ⌝ }
+{
+    if answer.len() < 5 {
+        return 0;
+    }
+    let a = lent::advance(block, scratch, node);
+    answer::tell(answer, a)
+}
+
+// Everything but the graph is emptied.
+#[no_mangle]
+pub extern "C" fn fb_clear(block: &mut [i64], scratch: &[i64], answer: &mut [usize]) -> usize
+    ensures { λ r. ⌜ Told answerNumbers (now (answer .entry)) (now (answer .exit)) r (now (block .exit) ≡ now (block .entry)) (λ a. ClearCalled (now (block .entry)) (now (scratch .entry)) (now (block .exit)) a) ⌝ }
+{
+    if answer.len() < 5 {
+        return 0;
+    }
+    let a = lent::clear(block, scratch);
+    answer::tell(answer, a)
+}
+
+// The representative vertex of a node; block and scratch are only read.
+#[no_mangle]
+pub extern "C" fn fb_representative_vertex(
+    block: &[i64],
+    scratch: &[i64],
+    node: usize,
+    answer: &mut [usize],
+) -> usize
+    ensures { λ r. ⌜ Told answerNumbers (now (answer .entry)) (now (answer .exit)) r Unit (λ a. VertexRead (now (block .entry)) (now (scratch .entry)) node a) ⌝ }
+{
+    if answer.len() < 5 {
+        return 0;
+    }
+    let a = lent::representative_vertex(block, scratch, node);
+    answer::tell(answer, a)
+}
+
+// The growth of every side is written to a list of two words for each edge.
+#[no_mangle]
+pub extern "C" fn fb_read_table(
+    block: &[i64],
+    scratch: &[i64],
+    list: &mut [i64],
+    answer: &mut [usize],
+) -> usize
+    ensures { λ r. ⌜ Told answerNumbers (now (answer .entry)) (now (answer .exit)) r (now (list .exit) ≡ now (list .entry)) (λ a. TableRead (now (block .entry)) (now (scratch .entry)) (now (list .entry)) (now (list .exit)) a) ⌝ }
+{
+    if answer.len() < 5 {
+        return 0;
+    }
+    let a = lent::read_table(block, scratch, list);
+    answer::tell(answer, a)
+}
+
+// The full edges are written to the front of a list of one word for each edge; when done, the answer has their count behind its case.
+#[no_mangle]
+pub extern "C" fn fb_contacts(
+    block: &[i64],
+    scratch: &[i64],
+    list: &mut [i64],
+    answer: &mut [usize],
+) -> usize
+    ensures { λ r. ⌜ Told countedNumbers (now (answer .entry)) (now (answer .exit)) r (now (list .exit) ≡ now (list .entry)) (λ c. ContactsRead (now (block .entry)) (now (scratch .entry)) (now (list .entry)) (now (list .exit)) (c .answer) × ContactsCounted (now (block .entry)) (now (scratch .entry)) (now (list .entry)) (c .count)) ⌝ }
+{
+    if answer.len() < 5 {
+        return 0;
+    }
+    let c = lent::contacts(block, scratch, list);
+    answer::tell_counted(answer, c)
+}
