@@ -1,5 +1,5 @@
 // Links the archive of crate `run`: ARCHIVE names it, by default target/staticlib/librun.a of the repository. LIBRARY names
-// an archive with the calls on lent memory (library.sh); without it the library is neither compared nor measured.
+// the archive of crate `host`, the calls on lent memory; without it the library is neither compared nor measured.
 use std::{env, path::PathBuf};
 
 fn main() {

@@ -1,7 +1,7 @@
 # Builds the archive of crate `run` and the bench; sets `bench` to its program. Read by the other scripts; those that set
 # `with_library` get the calls on lent memory too.
 #   ARCHIVE         another archive with the call cardrun_lines (default: what `rt staticlib run` writes)
-#   LIBRARY         another archive with the calls on lent memory (default: library.sh makes one)
+#   LIBRARY         another archive with the calls on lent memory (default: what `rt staticlib host` writes)
 #   FB_SRC          the folder of the three Rust files (default: ../shared/docs/src beside the repository)
 #   CARGO_REGISTRY  where Debian's librust packages put their sources
 set -e
@@ -17,6 +17,14 @@ registry=${CARGO_REGISTRY:-/usr/share/cargo/registry}
 if [ ! -d "$registry/parking_lot-0.12.1" ] && [ -z "$CARGO_REGISTRY" ]; then
     echo "needs Debian's packages librust-{derivative,serde,serde-json,cfg-if,rand-xoshiro,parking-lot}-dev" >&2
 fi
-[ -z "$with_library" ] || [ -n "$LIBRARY" ] || . "$here/library.sh"
+if [ -n "$with_library" ]; then
+    if [ -z "$LIBRARY" ]; then
+        (cd "$root" && rt staticlib host) > "$root/target/differential.log" 2>&1 || { tail "$root/target/differential.log"; exit 1; }
+        LIBRARY=$root/target/staticlib/libhost.a
+    fi
+    export LIBRARY
+else
+    unset LIBRARY
+fi
 (cd "$here" && cargo build --quiet --release --offline --config 'source.crates-io.replace-with="debian"' --config "source.debian.directory=\"$registry\"")
 bench=$CARGO_TARGET_DIR/release/differential

@@ -1,4 +1,5 @@
-//! The calls on lent memory, at sizes that records do not have: kinds of answers and whole tables are compared, and calls are timed.
+//! The exported calls of crate `host` on lent memory, at sizes that records do not have: their answers, tables, contacts and representative
+//! vertices are compared with the Rust's, and they are timed.
 use crate::graphs::{self, Weights};
 use crate::random::Random;
 use crate::records::{fields, kind, Record};
@@ -6,26 +7,32 @@ use crate::speed::ROUNDS;
 use crate::streams;
 use std::time::Instant;
 
-/// The functions that library.sh exports. A slice goes over as its address and its length.
+/// include/fusion_blossom.h. A slice goes over as its address and its length.
 mod c {
     extern "C" {
-        pub fn library_open(b: *mut i64, bl: usize, t: *const i64, tl: usize, v: usize, e: usize, n: usize, l: usize, edges: *const i64, el: usize, virtuals: *const i64, vl: usize) -> usize;
-        pub fn library_defect(b: *mut i64, bl: usize, t: *mut i64, tl: usize, v: usize, x: usize) -> usize;
-        pub fn library_blossom(b: *mut i64, bl: usize, t: *mut i64, tl: usize, x: usize, circle: *const i64, cl: usize) -> usize;
-        pub fn library_state(b: *mut i64, bl: usize, t: *const i64, tl: usize, n: usize, x: usize) -> usize;
-        pub fn library_prepare(b: *mut i64, bl: usize, t: *mut i64, tl: usize, n: usize, d: usize) -> usize;
-        pub fn library_length(b: *mut i64, bl: usize, t: *mut i64, tl: usize, n: usize, d: usize, first: bool) -> usize;
-        pub fn library_grow(b: *mut i64, bl: usize, t: *mut i64, tl: usize, n: usize, length: i64) -> usize;
-        pub fn library_advance(b: *mut i64, bl: usize, t: *mut i64, tl: usize, n: usize) -> usize;
-        pub fn library_clear(b: *mut i64, bl: usize, t: *const i64, tl: usize) -> usize;
-        pub fn library_test(b: *const i64, bl: usize, t: *const i64, tl: usize) -> usize;
-        pub fn library_table(b: *const i64, bl: usize, t: *const i64, tl: usize, list: *mut i64, ll: usize) -> usize;
+        pub fn fb_open(
+            b: *mut i64, bl: usize, t: *const i64, tl: usize, edges: *const i64, el: usize, virtuals: *const i64, vl: usize, v: usize, e: usize, n: usize,
+            l: usize, a: *mut usize, al: usize,
+        ) -> usize;
+        pub fn fb_insert_defect(b: *mut i64, bl: usize, t: *mut i64, tl: usize, vertex: usize, state: usize, a: *mut usize, al: usize) -> usize;
+        pub fn fb_insert_blossom(b: *mut i64, bl: usize, t: *mut i64, tl: usize, circle: *const i64, cl: usize, state: usize, a: *mut usize, al: usize) -> usize;
+        pub fn fb_set_grow_state(b: *mut i64, bl: usize, t: *const i64, tl: usize, node: usize, state: usize, a: *mut usize, al: usize) -> usize;
+        pub fn fb_prepare(b: *mut i64, bl: usize, t: *mut i64, tl: usize, node: usize, direction: usize, a: *mut usize, al: usize) -> usize;
+        pub fn fb_max_update_length(b: *mut i64, bl: usize, t: *mut i64, tl: usize, node: usize, direction: usize, first: bool, a: *mut usize, al: usize) -> usize;
+        pub fn fb_grow(b: *mut i64, bl: usize, t: *mut i64, tl: usize, node: usize, length: i64, a: *mut usize, al: usize) -> usize;
+        pub fn fb_advance(b: *mut i64, bl: usize, t: *mut i64, tl: usize, node: usize, a: *mut usize, al: usize) -> usize;
+        pub fn fb_clear(b: *mut i64, bl: usize, t: *const i64, tl: usize, a: *mut usize, al: usize) -> usize;
+        pub fn fb_representative_vertex(b: *const i64, bl: usize, t: *const i64, tl: usize, node: usize, a: *mut usize, al: usize) -> usize;
+        pub fn fb_read_table(b: *const i64, bl: usize, t: *const i64, tl: usize, list: *mut i64, ll: usize, a: *mut usize, al: usize) -> usize;
+        pub fn fb_contacts(b: *const i64, bl: usize, t: *const i64, tl: usize, list: *mut i64, ll: usize, a: *mut usize, al: usize) -> usize;
     }
 }
 
+/// Memory that is lent, and the last answer.
 struct Lent {
     block: Vec<i64>,
     scratch: Vec<i64>,
+    answer: [usize; 5],
 }
 
 impl Lent {
@@ -35,57 +42,76 @@ impl Lent {
         let (v, e, n, l) = (s[0], s[1], s[2], s[3]);
         let edges: Vec<i64> = records.iter().filter(|r| kind(r) == 2).flat_map(fields).map(i64::from).collect();
         let virtuals: Vec<i64> = records.iter().filter(|r| kind(r) == 3).flat_map(fields).map(i64::from).collect();
-        let (mut block, scratch) = (vec![0; 16 + 4 * v + 11 * e + 7 * n + l], vec![0; 6 * e]);
-        let k = unsafe {
-            c::library_open(block.as_mut_ptr(), block.len(), scratch.as_ptr(), scratch.len(), v, e, n, l, edges.as_ptr(), edges.len(), virtuals.as_ptr(), virtuals.len())
+        let (mut block, scratch, mut answer) = (vec![0; 16 + 4 * v + 11 * e + 7 * n + l], vec![0; 6 * e], [0; 5]);
+        unsafe {
+            c::fb_open(
+                block.as_mut_ptr(), block.len(), scratch.as_ptr(), scratch.len(), edges.as_ptr(), edges.len(), virtuals.as_ptr(), virtuals.len(), v, e, n, l,
+                answer.as_mut_ptr(), 5,
+            )
         };
-        assert_eq!(k, 0, "the opening is refused");
-        Lent { block, scratch }
+        assert_eq!(answer[0], 7, "the opening is refused");
+        Lent { block, scratch, answer }
     }
 
-    /// The kind of the answer.
-    fn ask(&mut self, kind: u16, a: &[i32], circle: &[i64]) -> usize {
+    /// A call; its answer is left in `answer`.
+    fn ask(&mut self, kind: u16, f: &[i32], circle: &[i64]) -> usize {
         let (b, bl, t, tl) = (self.block.as_mut_ptr(), self.block.len(), self.scratch.as_mut_ptr(), self.scratch.len());
-        let x = |i: usize| a[i] as usize;
+        let (a, al) = (self.answer.as_mut_ptr(), 5);
+        let x = |i: usize| f[i] as usize;
         unsafe {
             match kind {
-                4 => c::library_defect(b, bl, t, tl, x(0), x(1)),
-                5 => c::library_blossom(b, bl, t, tl, x(0), circle.as_ptr(), circle.len()),
-                6 => c::library_state(b, bl, t, tl, x(0), x(1)),
-                7 => c::library_prepare(b, bl, t, tl, x(0), x(1)),
-                8 => c::library_length(b, bl, t, tl, x(0), x(1), a[2] == 1),
-                9 => c::library_grow(b, bl, t, tl, x(0), a[1] as i64),
-                11 => c::library_advance(b, bl, t, tl, x(0)),
-                _ => c::library_clear(b, bl, t, tl),
+                4 => c::fb_insert_defect(b, bl, t, tl, x(0), x(1), a, al),
+                5 => c::fb_insert_blossom(b, bl, t, tl, circle.as_ptr(), circle.len(), x(0), a, al),
+                6 => c::fb_set_grow_state(b, bl, t, tl, x(0), x(1), a, al),
+                7 => c::fb_prepare(b, bl, t, tl, x(0), x(1), a, al),
+                8 => c::fb_max_update_length(b, bl, t, tl, x(0), x(1), f[2] == 1, a, al),
+                9 => c::fb_grow(b, bl, t, tl, x(0), f[1] as i64, a, al),
+                11 => c::fb_advance(b, bl, t, tl, x(0), a, al),
+                _ => c::fb_clear(b, bl, t, tl, a, al),
             }
+        };
+        self.answer[0]
+    }
+
+    /// The words of the line that records would give.
+    fn line(&self) -> String {
+        let a = &self.answer;
+        match a[0] {
+            0 => format!("free {}{} {}", if a[1] == 1 { "-" } else { "" }, a[2], a[3]),
+            1 => format!("free -1 {}", a[1]),
+            2 => format!("conflict {} {} {} {}", a[1], a[2], a[3], a[4]),
+            3 => format!("virtual {} {} {} 0", a[1], a[2], a[3]),
+            4 => format!("expand {}", a[1]),
+            5 => format!("stop {}", a[1]),
+            6 => format!("stop {} {} {}", a[1], a[2], a[3]),
+            7 => "done".to_string(),
+            8 => format!("node {}", a[1]),
+            9 => format!("prepared {}", a[1]),
+            10 => format!("vertex {}", a[1]),
+            _ => format!("refused {}", a[1]),
         }
     }
 
-    /// The test of block and scratch by itself: 0 where both are good.
-    fn test(&self) -> usize {
-        unsafe { c::library_test(self.block.as_ptr(), self.block.len(), self.scratch.as_ptr(), self.scratch.len()) }
+    /// The lines of the growth table or of the contacts.
+    fn lists(&mut self, kind: u16, e: usize) -> Vec<String> {
+        let (b, bl, t, tl) = (self.block.as_ptr(), self.block.len(), self.scratch.as_ptr(), self.scratch.len());
+        let (a, al) = (self.answer.as_mut_ptr(), 5);
+        let mut list = vec![-1; if kind == 10 { 2 * e } else { e }];
+        unsafe { if kind == 10 { c::fb_read_table(b, bl, t, tl, list.as_mut_ptr(), list.len(), a, al) } else { c::fb_contacts(b, bl, t, tl, list.as_mut_ptr(), list.len(), a, al) } };
+        if self.answer[0] != 7 {
+            vec![self.line()]
+        } else if kind == 10 {
+            (0..e).map(|i| format!("edge {i} {} {}", list[2 * i], list[2 * i + 1])).collect()
+        } else {
+            list[..self.answer[1]].iter().map(|x| format!("contact {x}")).collect()
+        }
     }
 
-    fn table(&self, e: usize) -> Vec<i64> {
-        let mut list = vec![-1; 2 * e];
-        let k = unsafe { c::library_table(self.block.as_ptr(), self.block.len(), self.scratch.as_ptr(), self.scratch.len(), list.as_mut_ptr(), list.len()) };
-        assert_eq!(k, 8, "the table is refused");
-        list
-    }
-}
-
-fn code(line: &str) -> usize {
-    let w: Vec<_> = line.split(' ').skip(1).collect();
-    match (w[0], w.len()) {
-        ("free", _) => 1 + usize::from(w[1] == "-1"),
-        ("conflict", _) => 3,
-        ("virtual", _) => 4,
-        ("expand", _) => 5,
-        ("stop", n) => 6 + usize::from(n > 2),
-        ("node", _) => 9,
-        ("prepared", _) => 10,
-        ("refused", _) => 12,
-        _ => 8,
+    /// The representative vertex of a node, if there is the node. Block and scratch are tested before, and nothing is written.
+    fn representative(&mut self, n: usize) -> Option<usize> {
+        let (b, bl, t, tl) = (self.block.as_ptr(), self.block.len(), self.scratch.as_ptr(), self.scratch.len());
+        unsafe { c::fb_representative_vertex(b, bl, t, tl, n, self.answer.as_mut_ptr(), 5) };
+        (self.answer[0] == 10).then_some(self.answer[1])
     }
 }
 
@@ -93,42 +119,61 @@ fn circle(kind: u16, a: &[i32]) -> Vec<i64> {
     if kind == 5 { a[1..].iter().map(|&n| n as i64).collect() } else { vec![] }
 }
 
-/// One stream: the number of calls and tables, or the record at which port and Rust differ.
-fn agree(s: &streams::Stream) -> Result<(usize, usize), usize> {
+#[derive(Default)]
+struct Counts {
+    calls: usize,
+    lines: usize,
+    vertices: usize,
+}
+
+/// One stream: the first record at which port and Rust differ.
+fn agree(s: &streams::Stream, n: &mut Counts) -> Result<(), String> {
     let mut lent = Lent::open(&s.records);
     let e = fields(&s.records[0])[1] as usize;
     let text = String::from_utf8_lossy(&s.lines);
-    let mut lines = text.lines();
-    let (mut calls, mut tables) = (0, 0);
+    let mut rust = text.lines();
     for (i, rec) in s.records.iter().enumerate() {
         let (k, a) = (kind(rec), fields(rec));
         if s.said[i].outside {
-            break;
+            return Ok(());
         }
-        if k == 10 {
-            let rust: Vec<i64> = lines.by_ref().take(e).flat_map(|l| l.split(' ').skip(3).map(|x| x.parse().unwrap()).collect::<Vec<i64>>()).collect();
-            tables += 1;
-            if rust != lent.table(e) {
-                return Err(i);
-            }
-        } else if k == 12 {
-            let n = format!("{} ", i + 1);
-            while lines.clone().next().is_some_and(|l| l.starts_with(&n)) {
-                lines.next();
-            }
-        } else if k > 3 {
-            calls += 1;
-            if code(lines.next().unwrap()) != lent.ask(k, &a, &circle(k, &a)) {
-                return Err(i);
+        if k <= 3 {
+            continue;
+        }
+        n.calls += 1;
+        let port = if k == 10 || k == 12 {
+            lent.lists(k, e)
+        } else {
+            lent.ask(k, &a, &circle(k, &a));
+            vec![lent.line()]
+        };
+        for p in port {
+            n.lines += 1;
+            let p = format!("{} {p}", i + 1);
+            match rust.next() {
+                Some(r) if r == p => {}
+                r => return Err(format!("{p} | {}", r.unwrap_or("nothing"))),
             }
         }
     }
-    Ok((calls, tables))
+    if let Some(r) = rust.next() {
+        return Err(format!("nothing | {r}"));
+    }
+    for (m, &v) in s.representatives.iter().enumerate() {
+        n.vertices += 1;
+        if lent.representative(m) != Some(v) {
+            return Err(format!("representative vertex of {m}: {} | vertex {v}", lent.line()));
+        }
+    }
+    match lent.representative(s.representatives.len()) {
+        None => Ok(()),
+        Some(_) => Err("one node too many".to_string()),
+    }
 }
 
 /// Whole patches of distance 7 to 15, in several rounds.
 pub fn compare(runs: u64, seed: u64) -> bool {
-    let (mut calls, mut tables, mut different, mut largest) = (0, 0, 0, (0, 0));
+    let (mut n, mut streams, mut different, mut largest) = (Counts::default(), 0, 0, (0, 0));
     println!("{runs} streams from seed {seed}");
     for i in 0..runs {
         let one = seed.wrapping_mul(1_000_003).wrapping_add(i);
@@ -141,19 +186,15 @@ pub fn compare(runs: u64, seed: u64) -> bool {
         if g.v > 1024 || g.edges.len() > 4096 {
             continue;
         }
+        streams += 1;
         largest = largest.max((g.v, g.edges.len()));
-        match agree(&streams::large(one, &g)) {
-            Ok((c, t)) => {
-                calls += c;
-                tables += t;
-            }
-            Err(at) => {
-                println!("DIFFERENT, seed {one}, distance {d}, {rounds} rounds: record {}", at + 1);
-                different += 1;
-            }
+        if let Err(why) = agree(&streams::large(one, &g), &mut n) {
+            println!("DIFFERENT, seed {one}, distance {d}, {rounds} rounds: port | Rust: {why}");
+            different += 1;
         }
     }
-    println!("{calls} calls and {tables} tables compared, largest graph V {}, E {}\ndifferent: {different}", largest.0, largest.1);
+    println!("{streams} streams, {} calls, {} lines and {} representative vertices compared, largest graph V {}, E {}", n.calls, n.lines, n.vertices, largest.0, largest.1);
+    println!("different: {different}");
     different == 0
 }
 
@@ -173,7 +214,7 @@ macro_rules! rust_time {
     }};
 }
 
-/// Seconds for all calls, seconds for the test of block and scratch alone, as often, on the block that they leave, and the kinds of the answers.
+/// Seconds for all calls, seconds for as many readings of a representative vertex on the block that they leave, and the cases of the answers.
 fn port_time(records: &[Record], calls: &[(u16, Vec<i32>, Vec<i64>)]) -> (f64, f64, Vec<usize>) {
     let mut lent = Lent::open(records);
     let mut codes = vec![0; calls.len()];
@@ -184,7 +225,7 @@ fn port_time(records: &[Record], calls: &[(u16, Vec<i32>, Vec<i64>)]) -> (f64, f
     let all = t.elapsed().as_secs_f64();
     let t = Instant::now();
     for _ in calls {
-        assert!(lent.test() == 0);
+        lent.representative(0);
     }
     (all, t.elapsed().as_secs_f64(), codes)
 }
@@ -192,8 +233,9 @@ fn port_time(records: &[Record], calls: &[(u16, Vec<i32>, Vec<i64>)]) -> (f64, f
 /// Times the library's calls, each with the test of block and scratch, against the Rust's methods.
 pub fn speed() {
     println!("\n## Library calls on lent memory");
-    println!("\nDecoding runs again, without records and lines. Each call of the port tests block and scratch first, soundness included; the Rust has no such test. The test alone is timed on the block that the run leaves. Calls without the test are not exported and not measured.");
-    println!("\n| graph | words of the block | calls | port, ns a call | the test alone | Rust, ns a call | Rust without locks | port / Rust | port / Rust without locks |\n|---|---|---|---|---|---|---|---|---|");
+    println!("\nDecoding runs again, through the exported calls of crate `host`, without records and lines. Each call of the port tests block and scratch first, soundness included; the Rust has no such test.");
+    println!("What the test costs shows in the reading of a representative vertex, on the block that the run leaves: it tests, and then takes a few steps. Calls without the test are not exported, and not measured.");
+    println!("\n| graph | words of the block | calls | port, ns a call | port, a representative vertex | Rust, ns a call | Rust without locks | port / Rust | port / Rust without locks |\n|---|---|---|---|---|---|---|---|---|");
     let r = &mut Random::new(8);
     for (d, rounds, n, l) in [(7, 1, 32, 2_000), (11, 1, 64, 4_000), (15, 1, 64, 8_000), (7, 7, 64, 8_000), (11, 11, 128, 40_000), (15, 8, 128, 50_000)] {
         let g = graphs::large(r, d, rounds, false, Weights::Even);
@@ -202,7 +244,7 @@ pub fn speed() {
         let mut best = [f64::MAX; 4];
         for _ in 0..ROUNDS {
             let (all, test, codes) = port_time(&records, &calls);
-            assert!(!codes.contains(&12), "a call is refused");
+            assert!(!codes.contains(&11), "a call is refused");
             let times = [all, test, rust_time!(release, records, calls, &codes), rust_time!(unlocked, records, calls, &codes)];
             for (b, t) in best.iter_mut().zip(times) {
                 *b = b.min(t);

@@ -13,6 +13,8 @@ pub struct Stream {
     pub lines: Vec<u8>,
     /// the Rust stopped outside the domain, or a record is the last that is compared
     pub outside: bool,
+    /// the representative vertex of each node at the end
+    pub representatives: Vec<usize>,
 }
 
 pub const POLICIES: [&str; 6] = ["decoding", "any calls", "breathing", "nesting", "bad fields", "unprepared"];
@@ -267,7 +269,7 @@ pub fn stream(seed: u64) -> Stream {
         1..=6 => r.range(150, 600),
         _ => r.range(10, 150),
     };
-    let mut s = Stream { graph: g.kind, policy, records: vec![], said: vec![], lines: vec![], outside: false };
+    let mut s = Stream { graph: g.kind, policy, records: vec![], said: vec![], lines: vec![], outside: false, representatives: vec![] };
     let mut session = Session::new(false);
     for rec in head(r, &g) {
         s.said.push(session.feed(&rec));
@@ -301,6 +303,7 @@ pub fn stream(seed: u64) -> Stream {
         }
     }
     s.outside = s.said.iter().any(|x| x.outside);
+    s.representatives = session.representatives();
     s.lines = session.lines;
     s
 }
@@ -318,7 +321,7 @@ pub fn opening(g: &Graph, n: i32, l: i32) -> Vec<Record> {
 pub fn large(seed: u64, g: &Graph) -> Stream {
     let r = &mut Random::new(seed);
     let policy = r.pick(&[0, 1, BREATHING, 3, 5]);
-    let mut s = Stream { graph: g.kind, policy, records: vec![], said: vec![], lines: vec![], outside: false };
+    let mut s = Stream { graph: g.kind, policy, records: vec![], said: vec![], lines: vec![], outside: false, representatives: vec![] };
     let mut session = Session::new(false);
     session.limits = LIBRARY;
     let (n, l) = (r.range(20, 1024), if r.chance(80) { 65_536 } else { r.range(10_000, 65_536) });
@@ -342,6 +345,7 @@ pub fn large(seed: u64, g: &Graph) -> Stream {
         }
     }
     s.outside = s.said.iter().any(|x| x.outside);
+    s.representatives = session.representatives();
     s.lines = session.lines;
     s
 }

@@ -181,6 +181,9 @@ impl Card {
     fn contacts(&self) -> Answer {
         Contacts(self.growths().enumerate().filter(|(_, g)| g.0 + g.1 == g.2).map(|(e, _)| e).collect())
     }
+    pub fn representatives(&self) -> Vec<usize> {
+        self.nodes.iter().map(|p| p.get_representative_vertex()).collect()
+    }
     fn clear(&mut self) -> Answer {
         self.module.clear();
         self.interface.clear();

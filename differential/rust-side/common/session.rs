@@ -205,17 +205,22 @@ impl Session {
         self.fields = a;
     }
 
-    /// A call by its fields, for timing: the kind of its answer, in the order of the port's answers.
+    /// The representative vertex of every node.
+    pub fn representatives(&self) -> Vec<usize> {
+        self.card.as_ref().map_or(vec![], Card::representatives)
+    }
+
+    /// A call by its fields, for timing: the case of its answer, as crate `host` numbers them.
     pub fn ask(&mut self, kind: u16, a: &[i32]) -> usize {
         match self.card.as_mut().unwrap().straight(kind, a) {
-            Answer::Length(MaxUpdateLength::NonZeroGrow((l, _))) => 1 + usize::from(l == Weight::MAX),
-            Answer::Length(MaxUpdateLength::Conflicting(..)) => 3,
-            Answer::Length(MaxUpdateLength::TouchingVirtual(..)) => 4,
-            Answer::Length(MaxUpdateLength::BlossomNeedExpand(..)) => 5,
-            Answer::Length(MaxUpdateLength::VertexShrinkStop((_, p))) => 6 + usize::from(p.is_some()),
-            Answer::Node(_) => 9,
-            Answer::Prepared(_) => 10,
-            _ => 8,
+            Answer::Length(MaxUpdateLength::NonZeroGrow((l, _))) => usize::from(l == Weight::MAX),
+            Answer::Length(MaxUpdateLength::Conflicting(..)) => 2,
+            Answer::Length(MaxUpdateLength::TouchingVirtual(..)) => 3,
+            Answer::Length(MaxUpdateLength::BlossomNeedExpand(..)) => 4,
+            Answer::Length(MaxUpdateLength::VertexShrinkStop((_, p))) => 5 + usize::from(p.is_some()),
+            Answer::Node(_) => 8,
+            Answer::Prepared(_) => 9,
+            _ => 7,
         }
     }
 
