@@ -261,7 +261,7 @@ def main():
     os.makedirs(specs, exist_ok=True)
     os.makedirs(os.path.join(top, 'crates', 'trial', 'src'), exist_ok=True)
     open(os.path.join(top, 'crates', 'trial', 'src', 'lib.rt'), 'w').write('// Tests only.\n')
-    open(os.path.join(top, 'crates.txt'), 'a').write('trial: graph pass calls records\n')
+    open(os.path.join(top, 'crates.txt'), 'a').write('trial: graph memory pass calls records\n')
     open(os.path.join(specs, 'Lib.antt'), 'w').write('-- Tests.\n' + ''.join(f'pub mod {m}\n' for m in modules))
     for m, text in modules.items(): open(os.path.join(specs, m + '.antt'), 'w').write(text)
     run = subprocess.run(['rt', 'check', 'trial'], cwd=top, capture_output=True, text=True)
