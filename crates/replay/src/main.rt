@@ -1,5 +1,5 @@
 // Replays record streams. Standard input has frames: the bytes of records and of lines (4 bytes each, little-endian), then the records, then the
-// lines that they must give. Prints how many frames were replayed, and how many gave just those lines.
+// lines that they must give. Prints how many frames were replayed, and how many of them gave other lines.
 
 ghost use mathlib.Core.Path.{_≡_};
 ghost use mathlib.Core.Logic.{_≢_};
@@ -57,7 +57,7 @@ fn read(x: usize) -> usize
 
 // 1 where it gave other lines.
 fn differs(x: usize) -> usize
-    ensures { λ r. ⌜ (x ≡ 0 → r ≡ 0) × (r ≤ 1) ⌝ }
+    ensures { λ r. ⌜ (x ≡ 0 → r ≡ 0) × (r ≤ 1) × (x ≡ 2 → r ≡ 1) ⌝ }
 {
     if x == 2 { 1 } else { 0 }
 }

@@ -16,8 +16,9 @@ fn main() {
         println!("cargo:rerun-if-changed={}", p.display());
         out += &format!("{attr}\n#[path = {:?}]\npub mod {m};\n", p.display().to_string());
     };
-    let locks = if package == "unlocked" { "pointers_unlocked" } else { "pointers" };
-    add("pointers", &Path::new(&common).join(format!("{locks}.rs")), "#[macro_use]");
+    let lock = if package == "unlocked" { "lock_none" } else { "lock" };
+    add("lock", &Path::new(&common).join(format!("{lock}.rs")), "");
+    add("pointers", &Path::new(&common).join("pointers.rs"), "#[macro_use]");
     for m in ["visualize", "mwpm_solver", "weak_table"] {
         add(m, &Path::new(&common).join(format!("{m}.rs")), "");
     }

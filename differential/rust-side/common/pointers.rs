@@ -1,9 +1,8 @@
 //! Stand-in for fusion-blossom's src/pointers.rs (its safe variant), written from how the three files use it:
-//! Arc<parking_lot::RwLock<T>> with pointer identity as equality. A lock that is already taken in a conflicting way panics
-//! ("deadlock") instead of hanging: there is one thread.
+//! Arc<RwLock<T>> with pointer identity as equality. The lock is that of lock.rs, or, for timing, the one of lock_none.rs that is none.
 #![allow(dead_code)]
 use super::util::FastClearTimestamp;
-use parking_lot::{RwLock, RwLockReadGuard, RwLockWriteGuard};
+use super::lock::{rd, wr, RwLock, RwLockReadGuard, RwLockWriteGuard};
 use std::sync::{Arc, Weak};
 
 macro_rules! lock_write {
@@ -33,13 +32,6 @@ pub trait FastClear {
             "bug detected: not dynamically cleared"
         );
     }
-}
-
-fn rd<T>(l: &RwLock<T>) -> RwLockReadGuard<'_, T> {
-    l.try_read_recursive().unwrap_or_else(|| panic!("deadlock (read)"))
-}
-fn wr<T>(l: &RwLock<T>) -> RwLockWriteGuard<'_, T> {
-    l.try_write().unwrap_or_else(|| panic!("deadlock (write)"))
 }
 
 macro_rules! pair {

@@ -8,15 +8,9 @@ extern crate serde;
 #[macro_use]
 extern crate serde_json;
 
-// The sources print before one unreachable! and warn about growth by 0.
-#[allow(unused_macros)]
-macro_rules! println {
-    ($($t:tt)*) => {{ let _ = format!($($t)*); }};
-}
-#[allow(unused_macros)]
-macro_rules! eprintln {
-    ($($t:tt)*) => {{ let _ = format!($($t)*); }};
-}
+#[macro_use]
+#[path = "../../common/quiet.rs"]
+mod quiet;
 #[allow(unused_macros)]
 macro_rules! debug_assert {
     ($c:expr, $m:literal $(, $($a:tt)*)?) => { if !($c) { crate::failed($m) } };
