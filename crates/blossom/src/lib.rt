@@ -18,7 +18,6 @@ ghost use Rattle.calls.specs.Refuse.{badNode, inBlossom, entriesBut, storeShort
 ghost use Rattle.calls.specs.Insert.{noCircle, blossomRefusal, prepareStep, joinSide, joinStep, joinCircle, insertBlossom};
 ghost use Rattle.blossom.specs.Circle.{Joinable, JoinedIn, joinedIn};
 ghost use Rattle.calls.specs.Reply.{Usable, RepliesInsert};
-use calls::Answer;
 use calls::refuse;
 use graph::insert;
 use graph::lists;
@@ -26,6 +25,7 @@ use graph::node;
 use graph::rows;
 use graph::side;
 use graph::words;
+use length::Answer;
 use pass::prepare;
 use pass::scratch;
 

@@ -7,13 +7,13 @@ use lib.Dec.{leb, ltb, eqb}
 use Rattle.graph.specs.Basic.{if_then_else_, only, below}
 use Rattle.graph.specs.State.{State, NodeClass, defectVertex, blossom, edgeCount, growthAt, weightAt, classOf, growStateOf, withGrowState, stay, growing, shrinking, down, up}
 use Rattle.graph.specs.Open.{cleared}
-use Rattle.calls.specs.declared.Answer.{Answer}
-use Rattle.calls.specs.declared.Answer.the-variants.{NonZeroGrow, Unlimited, Conflicting, TouchingVirtual, BlossomNeedExpand, VertexShrinkStop, VertexShrinkStopPeer, Done, Node, Prepared, Refused, Vertex}
-use Rattle.calls.specs.Answer.{Reply, says}
+use Rattle.length.specs.declared.Answer.{Answer}
+use Rattle.length.specs.declared.Answer.the-variants.{NonZeroGrow, Unlimited, Conflicting, TouchingVirtual, BlossomNeedExpand, VertexShrinkStop, VertexShrinkStopPeer, Done, Node, Prepared, Refused, Vertex}
+use Rattle.length.specs.Answer.{Reply, says}
 use Rattle.calls.specs.Refuse.{badNode, nodeRefusal, storeShort, unless}
 use Rattle.pass.specs.Prepare.{prepareNode}
-use Rattle.calls.specs.Scan.{scan}
-use Rattle.calls.specs.Growth.{growCheck, growApply}
+use Rattle.length.specs.Scan.{scan}
+use Rattle.growth.specs.Growth.{growCheck, growApply}
 use Rattle.calls.specs.Insert.{insertDefect, insertBlossom}
 
 -- ---- set state

@@ -6,8 +6,8 @@ use mathlib.Core.List.{List, [], _∷_, _++_, map}
 use lib.IntN.{pos, negsuc}
 use Rattle.graph.specs.State.{State}
 use Rattle.graph.specs.Open.{Edge, opened}
-use Rattle.calls.specs.declared.Answer.{Answer}
-use Rattle.calls.specs.declared.Answer.the-variants.{NonZeroGrow, Conflicting, TouchingVirtual, VertexShrinkStop, Done, Node, Refused}
+use Rattle.length.specs.declared.Answer.{Answer}
+use Rattle.length.specs.declared.Answer.the-variants.{NonZeroGrow, Conflicting, TouchingVirtual, VertexShrinkStop, Done, Node, Refused}
 use Rattle.calls.specs.Calls.{Call, InsertDefect, MaxUpdateLength, Grow, ReadTable, Outcome, answered, growths, respond}
 use Rattle.calls.specs.Opens.{everything}
 

@@ -6,9 +6,9 @@ use lib.Dec.{leb, ltb, eqb}
 use lib.ListN.{length, getD}
 use Rattle.graph.specs.Basic.{if_then_else_, fold, any, distinct}
 use Rattle.graph.specs.State.{State, NodeClass, defectVertex, blossom, vertexCount, nodeCount, holderAt, sidesAt, virtualAt, defectAt, vertexHolderAt, boundaryOf, withHolder, withDefect, withGrowState, withParent, withNode, heldSide, heldVertex, stay, shrinking, down}
-use Rattle.calls.specs.declared.Answer.{Answer}
-use Rattle.calls.specs.declared.Answer.the-variants.{Node}
-use Rattle.calls.specs.Answer.{Reply}
+use Rattle.length.specs.declared.Answer.{Answer}
+use Rattle.length.specs.declared.Answer.the-variants.{Node}
+use Rattle.length.specs.Answer.{Reply}
 use Rattle.calls.specs.Refuse.{badNode, inBlossom, storeShort, unless}
 use Rattle.pass.specs.Prepare.{prepareNode}
 

@@ -7,9 +7,9 @@ use lib.ListN.{length}
 use Rattle.graph.specs.Basic.{if_then_else_, member, sumBelow}
 use Rattle.graph.specs.State.{State, vertexCount, edgeCount, sideCount, nodeCount, parentOf}
 use Rattle.graph.specs.Sound.{entriesOf}
-use Rattle.calls.specs.declared.Answer.{Answer}
-use Rattle.calls.specs.declared.Answer.the-variants.{Refused}
-use Rattle.calls.specs.Answer.{Reply, says}
+use Rattle.length.specs.declared.Answer.{Answer}
+use Rattle.length.specs.declared.Answer.the-variants.{Refused}
+use Rattle.length.specs.Answer.{Reply, says}
 
 -- n is no node
 unfoldable pub badNode : State → ℕ → Bool

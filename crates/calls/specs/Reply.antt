@@ -13,9 +13,9 @@ use Rattle.graph.specs.Layout.{stateOf}
 use Rattle.graph.specs.Form.{Formed, Becomes}
 use Rattle.pass.specs.Scratch.{zeroScratch}
 use Rattle.pass.specs.Ready.{Preparable}
-use Rattle.calls.specs.Readable.{Readable}
-use Rattle.calls.specs.declared.Answer.{Answer}
-use Rattle.calls.specs.Answer.{Reply}
+use Rattle.graph.specs.Readable.{Readable}
+use Rattle.length.specs.declared.Answer.{Answer}
+use Rattle.length.specs.Answer.{Reply}
 
 -- a block in form whose state is sound, and a scratch of 3 words for each side that is all zero
 pub record Usable (b t : List ℤ) : Type 0 where

@@ -2,13 +2,9 @@
 pub mod Accepted
 pub mod Advance
 pub mod Defect
-pub mod Growth
-pub mod Length
-pub mod Moving
 pub mod Read
 pub mod Readable
 pub mod Refuse
 pub mod Replies
-pub mod Scanning
 pub mod Shapes
 pub mod Sounds

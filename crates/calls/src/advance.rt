@@ -9,11 +9,11 @@ ghost use Rattle.graph.specs.Layout.{stateOf};
 ghost use Rattle.graph.specs.Form.{Formed};
 ghost use Rattle.calls.specs.Reply.{Usable, Replies};
 ghost use Rattle.calls.specs.Calls.{maxUpdateLength, toward, advanceBy, advance};
-use crate::Answer;
 use crate::core;
 use crate::refuse;
 use graph::node;
 use graph::rows;
+use length::Answer;
 
 // The direction of a node in grow state x.
 fn direction(x: usize) -> usize

@@ -10,15 +10,14 @@ ghost use Rattle.graph.specs.Layout.{stateOf};
 ghost use Rattle.graph.specs.Form.{Formed};
 ghost use Rattle.graph.specs.Opening.{Cleared};
 ghost use Rattle.calls.specs.Reply.{Usable, Steady, along, Replies};
-ghost use Rattle.calls.specs.Moving.{Prepared};
+ghost use Rattle.growth.specs.Moving.{Prepared};
 ghost use Rattle.calls.specs.Calls.{setGrowState, prepareDualNodeGrowth, maxUpdateLength, growPrepared, growToward, growDualNode, clear};
-use crate::Answer;
-use crate::growth;
 use crate::refuse;
-use crate::scan;
 use graph::clear;
 use graph::node;
 use graph::words;
+use length::Answer;
+use length::scan;
 use pass::prepare;
 
 // Node n gets the grow state x.

@@ -13,7 +13,6 @@ ghost use Rattle.graph.specs.Form.{Formed, Becomes};
 ghost use Rattle.pass.specs.Scratch.{zeroScratch, Holding};
 ghost use Rattle.calls.specs.Insert.{occupied, defectRefusal, holdStep, insertDefect};
 ghost use Rattle.calls.specs.Reply.{Usable, RepliesInsert};
-use crate::Answer;
 use crate::refuse;
 use graph::insert;
 use graph::rows;
@@ -21,6 +20,7 @@ use graph::side;
 use graph::sides;
 use graph::vertex;
 use graph::words;
+use length::Answer;
 use pass::scratch;
 
 // Whether some side at vertex v is held.

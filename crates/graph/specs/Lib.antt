@@ -8,6 +8,7 @@ pub mod Rows
 pub mod Layout
 pub mod Node
 pub mod Form
+pub mod Readable
 pub mod Replace
 pub mod Opening
 pub mod Insert

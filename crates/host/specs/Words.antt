@@ -8,9 +8,9 @@ use lib.Signed.{nonNeg}
 use lib.Dec.{eqb}
 use lib.ListN.{length, drop, getD}
 use Rattle.graph.specs.Basic.{if_then_else_}
-use Rattle.calls.specs.declared.Answer.{Answer}
-use Rattle.calls.specs.declared.Answer.the-variants.{NonZeroGrow, Unlimited, Conflicting, TouchingVirtual, BlossomNeedExpand, VertexShrinkStop, VertexShrinkStopPeer, Done, Node, Prepared, Vertex, Refused}
-use Rattle.calls.specs.Answer.{flag}
+use Rattle.length.specs.declared.Answer.{Answer}
+use Rattle.length.specs.declared.Answer.the-variants.{NonZeroGrow, Unlimited, Conflicting, TouchingVirtual, BlossomNeedExpand, VertexShrinkStop, VertexShrinkStopPeer, Done, Node, Prepared, Vertex, Refused}
+use Rattle.length.specs.Answer.{flag}
 use Rattle.lent.specs.declared.Counted.{Counted}
 
 -- the number of its case, and its values; a length is told as its sign, 1 below 0 and 0 else, and its magnitude

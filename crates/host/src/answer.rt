@@ -5,11 +5,11 @@ ghost use mathlib.Core.Bool.{not};
 ghost use Prim.Native.Nat.{_≤_};
 ghost use lib.Signed.{nonNeg};
 ghost use lib.ListN.{length};
-ghost use Rattle.calls.specs.Answer.{flag};
+ghost use Rattle.length.specs.Answer.{flag};
 ghost use Rattle.host.specs.Words.{answerNumbers, openAnswer, openNumbers, countedNumbers, Tells};
-ghost use Rattle.calls.specs.declared.Answer.the-variants.{NonZeroGrow};
-use calls::Answer;
+ghost use Rattle.length.specs.declared.Answer.the-variants.{NonZeroGrow};
 use graph::words;
+use length::Answer;
 use lent::Counted;
 
 // The numbers are written over the front of the list; how many they are.

@@ -12,9 +12,9 @@ use Rattle.graph.specs.Word.{toNat}
 use Rattle.graph.specs.Layout.{stateOf, memoryRefusal, listRefusal}
 use Rattle.graph.specs.Form.{Formed}
 use Rattle.pass.specs.Scratch.{zeroScratch}
-use Rattle.calls.specs.declared.Answer.{Answer}
-use Rattle.calls.specs.declared.Answer.the-variants.{Done}
-use Rattle.calls.specs.Answer.{Reply, says}
+use Rattle.length.specs.declared.Answer.{Answer}
+use Rattle.length.specs.declared.Answer.the-variants.{Done}
+use Rattle.length.specs.Answer.{Reply, says}
 use Rattle.calls.specs.Refuse.{nodeRefusal, storeShort, unless}
 use Rattle.calls.specs.Reply.{placed}
 use Rattle.calls.specs.Insert.{defectRefusal, blossomRefusal, insertDefect, insertBlossom}

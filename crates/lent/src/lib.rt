@@ -5,7 +5,6 @@ ghost use mathlib.Core.Path.{_≡_};
 ghost use lib.ListN.{length};
 ghost use Rattle.pass.specs.Scratch.{zeroScratch};
 ghost use Rattle.lent.specs.Called.{DefectCalled, BlossomCalled, StateCalled, PrepareCalled, LengthCalled, GrowCalled, AdvanceCalled, ClearCalled, VertexRead, TableRead, ContactsRead, ContactsCounted};
-use calls::Answer;
 use calls::advance;
 use calls::core;
 use calls::defect;
@@ -13,6 +12,7 @@ use calls::read;
 use calls::refuse;
 use graph::rows;
 use graph::words;
+use length::Answer;
 use pass::scratch;
 
 // Every word of the scratch is set to zero.

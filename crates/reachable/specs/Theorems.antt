@@ -11,7 +11,7 @@ use Rattle.graph.specs.Open.{Edge, opened, openRefusal}
 use Rattle.graph.specs.Sound.{entries, sound}
 use Rattle.graph.specs.laws.Shape.{Shape, sound-entries}
 use Rattle.pass.specs.Prepare.{prepareNode}
-use Rattle.calls.specs.declared.Answer.the-variants.{Refused}
+use Rattle.length.specs.declared.Answer.the-variants.{Refused}
 use Rattle.calls.specs.Calls.{Call, maxUpdateLength, advance}
 use Rattle.reachable.specs.Reachable.{after, Reachable}
 use Rattle.reachable.specs.Passes.{Ends}

@@ -7,8 +7,8 @@ use lib.ListN.{length}
 use Rattle.graph.specs.Basic.{if_then_else_}
 use Rattle.graph.specs.State.{State}
 use Rattle.graph.specs.Open.{Edge, opened, openRefusal}
-use Rattle.calls.specs.declared.Answer.{Answer}
-use Rattle.calls.specs.declared.Answer.the-variants.{Refused}
+use Rattle.length.specs.declared.Answer.{Answer}
+use Rattle.length.specs.declared.Answer.the-variants.{Refused}
 use Rattle.calls.specs.Calls.{Call, Outcome, answered, Response, respond}
 use Rattle.records.specs.Record.{Record, sizes, anEdge, aVirtual, ask, illFormed, Next, nothing, next, nextRecord}
 use Rattle.records.specs.Lines.{linesFor, joined, fitting, over}

@@ -4,15 +4,15 @@ ghost use mathlib.Core.Path.{_≡_};
 ghost use mathlib.Core.List.{[], _∷_};
 ghost use Prim.Native.Nat.{_≤_};
 ghost use lib.ListN.{length};
-ghost use Rattle.calls.specs.Answer.{flag};
-ghost use Rattle.calls.specs.declared.Answer.the-variants.{NonZeroGrow};
+ghost use Rattle.length.specs.Answer.{flag};
+ghost use Rattle.length.specs.declared.Answer.the-variants.{NonZeroGrow};
 ghost use Rattle.records.specs.Lines.{line, wordsOf};
 ghost use Rattle.records.specs.Write.{Told};
 use crate::lines;
 use crate::lines::Out;
 use crate::signed_text;
 use crate::text;
-use calls::Answer;
+use length::Answer;
 
 // 1 or 0.
 fn flag(e: bool) -> usize

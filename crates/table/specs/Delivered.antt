@@ -9,9 +9,9 @@ use lib.IntN.{ℤ, pos}
 use Rattle.graph.specs.Basic.{if_then_else_}
 use Rattle.graph.specs.Open.{Edge, opened}
 use Rattle.graph.specs.Layout.{stateOf, sized, blockSound, memoryRefusal}
-use Rattle.calls.specs.declared.Answer.{Answer}
-use Rattle.calls.specs.declared.Answer.the-variants.{Done, Refused}
-use Rattle.calls.specs.Answer.{Reply}
+use Rattle.length.specs.declared.Answer.{Answer}
+use Rattle.length.specs.declared.Answer.the-variants.{Done, Refused}
+use Rattle.length.specs.Answer.{Reply}
 use Rattle.lent.specs.Called.{lentReply, TableRead, ContactsRead}
 use Rattle.reachable.specs.Reachable.{after}
 use Rattle.distance.specs.Table.{tableFromDistances}

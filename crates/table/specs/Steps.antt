@@ -13,7 +13,7 @@ use Rattle.graph.specs.Word.{toNat}
 use Rattle.graph.specs.Layout.{scratchLength}
 use Rattle.graph.specs.Open.{Edge, opened}
 use Rattle.graph.specs.Opening.{edgesFrom, virtualsFrom, OpenCalled}
-use Rattle.calls.specs.declared.Answer.{Answer}
+use Rattle.length.specs.declared.Answer.{Answer}
 use Rattle.calls.specs.Calls.{Call, InsertDefect, InsertBlossom, SetGrowState, Prepare, MaxUpdateLength, Grow, ReadTable, Advance, Contacts, RepresentativeVertex, Clear}
 use Rattle.lent.specs.Called.{DefectCalled, BlossomCalled, StateCalled, PrepareCalled, LengthCalled, GrowCalled, AdvanceCalled, ClearCalled, VertexRead, TableRead, ContactsRead}
 use Rattle.table.specs.History.{History, historyAfter, noBlossoms}

@@ -8,7 +8,7 @@ use Rattle.graph.specs.Basic.{any}
 use Rattle.graph.specs.Word.{toNat}
 use Rattle.graph.specs.Layout.{stateOf}
 use Rattle.graph.specs.laws.Members.{any-here, any-on, any-end}
-use Rattle.calls.specs.laws.Scanning.{word-entry}
+use Rattle.graph.specs.laws.Number.{word-entry}
 use Rattle.calls.specs.Refuse.{inBlossom}
 use Rattle.blossom.specs.laws.Circle.{all-nodes, circle-member}
 use Rattle.blossom.proofs.any_inner.Statement.{statement}

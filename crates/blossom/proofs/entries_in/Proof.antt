@@ -8,7 +8,7 @@ use Rattle.graph.specs.State.{nodeCount}
 use Rattle.graph.specs.Word.{toNat}
 use Rattle.graph.specs.Layout.{stateOf}
 use Rattle.calls.specs.Refuse.{entriesBut}
-use Rattle.calls.specs.laws.Scanning.{word-entry}
+use Rattle.graph.specs.laws.Number.{word-entry}
 use Rattle.blossom.specs.laws.Circle.{all-nodes, circle-member, entries-more, entries-end, entries-small, formed-entries}
 use Rattle.blossom.proofs.entries_in.Statement.{statement}
 use Rattle.blossom.proofs.entries_in.Tie as tie

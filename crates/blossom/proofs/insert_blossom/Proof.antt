@@ -7,7 +7,7 @@ use Rattle.graph.specs.State.{vertexCount}
 use Rattle.graph.specs.Word.{toNat, wordAt}
 use Rattle.graph.specs.Layout.{stateOf}
 use Rattle.blossom.specs.Circle.{Joinable}
-use Rattle.calls.specs.laws.Scanning.{word-entry}
+use Rattle.graph.specs.laws.Number.{word-entry}
 use Rattle.blossom.specs.laws.Blossom.{joined-read, blossom-refused, blossom-joinable, blossom-state-small, blossom-some, blossom-first, blossom-room, blossom-done, blossom-wiped}
 use borrow.Author.Needs.{needs}
 use Rattle.blossom.proofs.insert_blossom.Statement.{statement}

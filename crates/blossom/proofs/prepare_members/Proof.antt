@@ -5,7 +5,7 @@ use mathlib.Core.Path.{ap, sym, _∙_}
 use mathlib.Core.List.{map}
 use lib.ListN.{length, length-map}
 use Rattle.graph.specs.Word.{toNat}
-use Rattle.calls.specs.laws.Scanning.{word-entry}
+use Rattle.graph.specs.laws.Number.{word-entry}
 use Rattle.blossom.specs.laws.Blossom.{Preparing, preparing-none, preparing-ready, preparing-able, preparing-more, preparing-all}
 use Rattle.blossom.proofs.prepare_members.Statement.{statement}
 use Rattle.blossom.proofs.prepare_members.Tie as tie

@@ -5,7 +5,7 @@ use mathlib.Core.Path.{_≡_, refl, _∙_}
 use mathlib.Core.List.{map}
 use lib.ListN.{length, length-map, length-set}
 use Rattle.graph.specs.Word.{toNat}
-use Rattle.calls.specs.laws.Scanning.{word-entry, word-below}
+use Rattle.graph.specs.laws.Number.{word-entry, word-below}
 use Rattle.blossom.specs.laws.Circle.{Met, met-none, met-more, met-twice, met-all}
 use Rattle.blossom.proofs.repeats.Statement.{statement}
 use Rattle.blossom.proofs.repeats.Tie as tie

@@ -28,8 +28,8 @@ use Rattle.pass.specs.Ready.{Ready, Shrinkable, Preparable, AfterPreparation}
 use Rattle.pass.specs.laws.Scratch.{holding-zero, zero-holding, hold-first, first-numbers, wipe-first}
 use Rattle.pass.specs.laws.Passes.{Passed}
 use Rattle.pass.specs.laws.Prepare.{prepare-passed}
-use Rattle.calls.specs.declared.Answer.the-variants.{Node, Refused}
-use Rattle.calls.specs.Answer.{says}
+use Rattle.length.specs.declared.Answer.the-variants.{Node, Refused}
+use Rattle.length.specs.Answer.{says}
 use Rattle.calls.specs.Refuse.{entriesUnless, entriesBut, unless}
 use Rattle.calls.specs.Insert.{Joining, blossomRefusal, prepareStep, joinSide, seated, joinStep, joinCircle, blossomPut, insertBlossom}
 use Rattle.blossom.specs.Circle.{Joinable, JoinedIn, joinedIn}

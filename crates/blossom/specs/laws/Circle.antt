@@ -29,9 +29,10 @@ use Rattle.calls.specs.Refuse.{badNode, inBlossom, entriesUnless, entriesBut, s
 use Rattle.calls.specs.Insert.{noCircle, blossomRefusal}
 use Rattle.blossom.specs.Circle.{Joinable}
 use Rattle.calls.specs.Reply.{Usable}
-use Rattle.calls.specs.laws.Accepted.{BlossomAccepted, none-member, store-room, entries-named, entries-none}
+use Rattle.calls.specs.laws.Accepted.{BlossomAccepted, store-room, entries-named, entries-none}
+use Rattle.graph.specs.laws.Members.{none-member}
 use Rattle.calls.specs.laws.Refuse.{laid-store}
-use Rattle.calls.specs.laws.Scanning.{word-entry}
+use Rattle.graph.specs.laws.Number.{word-entry}
 
 -- ---- its members are nodes
 

@@ -1,46 +1,29 @@
 -- What an accepted call has shown: each refusal that is not given, as a fact.
-use Prim.Native.Nat.{ℕ, zero, suc, _+_, _-_, _*_, _%_, _≤_, _<_}
+use Prim.Native.Nat.{ℕ, _+_, _*_, _%_, _≤_, _<_}
 use native.Mathlib.Omega.{arith}
-use native.Mathlib.Decide.{ℕ-discrete as decEq}
-use mathlib.Core.Path.{_≡_, refl, sym, ap, _∙_}
+use mathlib.Core.Path.{_≡_, refl, ap, _∙_}
 use mathlib.Core.Logic.{_≢_}
-use mathlib.Core.Bool.{Bool, true, false, _&&_, _||_, not}
-use mathlib.Core.List.{List, [], _∷_, _++_}
+use mathlib.Core.Bool.{Bool, true, false, _||_, not}
+use mathlib.Core.List.{List, [], _∷_}
 use lib.Dec.{eqb, leb, ltb}
 use lib.ListN.{length}
-use borrow.Author.Tests.{eqb-true, eqb-false, eq-eqb, ne-eqb, ltb-true, ltb-false, leb-true, leb-false, not-true, not-false}
-use Rattle.graph.specs.Basic.{if_then_else_, any, member, distinct, sumBelow}
-use Rattle.graph.specs.State.{State, Overgrown, opposite, vertexCount, sideCount, nodeCount, growthAt, holderAt, sidesAt, virtualAt, defectAt, vertexHolderAt, parentOf, dualOf, boundaryOf, overgrownOf, grownOver, weightOver, up, shrinking}
-use Rattle.graph.specs.Open.{dualLimit, growthLimit}
+use borrow.Author.Tests.{eqb-true, eqb-false, ne-eqb, ltb-false, leb-false, not-false}
+use Rattle.graph.specs.Basic.{any, member, distinct, sumBelow}
+use Rattle.graph.specs.State.{State, vertexCount, sideCount, nodeCount, holderAt, sidesAt, virtualAt, defectAt, vertexHolderAt, parentOf, shrinking}
 use Rattle.graph.specs.Sound.{entriesOf, entries}
+use Rattle.graph.specs.laws.State.{passed}
 use Rattle.graph.specs.laws.Sums.{sum-same, sum-apart}
-use Rattle.graph.specs.laws.Members.{by-test, clash, or-cases, or-left, or-right, or-neither-left, or-neither-right, member-head, member-tail, member-cons, member-nil, distinct-head, distinct-tail}
+use Rattle.graph.specs.laws.Members.{by-test, clash, or-neither-left, or-neither-right, member-head, none-member}
 use Rattle.pass.specs.laws.Passes.{Passed}
-use Rattle.calls.specs.declared.Answer.the-variants.{Refused}
-use Rattle.calls.specs.Answer.{Reply, says}
+use Rattle.length.specs.declared.Answer.the-variants.{Refused}
+use Rattle.length.specs.Answer.{Reply, says}
 use Rattle.calls.specs.Refuse.{badNode, inBlossom, entriesUnless, entriesBut, storeShort, nodeRefusal, unless}
-use Rattle.calls.specs.Growth.{topIs, passesWeight, passesLimit, fallsShort, growCheck}
 use Rattle.calls.specs.Insert.{occupied, defectRefusal, noCircle, blossomRefusal}
-
--- a refusal that is not given
-pub passed : (t : Bool) (k a : ℕ) → (if t then suc k else a) ≡ 0 → (t ≡ false) × (a ≡ 0)
-passed true k a h = absurd (omega arith)
-passed false k a h = (refl, h)
 
 -- what holds of the refusal and of the accepted reply holds of the reply
 pub unless-cases : (P : Reply → Type 0) (k : ℕ) (c : State) (r : Reply) → (k ≢ 0 → P (says (Refused k) c)) → (k ≡ 0 → P r) → P (unless k c r)
 unfolding unless
 unless-cases P k c r bad good = by-test (eqb k 0) (λ e. rw e (good (eqb-true k 0 e))) (λ e. rw e (bad (eqb-false k 0 e)))
-
--- ---- tests over lists that fail
-
-pub any-none : {A : Type 0} (p : A → Bool) (x : A) (xs : List A) → any p (x ∷ xs) ≡ false → (p x ≡ false) × (any p xs ≡ false)
-unfolding any
-any-none p x xs h = (or-neither-left (p x) (any p xs) h, or-neither-right (p x) (any p xs) h)
-
-pub none-member : (p : ℕ → Bool) (l : List ℕ) (x : ℕ) → any p l ≡ false → member x l ≡ true → p x ≡ false
-none-member p [] x h m = member-nil x m
-none-member p (y ∷ ys) x h m = member-cons x y ys m (λ e. rw e (any-none p y ys h .0)) (λ r. none-member p ys x (any-none p y ys h .1) r)
 
 -- ---- a call on a node
 
@@ -183,58 +166,4 @@ blossom-accepted c x circle h =
       once = not-false _ (or-neither-right (a || b) d (p₃ .0));
       count = leb-false _ _ (p₄ .0);
       room = p₅ .0;
-    }
-
--- ---- growth
-
--- the top amount, if any, does not pass the test
-abbrev pub TopNot : (ℕ → Bool) → List Overgrown → Type 0
-TopNot p o = topIs p o ≡ false
-
-pub record GrowAccepted (c : State) (n l : ℕ) : Type 0 where
-  pub within : (s : ℕ) → member s (boundaryOf c n) ≡ true → holderAt c (opposite s) ≢ n + 1 → grownOver c s + l ≤ weightOver c s
-  pub dual : dualOf c n + l ≤ dualLimit
-  pub top : TopNot (λ a. ltb dualLimit (a + l)) (overgrownOf c n)
-  pub growth : (s : ℕ) → member s (boundaryOf c n) ≡ true → growthAt c s + l ≤ growthLimit
-
--- one of two tests that fail together
-not-both : (a b : Bool) → a && b ≡ false → a ≡ true → b ≡ false
-not-both true b h e = h
-not-both false b h e = cc
-
-pub grow-accepted : (c : State) (n d l : ℕ) → eqb d up ≡ true → growCheck c n d l ≡ 0 → GrowAccepted c n l
-unfolding growCheck passesLimit passesWeight
-grow-accepted c n d l u h =
-    let h₀ : _≡_ {A = ℕ} (if any (passesWeight c n l) (boundaryOf c n) then 10 else if passesLimit c n l then 12 else 0) 0 = rw u at h in
-    let p₁ = passed (any (passesWeight c n l) (boundaryOf c n)) 9 _ h₀ in
-    let p₂ = passed (passesLimit c n l) 11 _ (p₁ .1) in
-    let a = ltb dualLimit (dualOf c n + l) in
-    let b = topIs (λ a. ltb dualLimit (a + l)) (overgrownOf c n) in
-    let e = any (λ s. ltb growthLimit (growthAt c s + l)) (boundaryOf c n) in
-    let q = or-neither-left (a || b) e (p₂ .0) in
-    record {
-      within = λ s m ne. ltb-false _ _ (not-both (not (eqb (holderAt c (opposite s)) (n + 1))) (ltb (weightOver c s) (grownOver c s + l)) (none-member (passesWeight c n l) (boundaryOf c n) s (p₁ .0) m) (rw (ne-eqb _ _ ne)));
-      dual = ltb-false _ _ (or-neither-left a b q);
-      top = or-neither-right a b q;
-      growth = λ s m. ltb-false _ _ (none-member (λ s. ltb growthLimit (growthAt c s + l)) (boundaryOf c n) s (or-neither-right (a || b) e (p₂ .0)) m);
-    }
-
-pub record ShrinkAccepted (c : State) (n l : ℕ) : Type 0 where
-  pub dual : l ≤ dualOf c n
-  pub top : TopNot (λ a. ltb a l) (overgrownOf c n)
-  pub growth : (s : ℕ) → member s (boundaryOf c n) ≡ true → l ≤ growthAt c s
-
-pub shrink-accepted : (c : State) (n d l : ℕ) → eqb d up ≡ false → growCheck c n d l ≡ 0 → ShrinkAccepted c n l
-unfolding growCheck fallsShort
-shrink-accepted c n d l u h =
-    let h₀ : _≡_ {A = ℕ} (if fallsShort c n l then 11 else 0) 0 = rw u at h in
-    let p = passed (fallsShort c n l) 10 _ h₀ in
-    let a = ltb (dualOf c n) l in
-    let b = topIs (λ a. ltb a l) (overgrownOf c n) in
-    let e = any (λ s. ltb (growthAt c s) l) (boundaryOf c n) in
-    let q = or-neither-left (a || b) e (p .0) in
-    record {
-      dual = ltb-false _ _ (or-neither-left a b q);
-      top = or-neither-right a b q;
-      growth = λ s m. ltb-false _ _ (none-member (λ s. ltb (growthAt c s) l) (boundaryOf c n) s (or-neither-right (a || b) e (p .0)) m);
     }

@@ -16,11 +16,11 @@ use Rattle.graph.specs.Form.{Formed}
 use Rattle.graph.specs.laws.State.{if-both, fold-keeps}
 use Rattle.graph.specs.laws.Members.{by-test, clash}
 use Rattle.graph.specs.laws.Row.{becomes-none, becomes-then}
-use Rattle.calls.specs.declared.Answer.{Answer}
-use Rattle.calls.specs.declared.Answer.the-variants.{NonZeroGrow, Unlimited, Conflicting, TouchingVirtual, BlossomNeedExpand, VertexShrinkStop, VertexShrinkStopPeer, Done, Node, Prepared, Vertex, Refused}
-use Rattle.calls.specs.Answer.{Reply, says}
+use Rattle.length.specs.declared.Answer.{Answer}
+use Rattle.length.specs.declared.Answer.the-variants.{NonZeroGrow, Unlimited, Conflicting, TouchingVirtual, BlossomNeedExpand, VertexShrinkStop, VertexShrinkStopPeer, Done, Node, Prepared, Vertex, Refused}
+use Rattle.length.specs.Answer.{Reply, says}
 use Rattle.calls.specs.Refuse.{nodeRefusal, storeShort, unless}
-use Rattle.calls.specs.Scan.{Look, skip, room, meets, Scan, open-ended, within, over, Peers, nobody, peer, clash as two-peers, lesser, lookShrink, look, joined, scanStep, scanAnswer, scanBoundary, isEmpty, shrinkLimit, meetsPeer, meet, stopStep, stopWith, stopAnswer, scan}
+use Rattle.length.specs.Scan.{Look, skip, room, meets, Scan, open-ended, within, over, Peers, nobody, peer, clash as two-peers, lesser, lookShrink, look, joined, scanStep, scanAnswer, scanBoundary, isEmpty, shrinkLimit, meetsPeer, meet, stopStep, stopWith, stopAnswer, scan}
 use Rattle.calls.specs.Calls.{readied, maxUpdateLength, growDualNode, signedFor, follow, advanceBy, toward, advance}
 use Rattle.calls.specs.Reply.{along, Replies}
 use Rattle.calls.specs.laws.Replies.{replies-refused, replies-accepted}

@@ -24,8 +24,8 @@ use Rattle.graph.specs.laws.SidesAt.{around-of, rising-of}
 use Rattle.pass.specs.Scratch.{zeroScratch, wiped, Holding}
 use Rattle.pass.specs.laws.Scratch.{holding-zero, zero-holding, hold-first, first-numbers, wipe-first}
 use Rattle.pass.specs.laws.Growing.{kept-sides}
-use Rattle.calls.specs.declared.Answer.the-variants.{Node, Refused}
-use Rattle.calls.specs.Answer.{says}
+use Rattle.length.specs.declared.Answer.the-variants.{Node, Refused}
+use Rattle.length.specs.Answer.{says}
 use Rattle.calls.specs.Refuse.{storeShort, unless}
 use Rattle.calls.specs.Insert.{occupied, defectRefusal, holdStep, defectPut, insertDefect}
 use Rattle.calls.specs.Reply.{Usable, RepliesInsert}

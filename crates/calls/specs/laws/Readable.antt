@@ -32,7 +32,7 @@ use Rattle.pass.specs.laws.Prepare.{passState, one-down, prepare-leaves, prepar
 use Rattle.pass.specs.laws.Ready.{formed-sides}
 use Rattle.pass.specs.laws.Preparing.{formed-ends}
 use Rattle.calls.specs.Refuse.{storeShort}
-use Rattle.calls.specs.Readable.{Readable}
+use Rattle.graph.specs.Readable.{Readable}
 use Rattle.calls.specs.laws.Sounds.{prepare-up-sound}
 use Rattle.calls.specs.laws.Shapes.{shape-prepared}
 

@@ -21,16 +21,16 @@ use Rattle.pass.specs.laws.Preparing.{sound-preparable}
 use Rattle.graph.specs.laws.Form.{laid-shape}
 use Rattle.graph.specs.laws.Members.{by-test}
 use Rattle.pass.specs.Scratch.{zeroScratch}
-use Rattle.calls.specs.declared.Answer.{Answer}
-use Rattle.calls.specs.declared.Answer.the-variants.{Done, Refused}
-use Rattle.calls.specs.declared.Answer.the-variants as Says
-use Rattle.calls.specs.Answer.{Reply, says}
+use Rattle.length.specs.declared.Answer.{Answer}
+use Rattle.length.specs.declared.Answer.the-variants.{Done, Refused}
+use Rattle.length.specs.declared.Answer.the-variants as Says
+use Rattle.length.specs.Answer.{Reply, says}
 use Rattle.calls.specs.Refuse.{storeShort, nodeRefusal, unless}
-use Rattle.calls.specs.Scan.{scan}
-use Rattle.calls.specs.Growth.{growCheck, growApply}
+use Rattle.length.specs.Scan.{scan}
+use Rattle.growth.specs.Growth.{growCheck, growApply}
 use Rattle.calls.specs.Calls.{setGrowState, prepareDualNodeGrowth, readied, maxUpdateLength, growPrepared, growToward, growDualNode}
-use Rattle.calls.specs.Readable.{Readable}
-use Rattle.calls.specs.Moving.{Prepared}
+use Rattle.graph.specs.Readable.{Readable}
+use Rattle.growth.specs.Moving.{Prepared}
 use Rattle.calls.specs.Reply.{Usable, Steady, along, Replies}
 use Rattle.calls.specs.laws.Accepted.{NodeAccepted, node-accepted, store-room}
 use Rattle.calls.specs.laws.Refuse.{entries-with}

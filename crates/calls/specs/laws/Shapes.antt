@@ -12,14 +12,14 @@ use Rattle.graph.specs.Open.{cleared}
 use Rattle.graph.specs.laws.State.{if-both, fold-keeps}
 use Rattle.graph.specs.laws.Shape.{Shape, emptied-shape, shape-growth, shape-holder, shape-defect, shape-state, shape-parent, shape-dual, shape-overgrown, shape-node, shape-held-side, shape-held-vertex}
 use Rattle.pass.specs.laws.Passes.{Passed}
-use Rattle.calls.specs.declared.Answer.{Answer}
-use Rattle.calls.specs.declared.Answer.the-variants.{NonZeroGrow, Unlimited, Conflicting, TouchingVirtual, BlossomNeedExpand, VertexShrinkStop, VertexShrinkStopPeer, Done, Node, Prepared, Refused, Vertex}
-use Rattle.calls.specs.Answer.{Reply, says}
+use Rattle.length.specs.declared.Answer.{Answer}
+use Rattle.length.specs.declared.Answer.the-variants.{NonZeroGrow, Unlimited, Conflicting, TouchingVirtual, BlossomNeedExpand, VertexShrinkStop, VertexShrinkStopPeer, Done, Node, Prepared, Refused, Vertex}
+use Rattle.length.specs.Answer.{Reply, says}
 use Rattle.calls.specs.Refuse.{unless, nodeRefusal, storeShort}
 use Rattle.pass.specs.Prepare.{prepareNode}
-use Rattle.calls.specs.Scan.{scan}
+use Rattle.length.specs.Scan.{scan}
 use Rattle.graph.specs.Node.{moved}
-use Rattle.calls.specs.Growth.{growCheck, growApply, moveSide, movedStack}
+use Rattle.growth.specs.Growth.{growCheck, growApply, moveSide, movedStack}
 use Rattle.calls.specs.Insert.{insertDefect, defectPut, defectRefusal, holdStep, insertBlossom, blossomPut, blossomRefusal, joinCircle, joinStep, joinSide, seated, Joining, prepareStep}
 use Rattle.calls.specs.Calls.{setGrowState, prepareDualNodeGrowth, maxUpdateLength, readied, growPrepared, growToward, growDualNode, signedFor, follow, advanceBy, toward, advance, representativeVertex, clear, Call, InsertDefect, InsertBlossom, SetGrowState, Prepare, MaxUpdateLength, Grow, ReadTable, Advance, Contacts, RepresentativeVertex, Clear, Response, response, respond}
 use Rattle.pass.specs.laws.Prepare.{prepare-passed}

@@ -26,19 +26,20 @@ use Rattle.pass.specs.laws.Passes.{Passed, passed-refl, passed-trans}
 use Rattle.pass.specs.laws.Counts.{EndsIn}
 use Rattle.pass.specs.laws.Fits.{Sized, sound-sized}
 use Rattle.pass.specs.laws.GrowSound.{grow-pass-sound, grow-pass-entries}
-use Rattle.calls.specs.declared.Answer.{Answer}
-use Rattle.calls.specs.declared.Answer.the-variants.{Done}
-use Rattle.calls.specs.Answer.{Reply, says}
+use Rattle.length.specs.declared.Answer.{Answer}
+use Rattle.length.specs.declared.Answer.the-variants.{Done}
+use Rattle.length.specs.Answer.{Reply, says}
 use Rattle.calls.specs.Refuse.{storeShort, nodeRefusal, unless}
 use Rattle.pass.specs.Prepare.{onePass, prepareNode}
 use Rattle.graph.specs.Node.{moved}
-use Rattle.calls.specs.Growth.{movedStack, moveSide, growCheck, growApply, topIs}
+use Rattle.growth.specs.Growth.{movedStack, moveSide, growCheck, growApply, topIs}
 use Rattle.calls.specs.Calls.{growPrepared, growToward}
 use Rattle.pass.specs.laws.Prepare.{passState, one-passed, one-up, prepare-leaves}
 use Rattle.calls.specs.laws.Shapes.{shape-passed, shape-apply}
-use Rattle.calls.specs.laws.Growth.{Moved, sides-moved, apply-in, apply-out}
+use Rattle.growth.specs.laws.Growth.{Moved, sides-moved, apply-in, apply-out}
 use Rattle.graph.specs.laws.Sums.{sum-same}
-use Rattle.calls.specs.laws.Accepted.{store-kept, unless-cases, NodeAccepted, node-accepted, GrowAccepted, grow-accepted, ShrinkAccepted, shrink-accepted}
+use Rattle.calls.specs.laws.Accepted.{store-kept, unless-cases, NodeAccepted, node-accepted}
+use Rattle.growth.specs.laws.Accepted.{GrowAccepted, grow-accepted, ShrinkAccepted, shrink-accepted}
 
 -- ---- preparation for growing
 

@@ -11,17 +11,13 @@ use lib.ListN.{length, set, getD, take, List·getD-map}
 use lib.Seq.{getD-take, take-set-lt, map-set-same}
 use borrow.Author.Tests.{lt-ltb, ltb-true, leb-true}
 use Rattle.graph.specs.Basic.{all}
-use Rattle.graph.specs.laws.Members.{all-member, member-at}
+use Rattle.graph.specs.laws.Members.{all-at}
 use Rattle.graph.specs.State.{State, NodeClass, defectVertex, vertexCount, edgeCount, sideCount, nodeCount, endAt, weightAt, virtualAt, defectAt, classOf, growStateOf, parentOf, dualOf, withVertices, withSides, withNodes, withGrowth, withHolder, withGrandson, withDefect, withVertexHolder, withVertexGrandson, withGrowState, withParent, withDual}
 use Rattle.graph.specs.Open.{weightLimit}
 use Rattle.graph.specs.Rows.{rows, offset}
 use Rattle.graph.specs.Layout.{vOf, countOf, rowsOf, row, classFrom, stateFrom, stateOf}
 use Rattle.graph.specs.Form.{Laid, Listed, Wired, Formed, Becomes, Rowed}
 use Rattle.graph.specs.laws.Row.{header-get, rows-length, becomes-row}
-
--- what all entries have, an entry has
-pub all-at : (p : ℕ → Bool) (l : List ℕ) (i : ℕ) → all p l ≡ true → i < length l → p (getD l i 0) ≡ true
-all-at p l i h k = all-member p l (getD l i 0) h (member-at l i 0 k)
 
 -- ---- sides and edges
 

@@ -145,6 +145,15 @@ pub member-nil : {P : Type 0} (x : ℕ) → member x [] ≡ true → P
 unfolding member any
 member-nil x h = clash false h refl
 
+-- no entry passes: not the first, not another
+pub any-none : {A : Type 0} (p : A → Bool) (x : A) (xs : List A) → any p (x ∷ xs) ≡ false → (p x ≡ false) × (any p xs ≡ false)
+unfolding any
+any-none p x xs h = (or-neither-left (p x) (any p xs) h, or-neither-right (p x) (any p xs) h)
+
+pub none-member : (p : ℕ → Bool) (l : List ℕ) (x : ℕ) → any p l ≡ false → member x l ≡ true → p x ≡ false
+none-member p [] x h m = member-nil x m
+none-member p (y ∷ ys) x h m = member-cons x y ys m (λ e. rw e (any-none p y ys h .0)) (λ r. none-member p ys x (any-none p y ys h .1) r)
+
 pub member-append : {P : Type 0} (x : ℕ) (xs ys : List ℕ) → member x (xs ++ ys) ≡ true → (member x xs ≡ true → P) → (member x ys ≡ true → P) → P
 member-append x [] ys h p q = q h
 member-append {P} x (z ∷ xs) ys h p q = member-cons x z (xs ++ ys) h (λ e. p (rw e (member-head z xs))) (λ e. member-append {P = P} x xs ys e (λ r. p (member-tail x z xs r)) q)
@@ -173,6 +182,10 @@ pub member-at : (l : List ℕ) (i d : ℕ) → i < length l → member (getD l i
 member-at [] i d h = absurd (omega arith)
 member-at (x ∷ xs) zero d h = member-head x xs
 member-at (x ∷ xs) (suc i) d h = member-tail (getD xs i d) x xs (member-at xs i d (omega arith))
+
+-- what all entries have, an entry has
+pub all-at : (p : ℕ → Bool) (l : List ℕ) (i : ℕ) → all p l ≡ true → i < length l → p (getD l i 0) ≡ true
+all-at p l i h k = all-member p l (getD l i 0) h (member-at l i 0 k)
 
 -- what stands in the choice stands in the list and passes
 pub member-only : (p : ℕ → Bool) (l : List ℕ) (x : ℕ) → member x (only p l) ≡ true → (member x l ≡ true) × (p x ≡ true)

@@ -1,13 +1,18 @@
 -- The numbers in a stretch of memory.
-use Prim.Native.Nat.{ℕ, zero, suc, _+_, _-_, _≤_, _<_}
+use Prim.Native.Nat.{ℕ, _+_, _-_, _≤_, _<_}
 use native.Mathlib.Omega.{arith}
 use native.Mathlib.Numerals.{add-one}
-use mathlib.Core.Path.{_≡_, refl, ap, _∙_}
+use mathlib.Core.Path.{_≡_, refl, sym, ap, _∙_}
+use mathlib.Core.Bool.{true}
 use mathlib.Core.List.{List, [], _∷_, _++_, map}
 use lib.IntN.{ℤ, pos}
+use lib.Dec.{ltb}
 use lib.ListN.{length, set, getD, take, drop, length-drop, length-map, List·getD-map}
 use lib.Seq.{drop-set-add, drop-set-lt, take-set-le, take-suc-set, getD-take, getD-drop, length-take-le}
+use borrow.Author.Tests.{ltb-true}
+use Rattle.graph.specs.Basic.{all}
 use Rattle.graph.specs.Word.{toNat, wordAt, numbersAt}
+use Rattle.graph.specs.laws.Members.{all-at}
 
 map-append : (f : ℤ → ℕ) (xs ys : List ℤ) → map f (xs ++ ys) ≡ map f xs ++ map f ys
 map-append f [] ys = refl
@@ -43,3 +48,11 @@ numbers-entry b p n i h = List·getD-map toNat (take n (drop p b)) i (pos 0) ∙
 pub numbers-length : (b : List ℤ) (p n : ℕ) → p + n ≤ length b → length (numbersAt b p n) ≡ n
 unfolding numbersAt
 numbers-length b p n h = length-map (take n (drop p b)) toNat ∙ length-take-le n (drop p b) (rw (length-drop p b) (omega arith))
+
+-- a word of a stretch is an entry of its numbers
+pub word-entry : (l : List ℤ) (i : ℕ) → wordAt l i ≡ getD (map toNat l) i 0
+unfolding wordAt toNat
+word-entry l i = sym (List·getD-map toNat l i (pos 0))
+
+pub word-below : (m : ℕ) (l : List ℤ) (i : ℕ) → all (λ s. ltb s m) (map toNat l) ≡ true → i < length l → wordAt l i < m
+word-below m l i h k = rw (word-entry l i) (ltb-true _ _ (all-at (λ s. ltb s m) (map toNat l) i h (rw (length-map l toNat) k)))

@@ -1,23 +1,22 @@
 -- An accepted opening makes a sound state, and a cleared state is sound.
-use Prim.Native.Nat.{ℕ, zero, suc, _+_, _-_, _*_, _/_, _%_, _≤_, _<_}
-use native.Mathlib.Numerals.{add-one}
+use Prim.Native.Nat.{ℕ, zero, suc, _+_, _*_, _≤_, _<_}
 use native.Mathlib.Omega.{arith}
-use native.Mathlib.Decide.{ℕ-discrete as decEq, decLt}
+use native.Mathlib.Decide.{ℕ-discrete as decEq}
 use mathlib.Core.Path.{_≡_, refl, sym, ap, subst, _∙_}
 use mathlib.Core.Logic.{_≢_}
-use mathlib.Core.Bool.{Bool, true, false, _&&_, _||_, not}
+use mathlib.Core.Bool.{Bool, true, _&&_, not}
 use mathlib.Core.List.{List, [], _∷_, _++_, map}
 use lib.Dec.{eqb, leb, ltb}
-use lib.ListN.{length, getD, replicate, length-map, length-append, length-replicate, getD-replicate, List·getD-eq-default, List·getD-append, List·getD-map}
+use lib.ListN.{length, getD, replicate, length-map, List·getD-append, List·getD-map}
 use lib.Seq.{getD-append-seam}
-use borrow.Author.Tests.{eqb-true, eqb-false, eq-eqb, ne-eqb, lt-ltb, ltb-true, le-leb, leb-true, not-true, not-false}
-use Rattle.graph.specs.Basic.{if_then_else_, all, only, member, below, same, allBelow, sumBelow}
-use Rattle.graph.specs.State.{State, Graph, vertexCount, edgeCount, sideCount, nodeCount, endAt, weightAt, sidesAt, virtualAt, growthAt, holderAt, grandsonAt, defectAt, vertexHolderAt, vertexGrandsonAt}
-use Rattle.graph.specs.Open.{Edge, weightLimit, dualLimit, growthLimit, sizesOk, endsOf, sidesOf, flagIn, graphOf, blankState, cleared, opened, edgeOk, openRefusal}
-use Rattle.graph.specs.Sound.{nodeOrNone, edgeSound, vertexSound, sideSound, nodeSound, entriesOf, entries, sound}
-use Rattle.graph.specs.laws.State.{and-left, and-right, if-cases}
-use Rattle.graph.specs.laws.Members.{by-test, clash, both, all-first, all-others, length-below, all-below-from, or-left}
-use Rattle.graph.specs.laws.Shape.{same-refl, length-ends, edge-facts, vertex-facts, sound-edge, sound-vertex}
+use borrow.Author.Tests.{eqb-true, eqb-false, ne-eqb, lt-ltb, ltb-true, le-leb, leb-true, not-true, not-false}
+use Rattle.graph.specs.Basic.{all, member, below, allBelow, sumBelow}
+use Rattle.graph.specs.State.{State, Graph}
+use Rattle.graph.specs.Open.{Edge, weightLimit, sizesOk, endsOf, sidesOf, flagIn, graphOf, blankState, cleared, opened, edgeOk, openRefusal}
+use Rattle.graph.specs.Sound.{nodeOrNone, edgeSound, vertexSound, sideSound, entries, sound}
+use Rattle.graph.specs.laws.State.{passed, and-left, and-right}
+use Rattle.graph.specs.laws.Members.{by-test, all-first, all-others, length-below, all-below-from}
+use Rattle.graph.specs.laws.Shape.{same-refl, edge-facts, vertex-facts, sound-edge, sound-vertex}
 
 -- ---- lists
 
@@ -141,11 +140,6 @@ emptied-sound c h = blank-sound (c .graph) (c .nodeLimit) (c .storeLimit) (sound
 
 -- ---- open
 
--- a refusal that is not given
-passed : (t : Bool) (k a : ℕ) → (if not t then suc k else a) ≡ 0 → (t ≡ true) × (a ≡ 0)
-passed true k a h = (refl, h)
-passed false k a h = absurd (omega arith)
-
 -- what an accepted opening has shown
 pub record Accepted (v e n l : ℕ) (edges : List Edge) (virtuals : List ℕ) (fits : Bool) : Type 0 where
   pub sizes : sizesOk v e n l ≡ true
@@ -157,16 +151,17 @@ pub record Accepted (v e n l : ℕ) (edges : List Edge) (virtuals : List ℕ) (f
 pub accepted : (v e n l : ℕ) (edges : List Edge) (virtuals : List ℕ) (fits : Bool) → openRefusal v e n l edges virtuals fits ≡ 0 → Accepted v e n l edges virtuals fits
 unfolding openRefusal
 accepted v e n l edges virtuals fits h =
-    let p₁ = passed (sizesOk v e n l && eqb (length edges) e) 3 _ h in
-    let p₂ = passed fits 0 _ (p₁ .1) in
-    let p₃ = passed (all (λ x. ltb x v) virtuals) 2 _ (p₂ .1) in
-    let p₄ = passed (all (edgeOk v) edges) 3 _ (p₃ .1) in
+    let p₁ = passed (not (sizesOk v e n l && eqb (length edges) e)) 3 _ h in
+    let p₂ = passed (not fits) 0 _ (p₁ .1) in
+    let p₃ = passed (not (all (λ x. ltb x v) virtuals)) 2 _ (p₂ .1) in
+    let p₄ = passed (not (all (edgeOk v) edges)) 3 _ (p₃ .1) in
+    let sized = not-false _ (p₁ .0) in
     record {
-      sizes = and-left (sizesOk v e n l) (eqb (length edges) e) (p₁ .0);
-      count = eqb-true _ _ (and-right (sizesOk v e n l) (eqb (length edges) e) (p₁ .0));
-      lengths = p₂ .0;
-      vertices = p₃ .0;
-      ends = p₄ .0;
+      sizes = and-left (sizesOk v e n l) (eqb (length edges) e) sized;
+      count = eqb-true _ _ (and-right (sizesOk v e n l) (eqb (length edges) e) sized);
+      lengths = not-false _ (p₂ .0);
+      vertices = not-false _ (p₃ .0);
+      ends = not-false _ (p₄ .0);
     }
 
 pub flag-le : (l : List ℕ) (x : ℕ) → flagIn l x ≤ 1

@@ -24,6 +24,11 @@ pub if-cases : {A : Type 0} (P : A → Type 0) (t : Bool) {a b : A} → (t ≡ t
 if-cases P true p q = p refl
 if-cases P false p q = q refl
 
+-- a refusal that is not given
+pub passed : (t : Bool) (k a : ℕ) → (if t then suc k else a) ≡ 0 → (t ≡ false) × (a ≡ 0)
+passed true k a h = absurd (omega arith)
+passed false k a h = (refl, h)
+
 -- both parts of a test that passed
 pub and-left : (a b : Bool) → a && b ≡ true → a ≡ true
 and-left true b p = refl

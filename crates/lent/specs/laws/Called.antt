@@ -18,9 +18,9 @@ use Rattle.memory.specs.laws.Memory.{Lendable, memory-accepted}
 use Rattle.graph.specs.laws.Form.{laid-shape}
 use Rattle.graph.specs.laws.Row.{becomes-none}
 use Rattle.pass.specs.Scratch.{zeroScratch, wiped}
-use Rattle.calls.specs.declared.Answer.{Answer}
-use Rattle.calls.specs.declared.Answer.the-variants.{Done, Vertex, Refused}
-use Rattle.calls.specs.Answer.{Reply, says}
+use Rattle.length.specs.declared.Answer.{Answer}
+use Rattle.length.specs.declared.Answer.the-variants.{Done, Vertex, Refused}
+use Rattle.length.specs.Answer.{Reply, says}
 use Rattle.calls.specs.Refuse.{badNode, inBlossom, storeShort, nodeRefusal, unless}
 use Rattle.calls.specs.Calls.{maxUpdateLength, growDualNode, growthTable, representativeVertexOf, representativeVertex, follow, advanceBy, toward, advance}
 use Rattle.calls.specs.Reply.{Usable, Replies, RepliesInsert, placed}

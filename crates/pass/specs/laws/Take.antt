@@ -15,8 +15,7 @@ use Rattle.graph.specs.Word.{wordAt, numbersAt}
 use Rattle.graph.specs.Layout.{stateOf}
 use Rattle.graph.specs.Form.{Formed, Becomes}
 use Rattle.graph.specs.laws.State.{if-both, fold-keeps, fold-keeps-on, kept-refl, kept-held-side, kept-held-vertex}
-use Rattle.graph.specs.laws.Members.{both}
-use Rattle.graph.specs.laws.Field.{all-at}
+use Rattle.graph.specs.laws.Members.{both, all-at}
 use Rattle.graph.specs.laws.Number.{numbers-entry}
 use Rattle.graph.specs.laws.SidesAt.{vertex-side-below}
 use Rattle.pass.specs.Work.{Work, onState, keep, push, callAnother}

@@ -15,9 +15,9 @@ use Rattle.graph.specs.State.{State, Overgrown, Vertices, NodeClass, defectVert
 use Rattle.graph.specs.laws.State.{opposite-opposite}
 use Rattle.graph.specs.laws.Members.{by-test, clash}
 use Rattle.graph.specs.Node.{moved}
-use Rattle.calls.specs.Growth.{topIs, movedStack, growApply, growCheck}
-use Rattle.calls.specs.laws.Growth.{apply-in, apply-out}
-use Rattle.calls.specs.laws.Accepted.{TopNot, grow-accepted, ShrinkAccepted, shrink-accepted}
+use Rattle.growth.specs.Growth.{topIs, movedStack, growApply, growCheck}
+use Rattle.growth.specs.laws.Growth.{apply-in, apply-out}
+use Rattle.growth.specs.laws.Accepted.{TopNot, grow-accepted, ShrinkAccepted, shrink-accepted}
 use Rattle.calls.specs.laws.Shapes.{shape-apply}
 use Rattle.calls.specs.laws.Sounds.{Applied, apply-applied, apply-sound}
 use Rattle.reachable.specs.Cluster.{SideGraph, View, NodeView, stacked, radius, Global, Chain, none, more, OutwardEdge, InwardEdge, OvergrownVertex, overgrown, listed-side, outward-edge, Predecessor, NodeInvariant, ListedHeld}

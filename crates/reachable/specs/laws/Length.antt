@@ -12,12 +12,12 @@ use Rattle.graph.specs.State.{State, boundaryOf, growStateOf, stay, up, down}
 use Rattle.graph.specs.laws.State.{if-both}
 use Rattle.graph.specs.laws.Members.{clash}
 use Rattle.pass.specs.Prepare.{prepareNode}
-use Rattle.calls.specs.declared.Answer.{Answer}
-use Rattle.calls.specs.declared.Answer.the-variants.{NonZeroGrow, Unlimited, Conflicting, TouchingVirtual, BlossomNeedExpand, VertexShrinkStop, VertexShrinkStopPeer, Done, Node, Prepared, Refused, Vertex}
-use Rattle.calls.specs.Answer.{Reply, says}
+use Rattle.length.specs.declared.Answer.{Answer}
+use Rattle.length.specs.declared.Answer.the-variants.{NonZeroGrow, Unlimited, Conflicting, TouchingVirtual, BlossomNeedExpand, VertexShrinkStop, VertexShrinkStopPeer, Done, Node, Prepared, Refused, Vertex}
+use Rattle.length.specs.Answer.{Reply, says}
 use Rattle.calls.specs.Refuse.{badNode, inBlossom, nodeRefusal, storeShort, unless}
-use Rattle.calls.specs.Scan.{scan}
-use Rattle.calls.specs.Growth.{passesWeight, passesLimit, fallsShort, growCheck}
+use Rattle.length.specs.Scan.{scan}
+use Rattle.growth.specs.Growth.{passesWeight, passesLimit, fallsShort, growCheck}
 use Rattle.calls.specs.Calls.{maxUpdateLength, readied, growPrepared, growToward, growDualNode, signedFor, follow, advanceBy, toward, advance}
 use Rattle.calls.specs.laws.Accepted.{unless-cases, NodeAccepted, node-accepted}
 use Rattle.reachable.specs.Invariant.{Invariant}

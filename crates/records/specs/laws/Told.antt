@@ -6,8 +6,8 @@ use mathlib.Core.Bool.{Bool}
 use mathlib.Core.List.{List, [], _∷_, _++_}
 use lib.IntN.{ℤ}
 use lib.ListN.{length, length-append}
-use Rattle.calls.specs.Answer.{flag}
-use Rattle.calls.specs.declared.Answer.the-variants.{NonZeroGrow}
+use Rattle.length.specs.Answer.{flag}
+use Rattle.length.specs.declared.Answer.the-variants.{NonZeroGrow}
 use Rattle.records.specs.Text.{ascii, decimal, signedText, spaced}
 use Rattle.records.specs.Lines.{line, wordsOf}
 use Rattle.records.specs.laws.Write.{decimal-short}

@@ -19,8 +19,8 @@ use Rattle.graph.specs.Form.{Formed}
 use Rattle.graph.specs.laws.State.{if-both, if-cases}
 use Rattle.graph.specs.laws.Members.{clash}
 use Rattle.pass.specs.Scratch.{zeroScratch}
-use Rattle.calls.specs.declared.Answer.{Answer}
-use Rattle.calls.specs.Answer.{Reply}
+use Rattle.length.specs.declared.Answer.{Answer}
+use Rattle.length.specs.Answer.{Reply}
 use Rattle.calls.specs.Reply.{Usable, Replies, RepliesInsert}
 use Rattle.calls.specs.Insert.{insertDefect, insertBlossom}
 use Rattle.calls.specs.Calls.{Call, InsertDefect, InsertBlossom, SetGrowState, Prepare, MaxUpdateLength, Grow, Advance, setGrowState, prepareDualNodeGrowth, maxUpdateLength, growDualNode, advance, clear, growthTable, contacts, growths, touching, answered, response, respond}

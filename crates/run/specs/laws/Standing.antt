@@ -14,7 +14,7 @@ use Rattle.graph.specs.Open.{Edge, opened, graphOf, blankState, openRefusal}
 use Rattle.graph.specs.Layout.{stateOf}
 use Rattle.graph.specs.laws.Opened.{accepted}
 use Rattle.graph.specs.laws.Members.{by-test}
-use Rattle.calls.specs.declared.Answer.the-variants.{Refused}
+use Rattle.length.specs.declared.Answer.the-variants.{Refused}
 use Rattle.calls.specs.Calls.{Call, respond}
 use Rattle.reachable.specs.Reachable.{after}
 use Rattle.records.specs.Record.{Record, sizes, anEdge, aVirtual, ask, illFormed, field, recordOf, decoded}

@@ -18,9 +18,9 @@ use Rattle.graph.specs.laws.Members.{by-test, clash}
 use Rattle.graph.specs.laws.Opened.{Accepted, accepted}
 use Rattle.memory.specs.laws.OpenedBlock.{opened-state, opened-formed, opened-block}
 use Rattle.memory.specs.laws.Join.{numbers-plain}
-use Rattle.calls.specs.declared.Answer.{Answer}
-use Rattle.calls.specs.declared.Answer.the-variants.{Done, Refused}
-use Rattle.calls.specs.Answer.{Reply, says}
+use Rattle.length.specs.declared.Answer.{Answer}
+use Rattle.length.specs.declared.Answer.the-variants.{Done, Refused}
+use Rattle.length.specs.Answer.{Reply, says}
 use Rattle.calls.specs.Refuse.{unless}
 use Rattle.calls.specs.Calls.{growthTable}
 use Rattle.lent.specs.Called.{lentReply, ListRead, TableRead}

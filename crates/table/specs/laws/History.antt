@@ -21,15 +21,16 @@ use Rattle.graph.specs.laws.Members.{by-test, clash}
 use Rattle.pass.specs.Prepare.{prepareNode}
 use Rattle.pass.specs.laws.Passes.{Passed}
 use Rattle.pass.specs.laws.Prepare.{prepare-passed}
-use Rattle.calls.specs.declared.Answer.{Answer}
-use Rattle.calls.specs.declared.Answer.the-variants.{NonZeroGrow, Unlimited, Conflicting, TouchingVirtual, BlossomNeedExpand, VertexShrinkStop, VertexShrinkStopPeer, Done, Node, Prepared, Refused, Vertex}
-use Rattle.calls.specs.Answer.{Reply, says}
+use Rattle.length.specs.declared.Answer.{Answer}
+use Rattle.length.specs.declared.Answer.the-variants.{NonZeroGrow, Unlimited, Conflicting, TouchingVirtual, BlossomNeedExpand, VertexShrinkStop, VertexShrinkStopPeer, Done, Node, Prepared, Refused, Vertex}
+use Rattle.length.specs.Answer.{Reply, says}
 use Rattle.calls.specs.Refuse.{nodeRefusal, storeShort}
-use Rattle.calls.specs.Growth.{growCheck, movedStack, growApply}
+use Rattle.growth.specs.Growth.{growCheck, movedStack, growApply}
 use Rattle.calls.specs.Insert.{insertDefect, defectPut, defectRefusal, insertBlossom, blossomRefusal}
 use Rattle.calls.specs.Calls.{setGrowState, prepareDualNodeGrowth, maxUpdateLength, readied, growPrepared, growToward, growDualNode, signedFor, follow, advanceBy, toward, advance, representativeVertex, clear, Call, InsertDefect, InsertBlossom, SetGrowState, Prepare, MaxUpdateLength, Grow, ReadTable, Advance, Contacts, RepresentativeVertex, Clear, response, respond}
-use Rattle.calls.specs.laws.Accepted.{unless-cases, node-accepted, defect-accepted, shrink-accepted}
-use Rattle.calls.specs.laws.Growth.{Moved, sides-moved}
+use Rattle.calls.specs.laws.Accepted.{unless-cases, node-accepted, defect-accepted}
+use Rattle.growth.specs.laws.Accepted.{shrink-accepted}
+use Rattle.growth.specs.laws.Growth.{Moved, sides-moved}
 use Rattle.reachable.specs.Invariant.{Invariant}
 use Rattle.reachable.specs.laws.insert.DefectState.{DefectMade, defect-made}
 use Rattle.reachable.specs.laws.Calls.{call-invariant}

@@ -12,11 +12,11 @@ use Rattle.graph.specs.laws.State.{if-both}
 use Rattle.graph.specs.laws.Members.{by-test}
 use Rattle.pass.specs.Prepare.{prepareNode}
 use Rattle.pass.specs.laws.Prepare.{prepare-passed}
-use Rattle.calls.specs.declared.Answer.{Answer}
-use Rattle.calls.specs.declared.Answer.the-variants.{NonZeroGrow, Unlimited, Conflicting, TouchingVirtual, BlossomNeedExpand, VertexShrinkStop, VertexShrinkStopPeer, Done, Node, Prepared, Refused, Vertex}
-use Rattle.calls.specs.Answer.{Reply, says}
+use Rattle.length.specs.declared.Answer.{Answer}
+use Rattle.length.specs.declared.Answer.the-variants.{NonZeroGrow, Unlimited, Conflicting, TouchingVirtual, BlossomNeedExpand, VertexShrinkStop, VertexShrinkStopPeer, Done, Node, Prepared, Refused, Vertex}
+use Rattle.length.specs.Answer.{Reply, says}
 use Rattle.calls.specs.Refuse.{nodeRefusal, storeShort, unless}
-use Rattle.calls.specs.Growth.{growCheck}
+use Rattle.growth.specs.Growth.{growCheck}
 use Rattle.calls.specs.Insert.{insertDefect, defectPut, defectRefusal, insertBlossom, blossomPut, blossomRefusal, Joining, prepareStep, joinSide, seated, joinStep, joinCircle}
 use Rattle.calls.specs.Calls.{setGrowState, prepareDualNodeGrowth, maxUpdateLength, readied, growPrepared, growToward, growDualNode, signedFor, follow, advanceBy, toward, advance, representativeVertex, clear, Call, InsertDefect, InsertBlossom, SetGrowState, Prepare, MaxUpdateLength, Grow, ReadTable, Advance, Contacts, RepresentativeVertex, Clear, response, respond}
 use Rattle.calls.specs.laws.Accepted.{unless-cases}

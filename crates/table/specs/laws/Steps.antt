@@ -14,8 +14,8 @@ use Rattle.graph.specs.Form.{Formed}
 use Rattle.graph.specs.Opening.{edgesFrom, virtualsFrom, fits}
 use Rattle.graph.specs.laws.Members.{by-test}
 use Rattle.memory.specs.laws.OpenedBlock.{refused-block}
-use Rattle.calls.specs.declared.Answer.{Answer}
-use Rattle.calls.specs.Answer.{Reply, says}
+use Rattle.length.specs.declared.Answer.{Answer}
+use Rattle.length.specs.Answer.{Reply, says}
 use Rattle.calls.specs.Refuse.{unless}
 use Rattle.calls.specs.Calls.{Call, InsertDefect, InsertBlossom, SetGrowState, Prepare, MaxUpdateLength, Grow, ReadTable, Advance, Contacts, RepresentativeVertex, Clear, respond, response, representativeVertex}
 use Rattle.lent.specs.Called.{lentReply, lentWrites, Called}

@@ -7,13 +7,13 @@ use denote.Enum.Declared.{tagOf}
 use mir.Facts.{toZ-ofZ}
 use Rattle.graph.specs.State.{State}
 use Rattle.graph.specs.Layout.{stateOf}
-use Rattle.calls.specs.declared.Answer.{Answer}
-use Rattle.calls.specs.declared.Answer.the-variants.{NonZeroGrow, Unlimited, Conflicting, TouchingVirtual, BlossomNeedExpand, VertexShrinkStop, VertexShrinkStopPeer, Done, Node, Prepared, Vertex, Refused}
-use Rattle.calls.specs.Answer.{says}
+use Rattle.length.specs.declared.Answer.{Answer}
+use Rattle.length.specs.declared.Answer.the-variants.{NonZeroGrow, Unlimited, Conflicting, TouchingVirtual, BlossomNeedExpand, VertexShrinkStop, VertexShrinkStopPeer, Done, Node, Prepared, Vertex, Refused}
+use Rattle.length.specs.Answer.{says}
 use Rattle.calls.specs.Calls.{follow}
 use Rattle.calls.specs.laws.Advance.{length-below, advance-other, advance-free}
 use borrow.Author.Needs.{needs, sfits-of}
-use Rattle.calls.proofs.Answer as Kinds
+use Rattle.length.proofs.Answer as Kinds
 use Rattle.calls.proofs.advance.advance_by.Statement.{statement}
 use Rattle.calls.proofs.advance.advance_by.Tie as tie
 

@@ -1,6 +1,6 @@
 use mathlib.Core.Path.{sym, _∙_}
 use Rattle.graph.specs.Layout.{stateOf}
-use Rattle.calls.specs.laws.Moving.{growing-of}
+use Rattle.growth.specs.laws.Moving.{growing-of}
 use Rattle.calls.specs.laws.Replies.{growth-refused, growth-done}
 use borrow.Author.Needs.{needs}
 use Rattle.calls.proofs.core.grow_prepared.Statement.{statement}

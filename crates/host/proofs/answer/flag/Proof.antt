@@ -1,4 +1,4 @@
-use Rattle.calls.specs.Answer.{flag}
+use Rattle.length.specs.Answer.{flag}
 use Rattle.host.proofs.answer.flag.Statement.{statement}
 use Rattle.host.proofs.answer.flag.Tie as tie
 

@@ -1,4 +1,4 @@
-use Rattle.calls.specs.Answer.{flag}
+use Rattle.length.specs.Answer.{flag}
 use mathlib.Core.Path.{_≡_, sym, ap, _∙_}
 use mathlib.Core.Bool.{true, false}
 use lib.Signed.{nonNeg}

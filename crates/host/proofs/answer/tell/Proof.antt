@@ -1,7 +1,7 @@
 use mathlib.Core.Path.{sym, ap, _∙_}
 use mathlib.Core.List.{[], _∷_}
 use mir.Facts.{toZ-ofZ}
-use Rattle.calls.specs.declared.Answer.the-variants.{NonZeroGrow}
+use Rattle.length.specs.declared.Answer.the-variants.{NonZeroGrow}
 use Rattle.host.specs.Words.{answerNumbers}
 use Rattle.host.specs.laws.Words.{tells-as}
 use borrow.Author.Needs.{needs, sfits-of}

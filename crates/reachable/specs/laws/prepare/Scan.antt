@@ -11,11 +11,11 @@ use Rattle.graph.specs.Basic.{fold, member}
 use Rattle.graph.specs.State.{State, NodeClass, defectVertex, blossom, opposite, nodeCount, endAt, growthAt, holderAt, virtualAt, sidesAt, classOf, growStateOf, parentOf, dualOf, boundaryOf, overgrownOf, grownOver, weightOver, up, shrinking}
 use Rattle.graph.specs.laws.State.{if-both, if-cases, fold-keeps, fold-keeps-on}
 use Rattle.graph.specs.laws.Members.{by-test, all-from}
-use Rattle.calls.specs.declared.Answer.{Answer}
-use Rattle.calls.specs.declared.Answer.the-variants.{NonZeroGrow, Unlimited, Conflicting, TouchingVirtual, BlossomNeedExpand, VertexShrinkStop, VertexShrinkStopPeer, Done, Node, Prepared, Refused, Vertex}
+use Rattle.length.specs.declared.Answer.{Answer}
+use Rattle.length.specs.declared.Answer.the-variants.{NonZeroGrow, Unlimited, Conflicting, TouchingVirtual, BlossomNeedExpand, VertexShrinkStop, VertexShrinkStopPeer, Done, Node, Prepared, Refused, Vertex}
 use Rattle.pass.specs.Prepare.{prepareNode}
-use Rattle.calls.specs.laws.Growth.{gap-within}
-use Rattle.calls.specs.Scan.{isZero, Look, skip, room, meets, gapOf, lookPeer, lookFree, lookHeld, lookGrow, lookShrink, look, Scan, open-ended, within, over, joined, scanStep, isEmpty, scanAnswer, scanBoundary, Peers, nobody, peer, clash as conflicting, meetsPeer, meet, stopStep, stopWith, stopAnswer, shrinkLimit, scan}
+use Rattle.length.specs.laws.Scanning.{gap-within}
+use Rattle.length.specs.Scan.{isZero, Look, skip, room, meets, gapOf, lookPeer, lookFree, lookHeld, lookGrow, lookShrink, look, Scan, open-ended, within, over, joined, scanStep, isEmpty, scanAnswer, scanBoundary, Peers, nobody, peer, clash as conflicting, meetsPeer, meet, stopStep, stopWith, stopAnswer, shrinkLimit, scan}
 use Rattle.reachable.specs.Invariant.{Labels, NodeInvariantOf, Invariant}
 use Rattle.reachable.specs.laws.prepare.Preparation.{PreparedDown, PreparedUp, prepare-up, prepare-down, invariant-ready}
 

@@ -1,5 +1,5 @@
 use mir.Facts.{toZ-ofZ}
-use Rattle.calls.specs.declared.Answer.the-variants.{NonZeroGrow, Conflicting, TouchingVirtual, VertexShrinkStopPeer}
+use Rattle.length.specs.declared.Answer.the-variants.{NonZeroGrow, Conflicting, TouchingVirtual, VertexShrinkStopPeer}
 use native.Mathlib.Omega.{arith}
 use mathlib.Core.Path.{sym, _∙_, ap}
 use mathlib.Core.List.{_∷_, [], _++_}

@@ -1,0 +1,4 @@
+-- Laws about the definitions of `growth`.
+pub mod Accepted
+pub mod Growth
+pub mod Moving

@@ -1,0 +1,3 @@
+-- Laws about the definitions of `length`.
+pub mod Length
+pub mod Scanning
