@@ -1,11 +1,11 @@
-// Links the archive of crate `run`: ARCHIVE names it, by default target/staticlib/librun.a of the repository. LIBRARY names
+// Links the archive of crate `stream`: ARCHIVE names it, by default target/staticlib/libstream.a of the repository. LIBRARY names
 // the archive of crate `host`, the calls on lent memory; without it the library is neither compared nor measured.
 use std::{env, path::PathBuf};
 
 fn main() {
     let here = env::var("CARGO_MANIFEST_DIR").unwrap();
-    let archive = env::var("ARCHIVE").unwrap_or_else(|_| format!("{here}/../target/staticlib/librun.a"));
-    let archive = PathBuf::from(&archive).canonicalize().unwrap_or_else(|_| panic!("{archive} is missing: rt staticlib run"));
+    let archive = env::var("ARCHIVE").unwrap_or_else(|_| format!("{here}/../target/staticlib/libstream.a"));
+    let archive = PathBuf::from(&archive).canonicalize().unwrap_or_else(|_| panic!("{archive} is missing: rt staticlib stream"));
     println!("cargo:rerun-if-env-changed=ARCHIVE");
     println!("cargo:rerun-if-changed={}", archive.display());
     println!("cargo:rustc-link-arg={}", archive.display());

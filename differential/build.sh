@@ -1,6 +1,6 @@
-# Builds the archive of crate `run` and the bench; sets `bench` to its program. Read by the other scripts; those that set
+# Builds the archive of crate `stream` and the bench; sets `bench` to its program. Read by the other scripts; those that set
 # `with_library` get the calls on lent memory too.
-#   ARCHIVE         another archive with the call cardrun_lines (default: what `rt staticlib run` writes)
+#   ARCHIVE         another archive with the call cardrun_lines (default: what `rt staticlib stream` writes)
 #   LIBRARY         another archive with the calls on lent memory (default: what `rt staticlib host` writes)
 #   FB_SRC          the folder of the three Rust files (default: ../shared/docs/src beside the repository)
 #   CARGO_REGISTRY  where Debian's librust packages put their sources
@@ -8,8 +8,8 @@ set -e
 root=$(cd "$here/.." && pwd)
 mkdir -p "$root/target"
 if [ -z "$ARCHIVE" ]; then
-    (cd "$root" && rt staticlib run) > "$root/target/differential.log" 2>&1 || { tail "$root/target/differential.log"; exit 1; }
-    ARCHIVE=$root/target/staticlib/librun.a
+    (cd "$root" && rt staticlib stream) > "$root/target/differential.log" 2>&1 || { tail "$root/target/differential.log"; exit 1; }
+    ARCHIVE=$root/target/staticlib/libstream.a
 fi
 export ARCHIVE
 export CARGO_TARGET_DIR="${CARGO_TARGET_DIR:-$root/target/differential}"

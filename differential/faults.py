@@ -42,7 +42,7 @@ def main():
     missed = 0
     work = tempfile.mkdtemp()
     env = dict(os.environ, FB_SRC=os.path.join(work, 'src'), FOUND=os.path.join(work, 'found'))
-    env.setdefault('ARCHIVE', os.path.join(ROOT, 'target', 'staticlib', 'librun.a'))
+    env.setdefault('ARCHIVE', os.path.join(ROOT, 'target', 'staticlib', 'libstream.a'))
     env.setdefault('CARGO_TARGET_DIR', os.path.join(ROOT, 'target', 'faults'))
     try:
         for name, old, new, place in FAULTS:

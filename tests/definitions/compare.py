@@ -154,7 +154,7 @@ use lib.IntN.{{pos, negsuc}}
 use Rattle.graph.specs.State.{{State, Overgrown, NodeClass, defectVertex, blossom}}
 use Rattle.graph.specs.Open.{{opened}}
 use Rattle.graph.specs.Sound.{{sound}}
-use Rattle.calls.specs.declared.Answer.the-variants.{{NonZeroGrow, Unlimited, Conflicting, TouchingVirtual, BlossomNeedExpand, VertexShrinkStop, VertexShrinkStopPeer, Done, Node, Prepared, Vertex, Refused}}
+use Rattle.length.specs.declared.Answer.the-variants.{{NonZeroGrow, Unlimited, Conflicting, TouchingVirtual, BlossomNeedExpand, VertexShrinkStop, VertexShrinkStopPeer, Done, Node, Prepared, Vertex, Refused}}
 use Rattle.calls.specs.Calls.{{InsertDefect, InsertBlossom, SetGrowState, Prepare, MaxUpdateLength, Grow, ReadTable, Advance, Contacts, RepresentativeVertex, Clear, answered, growths, touching, respond}}
 use Rattle.calls.specs.Examples.{{Line, _gives_, edge, given, wanted}}
 use Rattle.calls.specs.Opens.{{everything}}
@@ -261,7 +261,7 @@ def main():
     os.makedirs(specs, exist_ok=True)
     os.makedirs(os.path.join(top, 'crates', 'trial', 'src'), exist_ok=True)
     open(os.path.join(top, 'crates', 'trial', 'src', 'lib.rt'), 'w').write('// Tests only.\n')
-    open(os.path.join(top, 'crates.txt'), 'a').write('trial: graph memory pass calls records\n')
+    open(os.path.join(top, 'crates.txt'), 'a').write('trial: graph memory pass length growth calls records\n')
     open(os.path.join(specs, 'Lib.antt'), 'w').write('-- Tests.\n' + ''.join(f'pub mod {m}\n' for m in modules))
     for m, text in modules.items(): open(os.path.join(specs, m + '.antt'), 'w').write(text)
     run = subprocess.run(['rt', 'check', 'trial'], cwd=top, capture_output=True, text=True)

@@ -86,7 +86,7 @@ fn main() {
         let d = number(&head, 3);
         io::read_full(0, &mut bytes[0..8 * k]);
         fill(&mut block, &bytes, k);
-        let passes = pass::prepare::prepare_dual_node_growth(&mut block[0..k], &mut scratch[0..m], n, d);
+        let passes = prepare::prepare_dual_node_growth(&mut block[0..k], &mut scratch[0..m], n, d);
         tidy(&mut block[0..k]);
         io::print_decimal(1, passes as u64);
         io::write_all(1, b" ");
@@ -163,9 +163,9 @@ def main():
         data += struct.pack('<4q', len(ws), 6 * before.E, n, d) + struct.pack(f'<{len(ws)}q', *ws)
         lines += f'{passes} {checksum([0] * (6 * after.E), checksum(words(after)))}\n'.encode()
     top = tempfile.mkdtemp()
-    for c in ('graph', 'pass'): shutil.copytree(os.path.join(TOP, 'crates', c), os.path.join(top, 'crates', c))
+    for c in ('graph', 'pass', 'grow_pass', 'shrink_pass', 'prepare'): shutil.copytree(os.path.join(TOP, 'crates', c), os.path.join(top, 'crates', c))
     os.makedirs(os.path.join(top, 'crates', 'drive', 'src'))
-    open(os.path.join(top, 'crates.txt'), 'w').write('graph:\npass: graph\ndrive: pass graph io libc\n')
+    open(os.path.join(top, 'crates.txt'), 'w').write('graph:\npass: graph\ngrow_pass: graph pass\nshrink_pass: graph pass\nprepare: graph pass grow_pass shrink_pass\ndrive: graph prepare io libc\n')
     for name, text in ('src/main.rt', PROGRAM.encode()), ('stdin', data), ('stdout', lines):
         open(os.path.join(top, 'crates', 'drive', name), 'wb').write(text)
     subprocess.run(['git', 'init', '-q', top], check=True)

@@ -26,7 +26,6 @@ use graph::rows;
 use graph::side;
 use graph::words;
 use length::Answer;
-use pass::prepare;
 use pass::scratch;
 
 // ---- what refuses it

@@ -18,7 +18,6 @@ use graph::node;
 use graph::words;
 use length::Answer;
 use length::scan;
-use pass::prepare;
 
 // Node n gets the grow state x.
 pub fn set_grow_state(b: &mut [i64], n: usize, x: usize) -> Answer

@@ -1,19 +1,9 @@
 -- Laws about the definitions of `pass`.
 pub mod Counts
-pub mod Finish
 pub mod Fits
-pub mod Grow
 pub mod GrowSound
-pub mod Growing
-pub mod Idle
-pub mod Mark
 pub mod Passes
 pub mod Prepare
 pub mod Preparing
 pub mod Ready
-pub mod Release
 pub mod Scratch
-pub mod Shrink
-pub mod Shrinking
-pub mod Take
-pub mod Top

@@ -7,11 +7,10 @@ ghost use Prim.Native.Nat.{_≤_};
 use libc::STDIN_FILENO;
 use libc::STDOUT_FILENO;
 use records::bytes;
-use run::exported;
 
 // The records of a frame give lines, which are compared: 1 if they are equal, 2 else.
 fn replay(records: &[u8], wanted: &[u8], lines: &mut [u8]) -> usize {
-    let k = exported::cardrun_lines(records, lines);
+    let k = stream::cardrun_lines(records, lines);
     if check::same(&lines[0..k], wanted) {
         1
     } else {

@@ -1,4 +1,4 @@
--- Where a run stands, by what the memory holds: the struct of src/run.rt, the block, the scratch, and the words of edges and virtual vertices.
+-- Where a run stands, by what the memory holds: the struct of src/turn.rt, the block, the scratch, and the words of edges and virtual vertices.
 use Prim.Native.Nat.{ℕ, _*_, _≤_, _<_}
 use mathlib.Core.Path.{_≡_}
 use mathlib.Core.Bool.{Bool, true, false}

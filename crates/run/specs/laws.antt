@@ -1,6 +1,5 @@
 -- Laws of a run in memory.
 pub mod Asking
-pub mod Exported
 pub mod Few
 pub mod Holding
 pub mod Standing

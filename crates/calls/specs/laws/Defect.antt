@@ -18,12 +18,11 @@ use Rattle.graph.specs.Word.{numbersAt}
 use Rattle.graph.specs.Layout.{stateOf, classFrom}
 use Rattle.graph.specs.Form.{Laid, Formed, Becomes}
 use Rattle.graph.specs.Insert.{Inserted}
-use Rattle.graph.specs.laws.State.{Kept, kept-refl, kept-trans, kept-held-side, fold-more, fold-done, fold-keeps}
+use Rattle.graph.specs.laws.State.{Kept, kept-refl, kept-trans, kept-held-side, fold-more, fold-done, fold-keeps, kept-sides}
 use Rattle.graph.specs.laws.Row.{becomes-none, becomes-then}
 use Rattle.graph.specs.laws.SidesAt.{around-of, rising-of}
 use Rattle.pass.specs.Scratch.{zeroScratch, wiped, Holding}
 use Rattle.pass.specs.laws.Scratch.{holding-zero, zero-holding, hold-first, first-numbers, wipe-first}
-use Rattle.pass.specs.laws.Growing.{kept-sides}
 use Rattle.length.specs.declared.Answer.the-variants.{Node, Refused}
 use Rattle.length.specs.Answer.{says}
 use Rattle.calls.specs.Refuse.{storeShort, unless}

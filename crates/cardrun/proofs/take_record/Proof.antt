@@ -4,8 +4,7 @@ use mathlib.Core.Path.{_∙_, ap, refl}
 use mathlib.Core.List.{_++_}
 use lib.ListN.{drop, length-append, length-take, length-drop}
 use Rattle.records.specs.Run.{ended}
-use Rattle.run.specs.laws.Standing.{stands-ended}
-use Rattle.run.specs.laws.Exported.{part-short}
+use Rattle.run.specs.laws.Standing.{stands-ended, part-short}
 use borrow.Author.Needs.{needs}
 use Rattle.cardrun.proofs.take_record.Statement.{statement}
 use Rattle.cardrun.proofs.take_record.Tie as tie

@@ -11,7 +11,7 @@ use lib.ListN.{length, getD, set, take, drop, length-set, drop-of-length-le}
 use lib.Seq.{take-suc, drop-cons, take-all, getD-set-same, getD-set-other}
 use borrow.Author.Tests.{eqb-true, eqb-false, eq-eqb, ne-eqb}
 use Rattle.graph.specs.Basic.{if_then_else_, fold, all}
-use Rattle.graph.specs.State.{State, Overgrown, opposite, edgeOf, growthAt, holderAt, grandsonAt, defectAt, vertexHolderAt, vertexGrandsonAt, growStateOf, parentOf, dualOf, boundaryOf, overgrownOf, withVertices, withSides, withNodes, withGrowth, withHolder, withGrandson, withDefect, withVertexHolder, withVertexGrandson, withGrowState, withParent, withDual, withBoundary, withOvergrown, heldSide, freeSide, heldVertex, freeVertex}
+use Rattle.graph.specs.State.{State, Graph, Nodes, Overgrown, opposite, sidesAt, edgeOf, growthAt, holderAt, grandsonAt, defectAt, vertexHolderAt, vertexGrandsonAt, growStateOf, parentOf, dualOf, boundaryOf, overgrownOf, withVertices, withSides, withNodes, withGrowth, withHolder, withGrandson, withDefect, withVertexHolder, withVertexGrandson, withGrowState, withParent, withDual, withBoundary, withOvergrown, heldSide, freeSide, heldVertex, freeVertex}
 
 -- ---- choices
 
@@ -246,6 +246,17 @@ kept-refl c = record { graph = refl; nodes = refl; growth = refl; defect = refl;
 
 pub kept-trans : {c d e : State} → Kept c d → Kept d e → Kept c e
 kept-trans p q = record { graph = q .graph ∙ p .graph; nodes = q .nodes ∙ p .nodes; growth = q .growth ∙ p .growth; defect = q .defect ∙ p .defect; nodeLimit = q .nodeLimit ∙ p .nodeLimit; storeLimit = q .storeLimit ∙ p .storeLimit; holder = q .holder ∙ p .holder; grandson = q .grandson ∙ p .grandson; vertexHolder = q .vertexHolder ∙ p .vertexHolder; vertexGrandson = q .vertexGrandson ∙ p .vertexGrandson }
+
+-- the lists of a vertex and of a node
+module _ {c d : State} (k : Kept c d) where
+  pub kept-sides : (v : ℕ) → sidesAt d v ≡ sidesAt c v
+  kept-sides v = ap (λ (g : Graph). getD (g .at) v []) (k .graph)
+
+  pub kept-boundary : (n : ℕ) → boundaryOf d n ≡ boundaryOf c n
+  kept-boundary n = ap (λ (x : Nodes). getD (x .boundary) n []) (k .nodes)
+
+  pub kept-overgrown : (n : ℕ) → overgrownOf d n ≡ overgrownOf c n
+  kept-overgrown n = ap (λ (x : Nodes). getD (x .overgrown) n []) (k .nodes)
 
 pub kept-holder : (c : State) (s h : ℕ) → Kept c (withHolder c s h)
 unfolding withHolder withSides

@@ -5,15 +5,16 @@ use mathlib.Core.Path.{_≡_, refl, sym, ap, _∙_}
 use mathlib.Core.Logic.{_≢_}
 use mathlib.Core.Bool.{Bool, true, false}
 use mathlib.Core.List.{List, [], _∷_}
-use lib.IntN.{ℤ}
+use lib.IntN.{ℤ, pos}
 use lib.Dec.{eqb}
-use lib.ListN.{length, length-map}
+use lib.ListN.{length, take, replicate, length-map, length-take, length-replicate}
 use borrow.Author.Tests.{eq-eqb, ne-eqb, eqb-true, eqb-false}
 use Rattle.graph.specs.State.{edgeCount}
 use Rattle.graph.specs.Open.{Edge, opened, graphOf, blankState, openRefusal}
 use Rattle.graph.specs.Layout.{stateOf}
 use Rattle.graph.specs.laws.Opened.{accepted}
 use Rattle.graph.specs.laws.Members.{by-test}
+use Rattle.pass.specs.Scratch.{zeroScratch}
 use Rattle.length.specs.declared.Answer.the-variants.{Refused}
 use Rattle.calls.specs.Calls.{Call, respond}
 use Rattle.reachable.specs.Reachable.{after}
@@ -325,3 +326,25 @@ module _ {body : List ℕ} {kind : ℕ} (o : OfKind body kind) (four : 4 ≤ kin
 
 pub ill-stops : (body : List ℕ) (k : ℕ) (m : Memory) → wellFormed body ≡ false → m .stage < 3 → (s : Stage) → Stands m s → turn k s (decoded body) ≡ ends k 3
 ill-stops body k m e h s p = rw (decoded-ill body e) (turn-ill m k s p h)
+
+-- ---- the memory of the program
+
+-- a body of two bytes' length
+pub part-short : (n : ℕ) (l : List ℕ) → n ≤ 65535 → length (take n l) ≤ 65535
+part-short n l h = omega (arith, length-take n l)
+
+zeros-long : (n m : ℕ) → m ≤ n → m ≤ length (replicate n (pos 0))
+zeros-long n m h = rw (length-replicate {A = ℤ} n (pos 0)) h
+
+zeros-are : (n : ℕ) → replicate n (pos 0) ≡ zeroScratch (length (replicate n (pos 0)))
+unfolding zeroScratch
+zeros-are n = rw (length-replicate {A = ℤ} n (pos 0))
+
+pub roomy-start : Roomy (replicate 4096 (pos 0)) (replicate 768 (pos 0)) (replicate 384 (pos 0)) (replicate 65 (pos 0))
+roomy-start = record {
+  words = zeros-long 4096 4096 (omega arith);
+  scratch-words = zeros-long 768 768 (omega arith);
+  edge-words = zeros-long 384 384 (omega arith);
+  virtual-words = zeros-long 65 65 (omega arith);
+  zero = zeros-are 768;
+}

@@ -1,0 +1,4 @@
+-- Laws about the memory of a growing pass.
+pub mod Grow
+pub mod Growing
+pub mod Take

@@ -1,0 +1,77 @@
+// How far a shrinking pass has come: its kept sides stand in the first section of the scratch, the noted vertices in the second,
+// and a mark for each kept side in the third.
+
+ghost use mathlib.Core.Path.{_≡_};
+ghost use mathlib.Core.List.{List};
+ghost use Prim.Native.Nat.{ℕ, _*_, _<_, _≤_};
+ghost use lib.IntN.{ℤ};
+ghost use lib.ListN.{length};
+ghost use Rattle.graph.specs.Layout.{stateOf};
+ghost use Rattle.graph.specs.State.{vertexCount};
+ghost use Rattle.graph.specs.Word.{wordAt};
+ghost use Rattle.pass.specs.Work.{keepOnce, note};
+ghost use Rattle.shrink_pass.specs.Shrinking.{Busy, Does, Marked, unmarked};
+ghost use Rattle.pass.specs.Scratch.{zeroScratch};
+use graph::words;
+use pass::scratch;
+
+// What the loops of a shrinking pass hand on.
+pub struct Progress {
+    pub kept: usize, // how many sides are kept
+    pub noted: usize, // how many vertices are noted
+    pub another: bool, // whether another pass is called for
+}
+
+// Side s is kept, once: its mark tells whether it is kept already.
+pub fn keep_once(t: &mut [i64], m: usize, p: Progress, s: usize) -> Progress
+    requires { ⌜ (s < m) × (m ≤ 8192) × (p .kept ≤ m) × (length (now t) ≡ 3 * m) ⌝ }
+    ensures { λ r. ⌜ ((b : List ℤ) → Busy b (now (t .entry)) m p → Does b (now (t .entry)) b (now (t .exit)) m p r (λ w. keepOnce w s)) ⌝ }
+{
+    if words::word(t, 2 * m + s) == 0 {
+        words::put(t, p.kept, s);
+        words::put(t, 2 * m + s, 1);
+        Progress {
+            kept: p.kept + 1,
+            noted: p.noted,
+            another: p.another,
+        }
+    } else {
+        p
+    }
+}
+
+// Vertex v is noted.
+pub fn note(t: &mut [i64], m: usize, p: Progress, v: usize) -> Progress
+    requires { ⌜ (m ≤ 8192) × (p .noted < m) × (length (now t) ≡ 3 * m) × (v < 1024) ⌝ }
+    ensures { λ r. ⌜ ((b : List ℤ) → v < vertexCount (stateOf b) → Busy b (now (t .entry)) m p → Does b (now (t .entry)) b (now (t .exit)) m p r (λ w. note w v)) ⌝ }
+{
+    words::put(t, m + p.noted, v);
+    Progress {
+        kept: p.kept,
+        noted: p.noted + 1,
+        another: p.another,
+    }
+}
+
+// The marks of the first k kept sides are set to zero.
+fn unmark(t: &mut [i64], m: usize, k: usize)
+    requires { ⌜ (k ≤ m) × (m ≤ 8192) × (length (now t) ≡ 3 * m) × ((i : ℕ) → i < k → wordAt (now t) i < m) ⌝ }
+    ensures { λ r. ⌜ now (t .exit) ≡ unmarked (now (t .entry)) m k ⌝ }
+{
+    let mut i = 0;
+    while i < k {
+        let s = words::word(t, i);
+        words::put(t, 2 * m + s, 0);
+        i += 1;
+    }
+}
+
+// The scratch is all zero again.
+pub fn clear(t: &mut [i64], m: usize, p: Progress)
+    requires { ⌜ Marked (now t) m p 0 × (m ≤ 8192) ⌝ }
+    ensures { λ r. ⌜ now (t .exit) ≡ zeroScratch (3 * m) ⌝ }
+{
+    unmark(t, m, p.kept);
+    scratch::wipe(t, 0, p.kept);
+    scratch::wipe(t, m, p.noted);
+}

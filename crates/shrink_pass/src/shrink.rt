@@ -1,0 +1,138 @@
+// The shrinking pass over a node: overgrown vertices of amount 0 go, then the vertices behind boundary sides of growth 0.
+
+ghost use mathlib.Core.Path.{_≡_};
+ghost use Prim.Native.Nat.{_<_};
+ghost use lib.ListN.{length};
+ghost use Rattle.graph.specs.Basic.{fold, any};
+ghost use Rattle.graph.specs.State.{sideCount, nodeCount, boundaryOf, overgrownOf};
+ghost use Rattle.graph.specs.Layout.{stateOf};
+ghost use Rattle.graph.specs.Form.{Formed, Becomes, sidesOk};
+ghost use mathlib.Core.Bool.{true};
+ghost use Rattle.pass.specs.Shrink.{emptyTops, shrinkStep, releaseStep, shrinkPass};
+ghost use Rattle.pass.specs.Ready.{Ready, Shrinkable, AfterPass};
+ghost use Rattle.shrink_pass.specs.Shrinking.{Shrinking, Busy, Does, emptied};
+use crate::keep;
+use crate::keep::Progress;
+use crate::release;
+use crate::tops;
+use graph::lists;
+use graph::rows;
+use graph::side;
+use graph::store;
+use graph::vertex;
+use graph::words;
+
+// Whether side s has growth 0 and stands at no defect.
+fn emptied(b: &[i64], s: usize) -> bool
+    requires { ⌜ Formed (now b) × (s < sideCount (stateOf (now b))) ⌝ }
+    ensures { λ r. ⌜ r ≡ emptied (stateOf (now (b .entry))) s ⌝ }
+{
+    let v = side::end(b, s);
+    let empty = side::growth(b, s) == 0;
+    empty & (vertex::defect_flag(b, v) == 0)
+}
+
+// Whether there is such a side in the boundary of node n.
+fn any_emptied(b: &[i64], n: usize) -> bool
+    requires { ⌜ Formed (now b) × (n < nodeCount (stateOf (now b))) × (sidesOk (stateOf (now b)) n ≡ true) ⌝ }
+    ensures { λ r. ⌜ r ≡ any (emptied (stateOf (now (b .entry)))) (boundaryOf (stateOf (now (b .entry))) n) ⌝ }
+{
+    let l = lists::boundary_len(b, n);
+    let mut i = 0;
+    while i < l {
+        let s = lists::boundary_side(b, n, i);
+        if emptied(b, s) {
+            return true;
+        } else {
+            i += 1;
+        }
+    }
+    false
+}
+
+// Boundary side s: its vertex is noted, or the side is kept once.
+fn shrink_side(b: &[i64], t: &mut [i64], m: usize, p: Progress, s: usize) -> Progress
+    requires { ⌜ Busy (now b) (now t) m p × (s < m) × (p .noted < m) ⌝ }
+    ensures { λ r. ⌜ Does (now (b .entry)) (now (t .entry)) (now (b .entry)) (now (t .exit)) m p r (λ w. shrinkStep w s) ⌝ }
+{
+    if emptied(b, s) {
+        let v = side::end(b, s);
+        keep::note(t, m, p, v)
+    } else {
+        keep::keep_once(t, m, p, s)
+    }
+}
+
+// The boundary of node n.
+fn shrink_scan(b: &[i64], t: &mut [i64], n: usize, m: usize, p: Progress) -> Progress
+    requires { ⌜ Busy (now b) (now t) m p × (n < nodeCount (stateOf (now b))) × Shrinkable (stateOf (now b)) n × (p .noted ≡ 0) ⌝ }
+    ensures { λ r. ⌜ Does (now (b .entry)) (now (t .entry)) (now (b .entry)) (now (t .exit)) m p r (λ w. fold shrinkStep w (boundaryOf (stateOf (now (b .entry))) n)) ⌝ }
+{
+    let l = lists::boundary_len(b, n);
+    let mut i = 0;
+    let mut q = p;
+    while i < l {
+        let s = lists::boundary_side(b, n, i);
+        q = shrink_side(b, t, m, q, s);
+        i += 1;
+    }
+    q
+}
+
+// The noted vertices are released.
+fn release_noted(b: &mut [i64], t: &mut [i64], n: usize, m: usize, p: Progress) -> Progress
+    requires { ⌜ Busy (now b) (now t) m p × (n < nodeCount (stateOf (now b))) ⌝ }
+    ensures { λ r. ⌜ Does (now (b .entry)) (now (t .entry)) (now (b .exit)) (now (t .exit)) m p r (λ w. fold (releaseStep n) w (w .noted)) ⌝ }
+{
+    let l = p.noted;
+    let mut i = 0;
+    let mut q = p;
+    while i < l {
+        let v = words::word(t, m + i);
+        q = release::release_vertex(b, t, n, m, q, v);
+        i += 1;
+    }
+    q
+}
+
+// The work of the pass over m sides, with z empty tops.
+fn shrink_work(b: &mut [i64], t: &mut [i64], n: usize, m: usize, z: usize) -> Progress
+    requires { ⌜ Ready (now b) (now t) n × Shrinkable (stateOf (now b)) n × (m ≡ sideCount (stateOf (now b))) × (z ≡ length (emptyTops (overgrownOf (stateOf (now b)) n))) ⌝ }
+    ensures { λ r. ⌜ Becomes (now (b .entry)) (now (b .exit)) (stateOf (now (b .exit))) × Shrinking (now (b .exit)) (now (t .exit)) m r (shrinkPass (stateOf (now (b .entry))) n) ⌝ }
+{
+    let p = Progress {
+        kept: 0,
+        noted: 0,
+        another: false,
+    };
+    let q = tops::drop_tops(b, t, n, m, p, z);
+    let r = shrink_scan(b, t, n, m, q);
+    release_noted(b, t, n, m, r)
+}
+
+// The same with its end: the new lists are written and the scratch is cleared.
+fn shrink_all(b: &mut [i64], t: &mut [i64], n: usize, z: usize) -> bool
+    requires { ⌜ Ready (now b) (now t) n × Shrinkable (stateOf (now b)) n × (z ≡ length (emptyTops (overgrownOf (stateOf (now b)) n))) ⌝ }
+    ensures { λ r. ⌜ AfterPass (now (b .entry)) (now (b .exit)) (now (t .entry)) (now (t .exit)) n (shrinkPass (stateOf (now (b .entry))) n) r ⌝ }
+{
+    let m = rows::side_count(b);
+    let p = shrink_work(b, t, n, m, z);
+    let o = lists::overgrown_len(b, n);
+    let another = p.another;
+    store::replace_lists(b, n, t, p.kept, o - z, 0, 0);
+    keep::clear(t, m, p);
+    another
+}
+
+// One shrinking pass over node n; whether another is called for. Where nothing goes, nothing is written.
+pub fn shrink_pass(b: &mut [i64], t: &mut [i64], n: usize) -> bool
+    requires { ⌜ Ready (now b) (now t) n × Shrinkable (stateOf (now b)) n ⌝ }
+    ensures { λ r. ⌜ AfterPass (now (b .entry)) (now (b .exit)) (now (t .entry)) (now (t .exit)) n (shrinkPass (stateOf (now (b .entry))) n) r ⌝ }
+{
+    let z = tops::empty_tops(b, n);
+    if (z != 0) | any_emptied(b, n) {
+        shrink_all(b, t, n, z)
+    } else {
+        false
+    }
+}

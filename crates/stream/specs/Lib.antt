@@ -1,0 +1,2 @@
+-- Laws that the proofs of `stream` use; the definitions stand in `records` and `run`.
+pub mod laws
