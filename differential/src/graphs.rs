@@ -1,4 +1,4 @@
-//! Random graphs within the program's limits: V 64, E 128.
+//! Random graphs within the program's limits, V 64 and E 128, and for the library within V 1,024 and E 4,096.
 use crate::random::Random;
 
 pub struct Graph {
@@ -151,9 +151,7 @@ fn some_virtuals(r: &mut Random, v: i32, share: i32) -> Vec<i32> {
     x
 }
 
-fn multigraph(r: &mut Random, w: Weights) -> Graph {
-    let v = if r.chance(85) { r.range(2, 14) } else { r.range(2, 64) };
-    let e = if r.chance(85) { r.range(1, (3 * v).min(40)) } else { r.range(1, 128) };
+fn multigraph(r: &mut Random, v: i32, e: i32, w: Weights) -> Graph {
     let edges = (0..e).map(|_| two(r, v)).map(|(a, b)| (a, b, 0)).collect();
     let mut g = Graph { kind: 3, v, edges, virtuals: some_virtuals(r, v, 20) };
     for i in 0..g.edges.len() {
@@ -163,9 +161,7 @@ fn multigraph(r: &mut Random, w: Weights) -> Graph {
 }
 
 /// One to three hubs with many leaves, some spokes doubled, some leaves joined.
-fn hub(r: &mut Random, w: Weights) -> Graph {
-    let hubs = r.range(1, 3);
-    let leaves = if r.chance(70) { r.range(2, 16) } else { r.range(17, 60) };
+fn hub(r: &mut Random, hubs: i32, leaves: i32, w: Weights) -> Graph {
     let v = hubs + leaves;
     let mut edges = vec![];
     for x in hubs..v {
@@ -181,14 +177,13 @@ fn hub(r: &mut Random, w: Weights) -> Graph {
         let (a, b) = two(r, v);
         edges.push((a, b, weight(r, w)));
     }
-    edges.truncate(128);
+    edges.truncate(if leaves > 60 { 4096 } else { 128 });
     r.shuffle(&mut edges);
     Graph { kind: 4, v, edges, virtuals: some_virtuals(r, v, 8) }
 }
 
 /// A path or a ring, with some edges doubled.
-fn chain(r: &mut Random, w: Weights) -> Graph {
-    let v = if r.chance(70) { r.range(2, 16) } else { r.range(17, 64) };
+fn chain(r: &mut Random, v: i32, w: Weights) -> Graph {
     let mut edges: Vec<_> = (1..v).map(|x| (x - 1, x, weight(r, w))).collect();
     if v > 2 && r.chance(30) {
         edges.push((v - 1, 0, weight(r, w)));
@@ -227,8 +222,7 @@ fn dense(r: &mut Random, w: Weights) -> Graph {
 }
 
 /// A tree, some edges doubled: a cluster overgrows its leaves one after another.
-fn tree(r: &mut Random, w: Weights) -> Graph {
-    let v = r.range(3, 24);
+fn tree(r: &mut Random, v: i32, w: Weights) -> Graph {
     let near = r.range(1, 8);
     let mut edges: Vec<_> = (1..v).map(|x| (r.range((x - near).max(0), x - 1), x, weight(r, w))).collect();
     for _ in 0..if r.chance(30) { r.range(1, 3) } else { 0 } {
@@ -254,11 +248,42 @@ pub fn graph(r: &mut Random) -> Graph {
             let d = r.pick(&[5, 7, 9, 11, 13, 15]);
             strip(r, d, w)
         }
-        37..=58 => multigraph(r, w),
-        59..=69 => hub(r, w),
-        70..=80 => chain(r, w),
+        37..=58 => {
+            let v = if r.chance(85) { r.range(2, 14) } else { r.range(2, 64) };
+            let e = if r.chance(85) { r.range(1, (3 * v).min(40)) } else { r.range(1, 128) };
+            multigraph(r, v, e, w)
+        }
+        59..=69 => {
+            let (hubs, leaves) = (r.range(1, 3), if r.chance(70) { r.range(2, 16) } else { r.range(17, 60) });
+            hub(r, hubs, leaves, w)
+        }
+        70..=80 => {
+            let v = if r.chance(70) { r.range(2, 16) } else { r.range(17, 64) };
+            chain(r, v, w)
+        }
         81..=88 => dense(r, w),
-        _ => tree(r, w),
+        _ => {
+            let v = r.range(3, 24);
+            tree(r, v, w)
+        }
+    }
+}
+
+/// A graph that is no patch, at the library's sizes, now and then at its limits.
+#[cfg(library)]
+pub fn any_large(r: &mut Random, w: Weights) -> Graph {
+    let v = if r.chance(10) { 1024 } else { r.range(20, 1024) };
+    match r.range(0, 9) {
+        0..=3 => {
+            let e = if r.chance(10) { 4096 } else { r.range(v / 2, 4 * v) };
+            multigraph(r, v, e, w)
+        }
+        4..=5 => {
+            let hubs = r.range(1, 9);
+            hub(r, hubs, v - hubs, w)
+        }
+        6..=7 => chain(r, v, w),
+        _ => tree(r, v, w),
     }
 }
 

@@ -1,10 +1,11 @@
-//! The exported calls of crate `host` on lent memory, at sizes that records do not have: their answers, tables, contacts and representative
-//! vertices are compared with the Rust's, and they are timed.
-use crate::graphs::{self, Weights};
+//! The exported calls of crate `host` on lent memory, at sizes that records do not have: their answers, tables, contacts, representative
+//! vertices and the words that they leave in the block are compared with the Rust's, and they are timed.
+use crate::graphs::{self, Graph, Weights};
 use crate::random::Random;
 use crate::records::{fields, kind, Record};
 use crate::speed::ROUNDS;
 use crate::streams;
+use asserting::session::Session;
 use std::time::Instant;
 
 /// include/fusion_blossom.h. A slice goes over as its address and its length.
@@ -119,24 +120,52 @@ fn circle(kind: u16, a: &[i32]) -> Vec<i64> {
     if kind == 5 { a[1..].iter().map(|&n| n as i64).collect() } else { vec![] }
 }
 
+/// The rows of a block (docs/LAYOUT.md).
+const ROWS: [&str; 19] = [
+    "header", "flags", "vertex holder", "vertex grandson", "first", "end", "growth", "holder", "grandson", "at", "weight", "class", "grow state", "parent", "dual",
+    "start", "boundary length", "overgrown length", "store",
+];
+
+/// The first word that the Rust's state fills and the block has otherwise.
+fn state_differs(block: &[i64], rust: &[Vec<i64>]) -> Option<String> {
+    let [v, e, n, l] = [0, 1, 2, 3].map(|i| block[i] as usize);
+    let lengths = [&[16, v, v, v, v][..], &[2 * e; 5], &[e], &[n; 7], &[l]].concat();
+    let mut from = 0;
+    for ((name, len), row) in ROWS.iter().zip(lengths).zip(rust) {
+        let port = &block[from..from + row.len()];
+        if let Some(i) = (0..row.len()).find(|&i| port[i] != row[i]) {
+            return Some(format!("{name} {i}: {} | {}", port[i], row[i]));
+        }
+        from += len;
+    }
+    None
+}
+
 #[derive(Default)]
 struct Counts {
     calls: usize,
     lines: usize,
     vertices: usize,
+    states: usize,
+    words: usize,
+    nodes: usize,
 }
 
-/// One stream: the first record at which port and Rust differ.
+/// One stream: the first record at which port and Rust differ. Of a large block the words are compared after some calls only.
 fn agree(s: &streams::Stream, n: &mut Counts) -> Result<(), String> {
     let mut lent = Lent::open(&s.records);
     let e = fields(&s.records[0])[1] as usize;
     let text = String::from_utf8_lossy(&s.lines);
     let mut rust = text.lines();
+    let mut session = Session::new(false);
+    session.limits = streams::LIBRARY;
+    let every = 1 + lent.block.len() / 4_000;
     for (i, rec) in s.records.iter().enumerate() {
         let (k, a) = (kind(rec), fields(rec));
         if s.said[i].outside {
             return Ok(());
         }
+        session.feed(rec);
         if k <= 3 {
             continue;
         }
@@ -155,7 +184,16 @@ fn agree(s: &streams::Stream, n: &mut Counts) -> Result<(), String> {
                 r => return Err(format!("{p} | {}", r.unwrap_or("nothing"))),
             }
         }
+        if i % every == 0 || i + 1 == s.records.len() {
+            let rows = session.rows();
+            if let Some(why) = state_differs(&lent.block, &rows) {
+                return Err(format!("after record {}: {why}", i + 1));
+            }
+            n.states += 1;
+            n.words += rows.iter().map(Vec::len).sum::<usize>();
+        }
     }
+    n.nodes = n.nodes.max(lent.block[4] as usize);
     if let Some(r) = rust.next() {
         return Err(format!("nothing | {r}"));
     }
@@ -171,29 +209,38 @@ fn agree(s: &streams::Stream, n: &mut Counts) -> Result<(), String> {
     }
 }
 
-/// Whole patches of distance 7 to 15, in several rounds.
+/// Whole patches of distance 3 to 15 in several rounds, and the other kinds of graphs, up to V 1,024 and E 4,096.
+fn a_graph(r: &mut Random) -> Graph {
+    let w = r.pick(&[Weights::Same, Weights::Even, Weights::Odd, Weights::Sparse, Weights::Zero]);
+    if r.chance(40) {
+        return graphs::any_large(r, w);
+    }
+    let d = r.pick(&[3, 5, 7, 9, 11, 13, 15]);
+    let most = [204, 73, 38, 23, 16, 11, 8][(d as usize - 3) / 2];
+    let (rounds, diagonal) = (if r.chance(50) { r.range(1, 3) } else { r.range(1, most) }, r.chance(30));
+    graphs::large(r, d, rounds, diagonal, w)
+}
+
 pub fn compare(runs: u64, seed: u64) -> bool {
-    let (mut n, mut streams, mut different, mut largest) = (Counts::default(), 0, 0, (0, 0));
+    let (mut n, mut streams, mut different, mut largest) = (Counts::default(), [0; graphs::KINDS.len()], 0, (0, 0));
     println!("{runs} streams from seed {seed}");
     for i in 0..runs {
         let one = seed.wrapping_mul(1_000_003).wrapping_add(i);
         let r = &mut Random::new(!one);
-        let w = r.pick(&[Weights::Same, Weights::Even, Weights::Odd, Weights::Sparse, Weights::Zero]);
-        let d = r.pick(&[7, 9, 11, 13, 15]);
-        let most = [38, 23, 16, 11, 8][(d as usize - 7) / 2];
-        let (rounds, diagonal) = (if r.chance(50) { r.range(1, 3) } else { r.range(1, most) }, r.chance(30));
-        let g = graphs::large(r, d, rounds, diagonal, w);
+        let g = a_graph(r);
         if g.v > 1024 || g.edges.len() > 4096 {
             continue;
         }
-        streams += 1;
-        largest = largest.max((g.v, g.edges.len()));
+        streams[g.kind] += 1;
+        largest = (largest.0.max(g.v), largest.1.max(g.edges.len()));
         if let Err(why) = agree(&streams::large(one, &g), &mut n) {
-            println!("DIFFERENT, seed {one}, distance {d}, {rounds} rounds: port | Rust: {why}");
+            println!("DIFFERENT, seed {one}, {} of V {}, E {}: port | Rust: {why}", graphs::KINDS[g.kind], g.v, g.edges.len());
             different += 1;
         }
     }
-    println!("{streams} streams, {} calls, {} lines and {} representative vertices compared, largest graph V {}, E {}", n.calls, n.lines, n.vertices, largest.0, largest.1);
+    let kinds: Vec<_> = graphs::KINDS.iter().zip(streams).filter(|k| k.1 > 0).map(|(k, n)| format!("{k} {n}")).collect();
+    println!("{} streams ({}), up to V {}, E {} and {} nodes", streams.iter().sum::<usize>(), kinds.join(", "), largest.0, largest.1, n.nodes);
+    println!("{} calls, {} lines, {} representative vertices, {} whole states of {} words compared", n.calls, n.lines, n.vertices, n.states, n.words);
     println!("different: {different}");
     different == 0
 }

@@ -316,7 +316,7 @@ pub fn opening(g: &Graph, n: i32, l: i32) -> Vec<Record> {
     out
 }
 
-/// A stream on a graph of the library's sizes: good fields for the most part, a table at the end.
+/// A stream on a graph of the library's sizes: good fields for the most part, now and then many defects first, a table at the end.
 #[cfg(library)]
 pub fn large(seed: u64, g: &Graph) -> Stream {
     let r = &mut Random::new(seed);
@@ -327,12 +327,18 @@ pub fn large(seed: u64, g: &Graph) -> Stream {
     let (n, l) = (r.range(20, 1024), if r.chance(80) { 65_536 } else { r.range(10_000, 65_536) });
     let mut view = View::default();
     let mut asked = (0, vec![]);
-    let calls = r.range(100, 800);
+    let calls = r.range(100, 800) as usize;
+    let crowd = if r.chance(15) { r.range(200, 1_500) as usize } else { 0 };
     let mut records = opening(g, n, l);
+    let opened = records.len();
     records.reverse();
-    for i in 0.. {
+    loop {
         let rec = records.pop().unwrap_or_else(|| {
-            asked = if s.records.len() > calls as usize + g.edges.len() { (10, vec![]) } else { choose(r, &TABLE[policy], &view, g.v, &asked) };
+            asked = match s.records.len() - opened {
+                i if i < crowd => (4, vec![r.range(0, g.v - 1), r.pick(&[1, 1, 2, 0])]),
+                i if i < crowd + calls => choose(r, &TABLE[policy], &view, g.v, &asked),
+                _ => (10, vec![]),
+            };
             record(asked.0, &asked.1)
         });
         let before = session.lines.len();
@@ -340,7 +346,7 @@ pub fn large(seed: u64, g: &Graph) -> Stream {
         s.records.push(rec);
         let line = String::from_utf8_lossy(&session.lines[before..]).lines().next().unwrap_or("").to_string();
         view.see(asked.0, &asked.1, &line);
-        if session.ended || i > calls as usize + g.edges.len() {
+        if session.ended || s.records.len() > opened + crowd + calls {
             break;
         }
     }

@@ -29,10 +29,10 @@ pub enum Answer {
 use Answer::*;
 
 pub struct Card {
-    sz: Sizes,
-    module: DualModuleSerial,
+    pub(super) sz: Sizes,
+    pub(super) module: DualModuleSerial,
     interface: DualModuleInterfacePtr,
-    nodes: Vec<DualNodePtr>,
+    pub(super) nodes: Vec<DualNodePtr>,
     /// a pass of the last call took off an overgrown vertex with an edge of weight 0, and the Rust called for no other
     pub mended: bool,
 }

@@ -205,6 +205,11 @@ impl Session {
         self.fields = a;
     }
 
+    /// The state, as the rows of a block.
+    pub fn rows(&self) -> Vec<Vec<i64>> {
+        self.card.as_ref().map_or(vec![], Card::rows)
+    }
+
     /// The representative vertex of every node.
     pub fn representatives(&self) -> Vec<usize> {
         self.card.as_ref().map_or(vec![], Card::representatives)

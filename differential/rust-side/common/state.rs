@@ -1,0 +1,90 @@
+//! The Rust's state as the rows of a block (docs/LAYOUT.md).
+use super::card::Card;
+use super::dual_module::*;
+use super::dual_module_serial::*;
+
+fn number(p: &DualNodePtr) -> i64 {
+    p.read_recursive().index as i64
+}
+
+/// The node behind a pointer, as its number + 1, or 0.
+fn stored(p: &Option<DualNodeInternalWeak>) -> i64 {
+    p.as_ref().map_or(0, |p| number(&p.upgrade_force().read_recursive().origin.upgrade_force()) + 1)
+}
+
+impl Card {
+    /// Flags, holders, grandsons, and the sides of each vertex in the Rust's order.
+    fn vertex_rows(&self) -> [Vec<i64>; 5] {
+        let [mut flags, mut holder, mut grandson, mut first, mut at] = [const { vec![] }; 5];
+        for p in &self.module.vertices {
+            let v = p.read_recursive_force();
+            let fresh = v.timestamp == self.module.active_timestamp;
+            flags.push(i64::from(v.is_virtual) + 2 * i64::from(fresh && v.is_defect));
+            holder.push(if fresh { stored(&v.propagated_dual_node) } else { 0 });
+            grandson.push(if fresh { stored(&v.propagated_grandson_dual_node) } else { 0 });
+            first.push(at.len() as i64);
+            for e in &v.edges {
+                let e = e.upgrade_force();
+                let e = e.read_recursive_force();
+                at.push(2 * e.edge_index as i64 + i64::from(e.left != p.downgrade()));
+            }
+        }
+        [flags, holder, grandson, first, at]
+    }
+
+    /// Ends, growths, holders and grandsons of the sides, and the weights.
+    fn edge_rows(&self) -> [Vec<i64>; 5] {
+        let [mut end, mut growth, mut holder, mut grandson, mut weight] = [const { vec![] }; 5];
+        for e in &self.module.edges {
+            let e = e.read_recursive_force();
+            let fresh = i64::from(e.timestamp == self.module.active_timestamp);
+            for v in [&e.left, &e.right] {
+                end.push(v.upgrade_force().read_recursive_force().vertex_index as i64);
+            }
+            growth.extend([e.left_growth, e.right_growth].map(|g| fresh * g as i64));
+            holder.extend([&e.left_dual_node, &e.right_dual_node].map(|n| fresh * stored(n)));
+            grandson.extend([&e.left_grandson_dual_node, &e.right_grandson_dual_node].map(|n| fresh * stored(n)));
+            weight.push(e.weight as i64);
+        }
+        [end, growth, holder, grandson, weight]
+    }
+
+    /// Class, grow state, parent, dual variable and lists of every node.
+    fn node_rows(&self) -> [Vec<i64>; 8] {
+        let mut rows = [const { vec![] }; 8];
+        for p in &self.nodes {
+            let internal = self.module.get_dual_node_internal_ptr(p);
+            let i = internal.read_recursive();
+            let n = p.read_recursive();
+            let class = match &n.class {
+                DualNodeClass::DefectVertex { defect_index } => *defect_index as i64,
+                DualNodeClass::Blossom { nodes_circle, .. } => self.sz.v as i64 + number(&nodes_circle[0].upgrade_force()),
+            };
+            let state = match n.grow_state {
+                DualNodeGrowState::Stay => 0,
+                DualNodeGrowState::Grow => 1,
+                DualNodeGrowState::Shrink => 2,
+            };
+            let parent = n.parent_blossom.as_ref().map_or(0, |b| number(&b.upgrade_force()) + 1);
+            let start = rows[7].len() as i64;
+            let words = [class, state, parent, i.dual_variable as i64, start, i.boundary.len() as i64, i.overgrown_stack.len() as i64];
+            for (row, x) in rows.iter_mut().zip(words) {
+                row.push(x);
+            }
+            rows[7].extend(i.boundary.iter().map(|(left, e)| 2 * e.upgrade_force().read_recursive_force().edge_index as i64 + i64::from(!left)));
+            rows[7].extend(i.overgrown_stack.iter().map(|(v, a)| 1024 * *a as i64 + v.upgrade_force().read_recursive_force().vertex_index as i64));
+        }
+        rows
+    }
+
+    /// The rows of a block, each with as many words as the state fills.
+    pub fn rows(&self) -> Vec<Vec<i64>> {
+        let s = &self.sz;
+        let [flags, vertex_holder, vertex_grandson, first, at] = self.vertex_rows();
+        let [end, growth, holder, grandson, weight] = self.edge_rows();
+        let header = vec![s.v as i64, s.e as i64, s.n as i64, s.l, self.nodes.len() as i64];
+        let mut rows = vec![header, flags, vertex_holder, vertex_grandson, first, end, growth, holder, grandson, at, weight];
+        rows.extend(self.node_rows());
+        rows
+    }
+}
