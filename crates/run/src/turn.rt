@@ -114,7 +114,7 @@ fn blossom(b: &mut [i64], t: &mut [i64], body: &[u8]) -> Answer
 }
 
 // The call of a body of this kind, which is not one that only reads.
-fn call(b: &mut [i64], t: &mut [i64], kind: usize, body: &[u8]) -> Answer
+pub fn call(b: &mut [i64], t: &mut [i64], kind: usize, body: &[u8]) -> Answer
     requires { ⌜ Opened (now b) (now t) × OfKind (now body) kind × (4 ≤ kind) × (kind ≡ 10 → ⊥) × (kind ≡ 12 → ⊥) ⌝ }
     ensures { λ r. ⌜ Answers (now (b .entry)) (now (b .exit)) r (callIn (now (body .entry))) × (now (t .exit) ≡ now (t .entry)) ⌝ }
 {

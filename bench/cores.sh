@@ -1,0 +1,16 @@
+#!/bin/sh
+# Builds target/staticlib/libcores.a, which makes calls with no soundness test before each (cores/src/lib.rt). Needs the Rattle toolchain.
+set -e
+here=$(cd "$(dirname "$0")" && pwd)
+root=$(dirname "$here")
+work=$(mktemp -d)
+trap 'rm -rf "$work"' EXIT
+cp -r "$root/crates" "$root/crates.txt" "$work"
+[ -d "$root/target" ] && cp -r "$root/target" "$work"
+git init -q "$work"
+cp -r "$here/cores" "$work/crates/cores"
+echo "cores: graph memory pass length growth calls blossom reachable records run" >> "$work/crates.txt"
+(cd "$work" && rt staticlib cores > build.log 2>&1) || { tail "$work/build.log"; exit 1; }
+mkdir -p "$root/target/staticlib"
+cp "$work/target/staticlib/libcores.a" "$root/target/staticlib/libcores.a"
+echo "$root/target/staticlib/libcores.a"

@@ -1,0 +1,2 @@
+-- Laws that the proofs of `cores` use; the definitions stand in the crates below.
+pub mod laws

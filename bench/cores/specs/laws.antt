@@ -1,0 +1,2 @@
+-- Laws of an opened block between calls.
+pub mod Cores
