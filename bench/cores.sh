@@ -1,5 +1,6 @@
 #!/bin/sh
-# Builds target/staticlib/libcores.a, which makes calls with no soundness test before each (cores/src/lib.rt). Needs the Rattle toolchain.
+# Proves the crate cores/ and writes target/staticlib/libcores.a, which makes calls with no soundness test before each, for timing. Its files
+# end in .txt because a file of Rattle in the repository belongs to a crate of crates.txt. Needs the Rattle toolchain.
 set -e
 here=$(cd "$(dirname "$0")" && pwd)
 root=$(dirname "$here")
@@ -9,6 +10,7 @@ cp -r "$root/crates" "$root/crates.txt" "$work"
 [ -d "$root/target" ] && cp -r "$root/target" "$work"
 git init -q "$work"
 cp -r "$here/cores" "$work/crates/cores"
+find "$work/crates/cores" -name '*.txt' | while read -r f; do mv "$f" "${f%.txt}"; done
 echo "cores: graph memory pass length growth calls blossom reachable records run" >> "$work/crates.txt"
 (cd "$work" && rt staticlib cores > build.log 2>&1) || { tail "$work/build.log"; exit 1; }
 mkdir -p "$root/target/staticlib"

@@ -1,5 +1,6 @@
 // Links the archive of crate `stream`: ARCHIVE names it, by default target/staticlib/libstream.a of the repository. LIBRARY names
-// the archive of crate `host`, the calls on lent memory; without it the library is neither compared nor measured.
+// the archive of crate `host`, the calls on lent memory; without it the library is neither compared nor measured. CORES names the
+// archive that bench/cores.sh makes, for measuring calls without the test of the memory.
 use std::{env, path::PathBuf};
 
 fn main() {
@@ -15,5 +16,12 @@ fn main() {
         println!("cargo:rerun-if-changed={library}");
         println!("cargo:rustc-link-arg={library}");
         println!("cargo:rustc-cfg=library");
+    }
+    println!("cargo:rerun-if-env-changed=CORES");
+    println!("cargo:rustc-check-cfg=cfg(cores)");
+    if let Ok(cores) = env::var("CORES") {
+        println!("cargo:rerun-if-changed={cores}");
+        println!("cargo:rustc-link-arg={cores}");
+        println!("cargo:rustc-cfg=cores");
     }
 }

@@ -1,7 +1,8 @@
 # Builds the archive of crate `stream` and the bench; sets `bench` to its program. Read by the other scripts; those that set
-# `with_library` get the calls on lent memory too.
+# `with_library` get the calls on lent memory too, and those that set `with_cores` the calls without the test of the memory.
 #   ARCHIVE         another archive with the call cardrun_lines (default: what `rt staticlib stream` writes)
 #   LIBRARY         another archive with the calls on lent memory (default: what `rt staticlib host` writes)
+#   CORES           another archive of bench/cores (default: what bench/cores.sh makes)
 #   FB_SRC          the folder of the three Rust files (default: ../shared/docs/src beside the repository)
 #   CARGO_REGISTRY  where Debian's librust packages put their sources
 set -e
@@ -25,6 +26,12 @@ if [ -n "$with_library" ]; then
     export LIBRARY
 else
     unset LIBRARY
+fi
+if [ -n "$with_cores" ]; then
+    [ -n "$CORES" ] || CORES=$("$root/bench/cores.sh")
+    export CORES
+else
+    unset CORES
 fi
 (cd "$here" && cargo build --quiet --release --offline --config 'source.crates-io.replace-with="debian"' --config "source.debian.directory=\"$registry\"")
 bench=$CARGO_TARGET_DIR/release/differential

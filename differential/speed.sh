@@ -1,6 +1,6 @@
 #!/bin/sh
 # speed.sh: measures port and Rust and writes docs/SPEED.md.
-with_library=yes
+with_library=yes with_cores=yes
 here=$(cd "$(dirname "$0")" && pwd)
 . "$here/build.sh"
 out=$root/docs/SPEED.md

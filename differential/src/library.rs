@@ -26,6 +26,12 @@ mod c {
         pub fn fb_representative_vertex(b: *const i64, bl: usize, t: *const i64, tl: usize, node: usize, a: *mut usize, al: usize) -> usize;
         pub fn fb_read_table(b: *const i64, bl: usize, t: *const i64, tl: usize, list: *mut i64, ll: usize, a: *mut usize, al: usize) -> usize;
         pub fn fb_contacts(b: *const i64, bl: usize, t: *const i64, tl: usize, list: *mut i64, ll: usize, a: *mut usize, al: usize) -> usize;
+        /// bench/cores: opens a graph and makes the calls of records, without a test of the memory before each; how many were not refused
+        #[cfg(cores)]
+        pub fn core_calls(
+            b: *mut i64, bl: usize, t: *mut i64, tl: usize, v: usize, e: usize, n: usize, l: usize, edges: *const i64, el: usize, virtuals: *const i64, vl: usize,
+            records: *const u8, rl: usize,
+        ) -> usize;
     }
 }
 
@@ -36,14 +42,22 @@ struct Lent {
     answer: [usize; 5],
 }
 
+/// What the records before the first call give: V, E, N, L, the edges and the virtual vertices.
+fn given(records: &[Record]) -> ([usize; 4], Vec<i64>, Vec<i64>) {
+    let s = fields(&records[0]);
+    let of_kind = |k: u16| records.iter().filter(|r| kind(r) == k).flat_map(fields).map(i64::from).collect();
+    ([0, 1, 2, 3].map(|i| s[i] as usize), of_kind(2), of_kind(3))
+}
+
+fn memory([v, e, n, l]: [usize; 4]) -> (Vec<i64>, Vec<i64>) {
+    (vec![0; 16 + 4 * v + 11 * e + 7 * n + l], vec![0; 6 * e])
+}
+
 impl Lent {
     /// Opens the graph that the records before the first call give.
     fn open(records: &[Record]) -> Self {
-        let s = fields(&records[0]).iter().map(|&x| x as usize).collect::<Vec<_>>();
-        let (v, e, n, l) = (s[0], s[1], s[2], s[3]);
-        let edges: Vec<i64> = records.iter().filter(|r| kind(r) == 2).flat_map(fields).map(i64::from).collect();
-        let virtuals: Vec<i64> = records.iter().filter(|r| kind(r) == 3).flat_map(fields).map(i64::from).collect();
-        let (mut block, scratch, mut answer) = (vec![0; 16 + 4 * v + 11 * e + 7 * n + l], vec![0; 6 * e], [0; 5]);
+        let (sizes, edges, virtuals) = given(records);
+        let ([v, e, n, l], (mut block, scratch), mut answer) = (sizes, memory(sizes), [0; 5]);
         unsafe {
             c::fb_open(
                 block.as_mut_ptr(), block.len(), scratch.as_ptr(), scratch.len(), edges.as_ptr(), edges.len(), virtuals.as_ptr(), virtuals.len(), v, e, n, l,
@@ -261,45 +275,70 @@ macro_rules! rust_time {
     }};
 }
 
-/// Seconds for all calls, seconds for as many readings of a representative vertex on the block that they leave, and the cases of the answers.
-fn port_time(records: &[Record], calls: &[(u16, Vec<i32>, Vec<i64>)]) -> (f64, f64, Vec<usize>) {
+/// Seconds for all calls, the cases of the answers, and the block that they leave.
+fn port_time(records: &[Record], calls: &[(u16, Vec<i32>, Vec<i64>)]) -> (f64, Vec<usize>, Vec<i64>) {
     let mut lent = Lent::open(records);
     let mut codes = vec![0; calls.len()];
     let t = Instant::now();
     for ((k, a, circle), code) in calls.iter().zip(codes.iter_mut()) {
         *code = lent.ask(*k, a, circle);
     }
-    let all = t.elapsed().as_secs_f64();
-    let t = Instant::now();
-    for _ in calls {
-        lent.representative(0);
-    }
-    (all, t.elapsed().as_secs_f64(), codes)
+    (t.elapsed().as_secs_f64(), codes, lent.block)
 }
 
-/// Times the library's calls, each with the test of block and scratch, against the Rust's methods.
+/// Seconds for the same calls without the test before each, and the block that they leave.
+#[cfg(cores)]
+fn cores_time(records: &[Record], calls: &[Record]) -> (f64, Vec<i64>) {
+    let (sizes, edges, virtuals) = given(records);
+    let ([v, e, n, l], bytes) = (sizes, calls.concat());
+    let run = |part: &[u8]| {
+        let (mut block, mut scratch) = memory(sizes);
+        let t = Instant::now();
+        let made = unsafe {
+            c::core_calls(
+                block.as_mut_ptr(), block.len(), scratch.as_mut_ptr(), scratch.len(), v, e, n, l, edges.as_ptr(), edges.len(), virtuals.as_ptr(), virtuals.len(),
+                part.as_ptr(), part.len(),
+            )
+        };
+        (t.elapsed().as_secs_f64(), made, block)
+    };
+    let (opening, _, _) = run(&[]);
+    let (all, made, block) = run(&bytes);
+    assert_eq!(made, calls.len(), "a call is refused");
+    (all - opening, block)
+}
+
+#[cfg(not(cores))]
+fn cores_time(_: &[Record], _: &[Record]) -> (f64, Vec<i64>) {
+    panic!("CORES names no archive: bench/cores.sh makes one")
+}
+
+/// Times the library's calls, with the test of block and scratch before each and without, against the Rust's methods.
 pub fn speed() {
     println!("\n## Library calls on lent memory");
-    println!("\nDecoding runs again, through the exported calls of crate `host`, without records and lines. Each call of the port tests block and scratch first, soundness included; the Rust has no such test.");
-    println!("What the test costs shows in the reading of a representative vertex, on the block that the run leaves: it tests, and then takes a few steps. Calls without the test are not exported, and not measured.");
-    println!("\n| graph | words of the block | calls | port, ns a call | port, a representative vertex | Rust, ns a call | Rust without locks | port / Rust | port / Rust without locks |\n|---|---|---|---|---|---|---|---|---|");
+    println!("\nDecoding runs again, without lines. **With the test**: the exported calls of crate `host`, each of which tests block and scratch first, soundness included; the Rust has no such test.");
+    println!("**Without**: the same calls on a block that was opened in the same call (bench/cores, proved like the rest, for measuring only), with reading each call from its record and less the time of the opening. Both leave the same words, which is checked.");
+    println!("\n| graph | words of the block | calls | with the test, ns a call | without | Rust | Rust without locks | with / Rust | without / Rust | without / Rust without locks |\n|---|---|---|---|---|---|---|---|---|---|");
     let r = &mut Random::new(8);
     for (d, rounds, n, l) in [(7, 1, 32, 2_000), (11, 1, 64, 4_000), (15, 1, 64, 8_000), (7, 7, 64, 8_000), (11, 11, 128, 40_000), (15, 8, 128, 50_000)] {
         let g = graphs::large(r, d, rounds, false, Weights::Even);
         let records = streams::decoding(d as u64, &g, 2_000, n, l);
-        let calls: Vec<_> = records.iter().filter(|r| !matches!(kind(r), 0..=3 | 10 | 12)).map(|r| (kind(r), fields(r), circle(kind(r), &fields(r)))).collect();
+        let made: Vec<_> = records.iter().filter(|r| !matches!(kind(r), 0..=3 | 10 | 12)).cloned().collect();
+        let calls: Vec<_> = made.iter().map(|r| (kind(r), fields(r), circle(kind(r), &fields(r)))).collect();
         let mut best = [f64::MAX; 4];
         for _ in 0..ROUNDS {
-            let (all, test, codes) = port_time(&records, &calls);
+            let (with, codes, block) = port_time(&records, &calls);
             assert!(!codes.contains(&11), "a call is refused");
-            let times = [all, test, rust_time!(release, records, calls, &codes), rust_time!(unlocked, records, calls, &codes)];
+            let (without, left) = cores_time(&records, &made);
+            assert!(left == block, "the blocks differ");
+            let times = [with, without, rust_time!(release, records, calls, &codes), rust_time!(unlocked, records, calls, &codes)];
             for (b, t) in best.iter_mut().zip(times) {
                 *b = b.min(t);
             }
         }
-        let [all, test, locks, bare] = best.map(|s| s * 1e9 / calls.len() as f64);
+        let [with, without, locks, bare] = best.map(|s| s * 1e9 / calls.len() as f64);
         let words = Lent::open(&records).block.len();
         print!("| distance {d}, {rounds} round{}: V {}, E {} | {words} | {} ", if rounds > 1 { "s" } else { "" }, g.v, g.edges.len(), calls.len());
-        println!("| {all:.0} | {test:.0} | {locks:.0} | {bare:.0} | {:.2} | {:.2} |", all / locks, all / bare);
+        println!("| {with:.0} | {without:.0} | {locks:.0} | {bare:.0} | {:.2} | {:.2} | {:.2} |", with / locks, without / locks, without / bare);
     }
 }

@@ -19,7 +19,6 @@ ghost use Rattle.calls.specs.Insert.{noCircle, blossomRefusal, prepareStep, joi
 ghost use Rattle.blossom.specs.Circle.{Joinable, JoinedIn, joinedIn};
 ghost use Rattle.calls.specs.Reply.{Usable, RepliesInsert};
 use calls::refuse;
-use graph::insert;
 use graph::lists;
 use graph::node;
 use graph::rows;
@@ -27,6 +26,7 @@ use graph::side;
 use graph::words;
 use length::Answer;
 use pass::scratch;
+use store::insert;
 
 // ---- what refuses it
 

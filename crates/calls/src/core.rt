@@ -13,11 +13,11 @@ ghost use Rattle.calls.specs.Reply.{Usable, Steady, along, Replies};
 ghost use Rattle.growth.specs.Moving.{Prepared};
 ghost use Rattle.calls.specs.Calls.{setGrowState, prepareDualNodeGrowth, maxUpdateLength, growPrepared, growToward, growDualNode, clear};
 use crate::refuse;
-use graph::clear;
 use graph::node;
 use graph::words;
 use length::Answer;
 use length::scan;
+use store::clear;
 
 // Node n gets the grow state x.
 pub fn set_grow_state(b: &mut [i64], n: usize, x: usize) -> Answer

@@ -14,7 +14,6 @@ ghost use Rattle.pass.specs.Scratch.{zeroScratch, Holding};
 ghost use Rattle.calls.specs.Insert.{occupied, defectRefusal, holdStep, insertDefect};
 ghost use Rattle.calls.specs.Reply.{Usable, RepliesInsert};
 use crate::refuse;
-use graph::insert;
 use graph::rows;
 use graph::side;
 use graph::sides;
@@ -22,6 +21,7 @@ use graph::vertex;
 use graph::words;
 use length::Answer;
 use pass::scratch;
+use store::insert;
 
 // Whether some side at vertex v is held.
 fn held_side(b: &[i64], v: usize) -> bool

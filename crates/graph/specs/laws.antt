@@ -1,17 +1,13 @@
 -- Laws about the definitions of `graph`.
-pub mod Clear
 pub mod Count
 pub mod Cut
 pub mod Field
 pub mod Form
-pub mod Insert
 pub mod List
 pub mod Members
-pub mod Move
 pub mod Number
 pub mod Opened
 pub mod Place
-pub mod Replace
 pub mod Row
 pub mod Scan
 pub mod Shape
@@ -20,7 +16,6 @@ pub mod Size
 pub mod Sounds
 pub mod Stamp
 pub mod State
-pub mod Store
 pub mod Sums
 pub mod Table
 pub mod Top

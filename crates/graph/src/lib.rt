@@ -8,9 +8,6 @@ pub mod edge; // fields of edges
 pub mod node; // fields of nodes
 pub mod dual_node; // a node as a value
 pub mod sizes; // the sizes in range, and the lengths that they fix
-pub mod clear; // clearing a block
 pub mod sides; // the sides at a vertex
 pub mod lists; // the lists of a node
-pub mod store; // replacing the lists of a node
-pub mod insert; // one more node
 pub mod top; // the top of an overgrown stack, and a node read as a value

@@ -127,7 +127,7 @@ fn finish(b: &mut [i64], t: &mut [i64], n: usize, m: usize, p: GrowProgress)
     ensures { λ r. ⌜ Becomes (now (b .entry)) (now (b .exit)) (finishPass (workIn (now (b .entry)) (now (t .entry)) n m p) n) × (now (t .exit) ≡ zeroScratch (3 * m)) ⌝ }
 {
     let o = graph::lists::overgrown_len(b, n);
-    graph::store::replace_lists(b, n, t, p.kept, o, 2 * m, p.pushed);
+    store::replace::replace_lists(b, n, t, p.kept, o, 2 * m, p.pushed);
     scratch::wipe(t, 0, p.kept);
     scratch::wipe(t, m, p.noted);
     scratch::wipe(t, 2 * m, p.pushed);

@@ -27,7 +27,7 @@ fn clear_scratch(t: &mut [i64])
 pub fn insert_defect(b: &mut [i64], t: &mut [i64], v: usize, x: usize) -> Answer
     ensures { λ r. ⌜ DefectCalled (now (b .entry)) (now (t .entry)) v x (now (b .exit)) (now (t .exit)) r ⌝ }
 {
-    let k = memory::refuse::refusal(b, t);
+    let k = sound::refuse::refusal(b, t);
     if k != 0 {
         return Answer::Refused(k);
     }
@@ -43,7 +43,7 @@ pub fn insert_defect(b: &mut [i64], t: &mut [i64], v: usize, x: usize) -> Answer
 pub fn insert_blossom(b: &mut [i64], t: &mut [i64], x: usize, circle: &[i64]) -> Answer
     ensures { λ r. ⌜ BlossomCalled (now (b .entry)) (now (t .entry)) x (now (circle .entry)) (now (b .exit)) (now (t .exit)) r ⌝ }
 {
-    let k = memory::refuse::refusal(b, t);
+    let k = sound::refuse::refusal(b, t);
     if k != 0 {
         return Answer::Refused(k);
     }
@@ -59,7 +59,7 @@ pub fn insert_blossom(b: &mut [i64], t: &mut [i64], x: usize, circle: &[i64]) ->
 pub fn set_grow_state(b: &mut [i64], t: &[i64], n: usize, x: usize) -> Answer
     ensures { λ r. ⌜ StateCalled (now (b .entry)) (now (t .entry)) n x (now (b .exit)) r ⌝ }
 {
-    let k = memory::refuse::refusal(b, t);
+    let k = sound::refuse::refusal(b, t);
     if k != 0 {
         return Answer::Refused(k);
     }
@@ -74,7 +74,7 @@ pub fn set_grow_state(b: &mut [i64], t: &[i64], n: usize, x: usize) -> Answer
 pub fn prepare_dual_node_growth(b: &mut [i64], t: &mut [i64], n: usize, d: usize) -> Answer
     ensures { λ r. ⌜ PrepareCalled (now (b .entry)) (now (t .entry)) n d (now (b .exit)) (now (t .exit)) r ⌝ }
 {
-    let k = memory::refuse::refusal(b, t);
+    let k = sound::refuse::refusal(b, t);
     if k != 0 {
         return Answer::Refused(k);
     }
@@ -96,7 +96,7 @@ pub fn compute_maximum_update_length_dual_node(
 ) -> Answer
     ensures { λ r. ⌜ LengthCalled (now (b .entry)) (now (t .entry)) n d first (now (b .exit)) (now (t .exit)) r ⌝ }
 {
-    let k = memory::refuse::refusal(b, t);
+    let k = sound::refuse::refusal(b, t);
     if k != 0 {
         return Answer::Refused(k);
     }
@@ -115,7 +115,7 @@ pub fn compute_maximum_update_length_dual_node(
 pub fn grow_dual_node(b: &mut [i64], t: &mut [i64], n: usize, length: i64) -> Answer
     ensures { λ r. ⌜ GrowCalled (now (b .entry)) (now (t .entry)) n length (now (b .exit)) (now (t .exit)) r ⌝ }
 {
-    let k = memory::refuse::refusal(b, t);
+    let k = sound::refuse::refusal(b, t);
     if k != 0 {
         return Answer::Refused(k);
     }
@@ -134,7 +134,7 @@ pub fn grow_dual_node(b: &mut [i64], t: &mut [i64], n: usize, length: i64) -> An
 pub fn advance(b: &mut [i64], t: &mut [i64], n: usize) -> Answer
     ensures { λ r. ⌜ AdvanceCalled (now (b .entry)) (now (t .entry)) n (now (b .exit)) (now (t .exit)) r ⌝ }
 {
-    let k = memory::refuse::refusal(b, t);
+    let k = sound::refuse::refusal(b, t);
     if k != 0 {
         return Answer::Refused(k);
     }
@@ -153,7 +153,7 @@ pub fn advance(b: &mut [i64], t: &mut [i64], n: usize) -> Answer
 pub fn clear(b: &mut [i64], t: &[i64]) -> Answer
     ensures { λ r. ⌜ ClearCalled (now (b .entry)) (now (t .entry)) (now (b .exit)) r ⌝ }
 {
-    let k = memory::refuse::refusal(b, t);
+    let k = sound::refuse::refusal(b, t);
     if k != 0 {
         return Answer::Refused(k);
     }
@@ -164,7 +164,7 @@ pub fn clear(b: &mut [i64], t: &[i64]) -> Answer
 pub fn representative_vertex(b: &[i64], t: &[i64], n: usize) -> Answer
     ensures { λ r. ⌜ VertexRead (now (b .entry)) (now (t .entry)) n r ⌝ }
 {
-    let k = memory::refuse::refusal(b, t);
+    let k = sound::refuse::refusal(b, t);
     if k != 0 {
         return Answer::Refused(k);
     }
@@ -178,7 +178,7 @@ pub fn representative_vertex(b: &[i64], t: &[i64], n: usize) -> Answer
 pub fn read_table(b: &[i64], t: &[i64], list: &mut [i64]) -> Answer
     ensures { λ r. ⌜ TableRead (now (b .entry)) (now (t .entry)) (now (list .entry)) (now (list .exit)) r ⌝ }
 {
-    let k = memory::refuse::list_refusal(b, t, list.len(), 2);
+    let k = sound::refuse::list_refusal(b, t, list.len(), 2);
     if k != 0 {
         return Answer::Refused(k);
     }
@@ -196,7 +196,7 @@ pub struct Counted {
 pub fn contacts(b: &[i64], t: &[i64], list: &mut [i64]) -> Counted
     ensures { λ r. ⌜ ContactsRead (now (b .entry)) (now (t .entry)) (now (list .entry)) (now (list .exit)) (r .answer) × ContactsCounted (now (b .entry)) (now (t .entry)) (now (list .entry)) (r .count) ⌝ }
 {
-    let k = memory::refuse::list_refusal(b, t, list.len(), 1);
+    let k = sound::refuse::list_refusal(b, t, list.len(), 1);
     if k != 0 {
         return Counted {
             answer: Answer::Refused(k),

@@ -78,25 +78,25 @@ fn with(name: &[u8], i: usize, x: i64)
     let mut b = sample();
     b[i] = x;
     let t = [0i64; 6];
-    tell(name, memory::refuse::refusal(&b, &t));
+    tell(name, sound::refuse::refusal(&b, &t));
 }
 
 fn lengths() {
     let b = sample();
     let t = [0i64; 7];
-    tell(b"a sound block", memory::refuse::refusal(&b, &t[0..6]));
+    tell(b"a sound block", sound::refuse::refusal(&b, &t[0..6]));
     tell(
         b"the block a word short",
-        memory::refuse::refusal(&b[0..52], &t[0..6]),
+        sound::refuse::refusal(&b[0..52], &t[0..6]),
     );
     tell(
         b"the scratch a word short",
-        memory::refuse::refusal(&b, &t[0..5]),
+        sound::refuse::refusal(&b, &t[0..5]),
     );
-    tell(b"the scratch a word long", memory::refuse::refusal(&b, &t));
+    tell(b"the scratch a word long", sound::refuse::refusal(&b, &t));
     tell(
         b"no block at all",
-        memory::refuse::refusal(&b[0..0], &t[0..6]),
+        sound::refuse::refusal(&b[0..0], &t[0..6]),
     );
 }
 
@@ -108,7 +108,7 @@ fn longer() {
     b[2] = 2;
     b[3] = 4;
     let t = [0i64; 6];
-    tell(b"the block a word long", memory::refuse::refusal(&b, &t));
+    tell(b"the block a word long", sound::refuse::refusal(&b, &t));
 }
 
 fn sizes() {
@@ -192,7 +192,7 @@ fn pair(name: &[u8], x: i64, y: i64) {
     b[49] = x;
     b[50] = y;
     let t = [0i64; 6];
-    tell(name, memory::refuse::refusal(&b, &t));
+    tell(name, sound::refuse::refusal(&b, &t));
 }
 
 // How many words of b are not those of the sound block.

@@ -1,10 +1,7 @@
--- Laws of opening and of the tests of lent memory.
+-- Laws of opening.
 pub mod Blank
-pub mod Block
 pub mod Join
-pub mod Memory
 pub mod Open
 pub mod OpenSteps
 pub mod OpenedBlock
-pub mod Pack
 pub mod Write

@@ -18,9 +18,9 @@ use crate::tops;
 use graph::lists;
 use graph::rows;
 use graph::side;
-use graph::store;
 use graph::vertex;
 use graph::words;
+use store::replace;
 
 // Whether side s has growth 0 and stands at no defect.
 fn emptied(b: &[i64], s: usize) -> bool
@@ -119,7 +119,7 @@ fn shrink_all(b: &mut [i64], t: &mut [i64], n: usize, z: usize) -> bool
     let p = shrink_work(b, t, n, m, z);
     let o = lists::overgrown_len(b, n);
     let another = p.another;
-    store::replace_lists(b, n, t, p.kept, o - z, 0, 0);
+    replace::replace_lists(b, n, t, p.kept, o - z, 0, 0);
     keep::clear(t, m, p);
     another
 }

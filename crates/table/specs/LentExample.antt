@@ -8,7 +8,7 @@ use lib.IntN.{ℤ, pos, negsuc}
 use Rattle.graph.specs.Open.{Edge}
 use Rattle.graph.specs.Opening.{joined, zeros, edgesFrom, virtualsFrom, openedWords}
 use Rattle.graph.specs.laws.Members.{clash}
-use Rattle.memory.specs.laws.Block.{block-formed}
+use Rattle.sound.specs.laws.Block.{block-formed}
 use Rattle.length.specs.declared.Answer.the-variants.{Done, Node, Refused}
 use Rattle.calls.specs.Calls.{InsertDefect, InsertBlossom}
 use Rattle.calls.specs.Examples.{edge}

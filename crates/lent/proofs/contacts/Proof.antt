@@ -1,7 +1,7 @@
 use native.Mathlib.Omega.{arith}
 use mathlib.Core.Path.{sym, _∙_}
 use lib.ListN.{length}
-use Rattle.memory.specs.laws.Memory.{list-accepted}
+use Rattle.sound.specs.laws.Memory.{list-accepted}
 use Rattle.lent.specs.laws.Called.{list-refused, list-filled, count-none, count-so}
 use borrow.Author.Needs.{needs}
 use Rattle.lent.proofs.contacts.Statement.{statement}

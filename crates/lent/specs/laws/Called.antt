@@ -14,7 +14,7 @@ use Rattle.graph.specs.State.{State, up, down, stay, growing, edgeCount, nodeCo
 use Rattle.graph.specs.Layout.{stateOf, memoryRefusal}
 use Rattle.graph.specs.Form.{Formed}
 use Rattle.graph.specs.laws.Members.{by-test, clash}
-use Rattle.memory.specs.laws.Memory.{Lendable, memory-accepted}
+use Rattle.sound.specs.laws.Memory.{Lendable, memory-accepted}
 use Rattle.graph.specs.laws.Form.{laid-shape}
 use Rattle.graph.specs.laws.Row.{becomes-none}
 use Rattle.pass.specs.Scratch.{zeroScratch, wiped}

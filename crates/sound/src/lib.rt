@@ -1,0 +1,7 @@
+// The tests of lent memory: refusals 1 and 2. The definitions are in crate `graph`.
+
+pub mod sound_graph; // the soundness test of the graph, the vertices and the sides
+pub mod sound_lists; // the soundness test of the nodes' lists
+pub mod sound_nodes; // the soundness test of the nodes
+pub mod sound; // the soundness test of a block
+pub mod refuse; // what a call asks of lent memory

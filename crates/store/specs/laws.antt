@@ -1,0 +1,6 @@
+-- Laws of the writes that change the nodes and their lists.
+pub mod Clear
+pub mod Insert
+pub mod Move
+pub mod Replace
+pub mod Store

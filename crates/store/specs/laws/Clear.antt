@@ -1,0 +1,145 @@
+-- A block cleared: its rows, the state that it then holds, and its form.
+use Prim.Native.Nat.{ℕ, zero, _-_, _/_, _%_, _≤_, _<_}
+use native.Mathlib.Omega.{arith}
+use mathlib.Core.Path.{_≡_, refl, sym, ap, _∙_}
+use mathlib.Core.List.{List, [], _∷_, map}
+use lib.IntN.{ℤ, pos}
+use lib.ListN.{length, getD, set, length-set, length-map}
+use lib.Seq.{getD-set-same, getD-set-other}
+use Rattle.graph.specs.State.{vertexCount, edgeCount, sideCount, nodeCount}
+use Rattle.graph.specs.Open.{blankState, cleared}
+use Rattle.graph.specs.Rows.{rows, offset}
+use Rattle.graph.specs.Word.{wordAt, toNat}
+use Rattle.graph.specs.Layout.{countOf, rowsOf, row, boundaries, stacks, stateFrom, stateOf}
+use Rattle.graph.specs.Form.{Sized, Counted, LaidOut, Laid, Wired, PackedRows, GraphRows, Formed, Rowed, startsFrom, totalFrom}
+use Rattle.graph.specs.laws.Row.{word-other, rows-put, sized-put, counted-of, rows-length, formed-of}
+use Rattle.store.specs.laws.Store.{Kept, rowed-kept, kept-then}
+use Rattle.graph.specs.Opening.{zeros, clearedRows, Recounted, Cleared}
+use Rattle.graph.specs.laws.Table.{vertex-row, side-row}
+
+-- ---- the number of nodes
+
+count-put : (b : List ℤ) (x : ℕ) → 4 < length b → countOf (set b 4 (pos x)) ≡ x
+unfolding wordAt toNat
+count-put b x h = rw (getD-set-same b 4 (pos x) (pos 0) h)
+
+pub recounted : (b : List ℤ) (x : ℕ) → Laid b → x ≤ stateOf b .nodeLimit → Recounted b (set b 4 (pos x)) x
+unfolding Laid offset
+recounted b x q h =
+    let w₀ = word-other b 4 0 (pos x) (omega arith) in
+    let w₁ = word-other b 4 1 (pos x) (omega arith) in
+    let w₂ = word-other b 4 2 (pos x) (omega arith) in
+    let w₃ = word-other b 4 3 (pos x) (omega arith) in
+    let w₄ : countOf (set b 4 (pos x)) ≡ x = count-put b x (omega arith) in
+    let z : Sized (set b 4 (pos x)) = sized-put b 4 x (q .sized) (omega arith) in
+    let t : Counted (set b 4 (pos x)) = counted-of (set b 4 (pos x)) z (omega arith) in
+    record {
+      laid = record { sized = z; counted = t };
+      rows = rows-put b 0 4 4 x (record { place = omega arith; within = omega arith }) (omega arith);
+      vertices = omega arith;
+      edges = omega arith;
+      sides = omega arith;
+      nodes = omega arith;
+      node-limit = omega arith;
+      store-limit = omega arith;
+      len = length-set b 4 (pos x);
+    }
+
+-- ---- rows of zeros
+
+-- after b₀, the block b has the rows r, and all counts as they were
+pub record Rewritten (b₀ b : List ℤ) (r : List (List ℕ)) : Type 0 where
+  pub kept : Kept b₀ b
+  pub rows : rowsOf b ≡ r
+
+pub rewritten-first : {k : ℕ} {b₀ b : List ℤ} {w : List ℕ} → Rowed k b₀ b w → Rewritten b₀ b (set (rowsOf b₀) k w)
+rewritten-first q = record { kept = rowed-kept q; rows = q .rows }
+
+-- one more row becomes zero
+pub rewritten-zeros : {k : ℕ} {b₀ b b' : List ℤ} {r : List (List ℕ)} → Rewritten b₀ b r → Rowed k b b' (zeros (length (row (rowsOf b) k))) → Rewritten b₀ b' (set r k (zeros (length (row r k))))
+rewritten-zeros {k} {b₀} {b} {b'} {r} h q = record { kept = kept-then (h .kept) (rowed-kept q); rows = q .rows ∙ ap (λ z. set z k (zeros (length (row z k)))) (h .rows) }
+
+-- the rows over vertices and the rows over sides, cleared
+unfoldable pub clearedVertices : List (List ℕ) → List (List ℕ)
+clearedVertices r = set (set (set r 1 (map (λ x. x % 2) (row r 1))) 2 (zeros (length (row r 2)))) 3 (zeros (length (row r 3)))
+
+unfoldable pub clearedSides : List (List ℕ) → List (List ℕ)
+clearedSides r = set (set (set r 6 (zeros (length (row r 6)))) 7 (zeros (length (row r 7)))) 8 (zeros (length (row r 8)))
+
+module _ (b₀ b₁ b₂ b : List ℤ) where
+  pub vertices-rewritten : Rowed 1 b₀ b₁ (map (λ x. x % 2) (row (rowsOf b₀) 1)) → Rowed 2 b₁ b₂ (zeros (length (row (rowsOf b₁) 2))) → Rowed 3 b₂ b (zeros (length (row (rowsOf b₂) 3))) → Rewritten b₀ b (clearedVertices (rowsOf b₀))
+  unfolding clearedVertices rowsOf rows
+  vertices-rewritten p q r = rewritten-zeros (rewritten-zeros (rewritten-first p) q) r
+
+  pub sides-rewritten : Rowed 6 b₀ b₁ (zeros (length (row (rowsOf b₀) 6))) → Rowed 7 b₁ b₂ (zeros (length (row (rowsOf b₁) 7))) → Rowed 8 b₂ b (zeros (length (row (rowsOf b₂) 8))) → Rewritten b₀ b (clearedSides (rowsOf b₀))
+  unfolding clearedSides rowsOf rows
+  sides-rewritten p q r = rewritten-zeros (rewritten-zeros (rewritten-first p) q) r
+
+-- ---- the flags
+
+-- of the flags, the virtual ones alone
+flags-twice : (l : List ℕ) → map (λ x. x % 2) (map (λ x. x % 2) l) ≡ map (λ x. x % 2) l
+flags-twice [] = refl
+flags-twice (x ∷ l) = let z : x % 2 % 2 ≡ x % 2 = omega arith in rw (z, flags-twice l)
+
+flags-none : (l : List ℕ) → map (λ x. x / 2) (map (λ x. x % 2) l) ≡ zeros (length l)
+flags-none [] = refl
+flags-none (x ∷ l) = let z : x % 2 / 2 ≡ 0 = omega arith in rw (z, flags-none l)
+
+-- ---- the state, and the form
+
+module _ (r : List (List ℕ)) (h : 4 < length (row r 0)) where
+  count-none : _≡_ {A = ℕ} (getD (set (row r 0) 4 0) 4 0) 0
+  count-none = getD-set-same (row r 0) 4 0 0 h
+
+  size-still : (i : ℕ) → i < 4 → getD (set (row r 0) 4 0) i 0 ≡ getD (row r 0) i 0
+  size-still i k = getD-set-other (row r 0) 4 i 0 0 (λ q. omega arith)
+
+  cleared-packed : PackedRows (clearedRows r)
+  unfolding clearedRows startsFrom totalFrom
+  cleared-packed = record { count-max = rw count-none (omega arith); starts = rw count-none; total = rw count-none (omega arith) }
+
+  cleared-wired : GraphRows r → GraphRows (clearedRows r)
+  unfolding clearedRows
+  cleared-wired g = record { ends = rw (size-still 0 (omega arith)) (g .ends); sides = rw (size-still 0 (omega arith)) (g .sides); firsts = rw (size-still 1 (omega arith)) (g .firsts); weights = g .weights }
+
+  cleared-state : length (row r 2) ≡ length (row r 1) → length (row r 3) ≡ length (row r 1) → length (row r 6) ≡ length (row r 5) → length (row r 7) ≡ length (row r 5) → length (row r 8) ≡ length (row r 5) → stateFrom (clearedRows r) ≡ cleared (stateFrom r)
+  unfolding clearedRows stateFrom cleared blankState boundaries stacks
+  cleared-state l₂ l₃ l₆ l₇ l₈ =
+      rw (count-none, size-still 2 (omega arith), size-still 3 (omega arith), flags-twice (row r 1), flags-none (row r 1), l₂, l₃, l₆, l₇, l₈, length-map (row r 1) (λ x. x % 2))
+
+module _ (b₀ b₁ b₂ b : List ℤ) (f : Formed b₀) (p : Recounted b₀ b₁ 0) (q : Rewritten b₁ b₂ (clearedVertices (rowsOf b₁))) (r : Rewritten b₂ b (clearedSides (rowsOf b₂))) where
+  rows-cleared : rowsOf b ≡ clearedRows (rowsOf b₀)
+  unfolding clearedRows clearedVertices clearedSides rowsOf rows
+  rows-cleared = r .rows ∙ ap clearedSides (q .rows ∙ ap clearedVertices (p .rows))
+
+  header-length : 4 < length (row (rowsOf b₀) 0)
+  unfolding Laid offset
+  header-length =
+      let z : LaidOut b₀ = f .laid in
+      let x : length (row (rowsOf b₀) 0) ≡ 16 = rows-length b₀ 0 (omega (arith, z .sized .len)) in
+      omega (arith, x)
+
+  state-cleared : stateOf b ≡ cleared (stateOf b₀)
+  unfolding stateOf
+  state-cleared =
+      let v = vertex-row b₀ 0 (f .laid) (omega arith) in
+      let s = side-row b₀ 0 (f .laid) (omega arith) in
+      rw rows-cleared
+      (cleared-state (rowsOf b₀) header-length (vertex-row b₀ 1 (f .laid) (omega arith) ∙ sym v) (vertex-row b₀ 2 (f .laid) (omega arith) ∙ sym v) (side-row b₀ 1 (f .laid) (omega arith) ∙ sym s) (side-row b₀ 2 (f .laid) (omega arith) ∙ sym s) (side-row b₀ 3 (f .laid) (omega arith) ∙ sym s))
+
+  formed-cleared : Formed b
+  unfolding Wired
+  formed-cleared = formed-of b (r .kept .laid) (rw rows-cleared (cleared-packed (rowsOf b₀) header-length)) (rw rows-cleared (cleared-wired (rowsOf b₀) header-length (f .wired)))
+
+  pub cleared-of : Cleared b₀ b
+  cleared-of = record {
+    formed = formed-cleared;
+    state = state-cleared;
+    rows = rows-cleared;
+    vertices = r .kept .vertices ∙ q .kept .vertices ∙ p .vertices;
+    edges = r .kept .edges ∙ q .kept .edges ∙ p .edges;
+    sides = r .kept .sides ∙ q .kept .sides ∙ p .sides;
+    nodes = r .kept .nodes ∙ q .kept .nodes ∙ p .nodes;
+    len = r .kept .len ∙ q .kept .len ∙ p .len;
+  }

@@ -1,0 +1,89 @@
+// Clearing a block: the graph stays, nothing is held and nothing is grown, there is no defect and no node.
+
+ghost use mathlib.Core.List.{map};
+ghost use Prim.Native.Nat.{_+_, _%_, _<_, _≤_};
+ghost use lib.ListN.{length};
+ghost use Rattle.graph.specs.Layout.{rowsOf, row, stateOf};
+ghost use Rattle.graph.specs.Form.{Laid, Formed, Rowed};
+ghost use Rattle.graph.specs.Opening.{zeros, Recounted, Cleared};
+ghost use Rattle.store.specs.laws.Clear.{Rewritten, clearedVertices, clearedSides};
+use graph::rows;
+use graph::words;
+
+// The number of nodes becomes x.
+pub fn put_node_count(b: &mut [i64], x: usize)
+    requires { ⌜ Laid (now b) × (x ≤ stateOf (now b) .nodeLimit) ⌝ }
+    ensures { λ r. ⌜ Recounted (now (b .entry)) (now (b .exit)) x ⌝ }
+{
+    words::put(b, 4, x);
+}
+
+// A row over vertices becomes zero.
+fn zero_vertices(b: &mut [i64], k: usize)
+    requires { ⌜ Laid (now b) × (k < 4) ⌝ }
+    ensures { λ r. ⌜ Rowed (1 + k) (now (b .entry)) (now (b .exit)) (zeros (length (row (rowsOf (now (b .entry))) (1 + k)))) ⌝ }
+{
+    let m = rows::vertex_count(b);
+    let mut v = 0;
+    while v < m {
+        rows::put_vertex(b, k, v, 0);
+        v += 1;
+    }
+}
+
+// A row over sides becomes zero.
+fn zero_sides(b: &mut [i64], k: usize)
+    requires { ⌜ Laid (now b) × (k < 5) ⌝ }
+    ensures { λ r. ⌜ Rowed (5 + k) (now (b .entry)) (now (b .exit)) (zeros (length (row (rowsOf (now (b .entry))) (5 + k)))) ⌝ }
+{
+    let m = rows::side_count(b);
+    let mut s = 0;
+    while s < m {
+        rows::put_side(b, k, s, 0);
+        s += 1;
+    }
+}
+
+// Of the flags of each vertex, the virtual one stays.
+fn drop_defects(b: &mut [i64])
+    requires { ⌜ Laid (now b) ⌝ }
+    ensures { λ r. ⌜ Rowed 1 (now (b .entry)) (now (b .exit)) (map (λ x. x % 2) (row (rowsOf (now (b .entry))) 1)) ⌝ }
+{
+    let m = rows::vertex_count(b);
+    let mut v = 0;
+    while v < m {
+        let x = rows::vertex_word(b, 0, v);
+        rows::put_vertex(b, 0, v, x % 2);
+        v += 1;
+    }
+}
+
+// The rows over vertices: no defect, nothing held.
+fn clear_vertices(b: &mut [i64])
+    requires { ⌜ Laid (now b) ⌝ }
+    ensures { λ r. ⌜ Rewritten (now (b .entry)) (now (b .exit)) (clearedVertices (rowsOf (now (b .entry)))) ⌝ }
+{
+    drop_defects(b);
+    zero_vertices(b, 1);
+    zero_vertices(b, 2);
+}
+
+// The rows over sides: nothing grown, nothing held.
+fn clear_sides(b: &mut [i64])
+    requires { ⌜ Laid (now b) ⌝ }
+    ensures { λ r. ⌜ Rewritten (now (b .entry)) (now (b .exit)) (clearedSides (rowsOf (now (b .entry)))) ⌝ }
+{
+    zero_sides(b, 1);
+    zero_sides(b, 2);
+    zero_sides(b, 3);
+}
+
+// The block is cleared.
+pub fn clear(b: &mut [i64])
+    requires { ⌜ Formed (now b) ⌝ }
+    ensures { λ r. ⌜ Cleared (now (b .entry)) (now (b .exit)) ⌝ }
+{
+    put_node_count(b, 0);
+    clear_vertices(b);
+    clear_sides(b);
+}
