@@ -16,7 +16,7 @@ The Rust's pointers are a stand-in (docs/DIFFERENCES.md): `Arc` with a lock of `
 take none. Its records and lines are those of differential/rust-side/common/session.rs, written with `write!` into a vector of enough space.
 
 T
-    echo "Machine: $(uname -m), \`nproc\` $(nproc), $(sed -n 's/^model name[^:]*: //p' /proc/cpuinfo | head -1); other work ran beside. $(rustc --version | cut -d' ' -f1,2)."
+    echo "Machine: $(uname -m), \`nproc\` $(nproc), $(sed -n 's/^model name[^:]*: //p' /proc/cpuinfo | head -1). $(rustc --version | cut -d' ' -f1,2)."
     "$bench" speed
 } > "$out.new"
 mv "$out.new" "$out"

@@ -65,8 +65,8 @@ fn heading(first: &str) {
 }
 
 /// One defect that is grown by 1, asked, shrunk by 1 and asked again.
-fn pulse(g: &Graph, at: i32, times: usize) -> Vec<Record> {
-    let mut out = vec![record(1, &[g.v, g.edges.len() as i32, 32, 2000])];
+pub fn pulse(g: &Graph, at: i32, l: i32, times: usize) -> Vec<Record> {
+    let mut out = vec![record(1, &[g.v, g.edges.len() as i32, 32, l])];
     out.extend(g.edges.iter().map(|e| record(2, &[e.0, e.1, e.2])));
     out.push(record(4, &[at, 1]));
     out.push(record(9, &[0, 1]));
@@ -80,7 +80,7 @@ fn pulse(g: &Graph, at: i32, times: usize) -> Vec<Record> {
 }
 
 /// A path of v vertices with heavy edges: the boundary of its middle is 2 sides.
-fn path(v: i32) -> Graph {
+pub fn path(v: i32) -> Graph {
     Graph { kind: 5, v, edges: (1..v).map(|x| (x - 1, x, 1_000_000)).collect(), virtuals: vec![] }
 }
 
@@ -91,13 +91,13 @@ fn star(spokes: i32) -> Graph {
     Graph { kind: 4, v: 64, edges, virtuals: vec![] }
 }
 
-/// A hub with 8 near leaves, each with 3 far ones behind heavy edges, and 30 vertices in pairs. `others` of these are defects that stay;
+/// A hub with 8 near leaves, each with 3 far ones behind heavy edges, and further vertices in pairs. `others` of these are defects that stay;
 /// the defect at the hub, whose lists stand first in the store, takes the near leaves and releases them again.
-fn breathe(others: i32, times: usize) -> Vec<Record> {
+pub fn breathe(others: i32, pairs: i32, n: i32, l: i32, times: usize) -> Vec<Record> {
     let mut edges: Vec<_> = (1..9).map(|x| (0, x, 2)).collect();
     edges.extend((9..33).map(|x| (1 + (x - 9) / 3, x, 1_000_000)));
-    edges.extend((0..15).map(|i| (33 + 2 * i, 34 + 2 * i, 1_000_000)));
-    let mut out = vec![record(1, &[63, edges.len() as i32, 32, 2000])];
+    edges.extend((0..pairs).map(|i| (33 + 2 * i, 34 + 2 * i, 1_000_000)));
+    let mut out = vec![record(1, &[33 + 2 * pairs, edges.len() as i32, n, l])];
     out.extend(edges.iter().map(|e| record(2, &[e.0, e.1, e.2])));
     out.push(record(4, &[0, 1]));
     out.extend((0..others).map(|i| record(4, &[33 + i, 0])));
@@ -128,19 +128,19 @@ pub fn table() {
     println!("\nOne defect in the middle of a path, boundary of 2 sides: grow by 1, length, shrink by 1, length, in turn.");
     heading("V");
     for v in [4, 8, 16, 32, 64] {
-        row(&v.to_string(), &pulse(&path(v), v / 2, 2_500));
+        row(&v.to_string(), &pulse(&path(v), v / 2, 2000, 2_500));
     }
     println!("\n## Cost against boundary length");
     println!("\nThe same calls on a defect at the hub of a star, V 64, E 128.");
     heading("sides");
     for spokes in [2, 4, 8, 16, 32, 64, 126] {
-        row(&spokes.to_string(), &pulse(&star(spokes), 0, 2_500));
+        row(&spokes.to_string(), &pulse(&star(spokes), 0, 2000, 2_500));
     }
     println!("\n## Cost against the number of nodes");
     println!("\nA defect takes 8 vertices and releases them again, in 4 growths: its boundary has 8 sides, then 24. Its lists stand before those of the other defects.");
     heading("other defects");
     for others in [0, 10, 20, 30] {
-        row(&others.to_string(), &breathe(others, 2_500));
+        row(&others.to_string(), &breathe(others, 15, 32, 2000, 2_500));
     }
     #[cfg(library)]
     crate::library::speed();
