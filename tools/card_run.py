@@ -2,7 +2,9 @@
 import os
 import re
 import subprocess
+import sys
 
+import card_try
 from card_text import DIRECTIONS, KINDS, split
 
 TOP = os.path.dirname(os.path.dirname(os.path.abspath(__file__)))
@@ -24,7 +26,11 @@ def cardrun(records):
     try:
         done = subprocess.run([program], input=records, stdout=subprocess.PIPE)
     except OSError as e:
-        raise NoAnswer(f"cannot run {os.path.relpath(program)} ({e.strerror}): build it with 'rt check cardrun', or name it in CARDRUN")
+        lines = None if 'CARDRUN' in os.environ or os.path.exists(program) else card_try.lines(TOP, records)
+        if lines is None:
+            raise NoAnswer(f"cannot run {os.path.relpath(program)} ({e.strerror}): build it with 'rt check cardrun', or name it in CARDRUN")
+        print("NOT PROVED YET: answers of 'rt try'. 'rt check cardrun' proves and builds the program", file=sys.stderr)
+        return lines
     if done.returncode:
         raise NoAnswer(f'{os.path.relpath(program)} ended with status {done.returncode}')
     lines = done.stdout.decode(errors='replace')

@@ -6,7 +6,7 @@
 VECTORS names the file of streams (default ../shared/vectors/streams.bin). The program is target/bin/cardrun or the one that
 CARDRUN names; while there is none, the model stands in for it (tests/tools/cardrun_model, MODEL).
 """
-import glob, math, os, struct, subprocess, sys, tempfile, unittest
+import glob, math, os, shutil, struct, subprocess, sys, tempfile, unittest
 from xml.etree import ElementTree
 
 HERE = os.path.dirname(os.path.abspath(__file__))
@@ -19,6 +19,7 @@ sys.path.insert(0, os.path.join(TOP, 'tools'))
 import card_draw  # noqa: E402
 import card_run  # noqa: E402
 import card_text  # noqa: E402
+import card_try  # noqa: E402
 
 P = 'graph 4 3 4 40\nedge 0 1 4; edge 1 2 4; edge 2 3 4\nvirtual 0; virtual 3\n'
 BAD = [
@@ -126,6 +127,12 @@ class Card(unittest.TestCase):
         text = card_text.parse(content(TOP, 'examples', 'p1.txt'))
         self.assertEqual(card_run.cardrun(text.records), '7 node 0\n8 node 1\n9 free 2 0\n10 done\n11 done\n12 conflict 1 1 0 0\n'
                          '13 edge 0 0 2\n13 edge 1 2 2\n13 edge 2 2 0\n')
+
+    @unittest.skipUnless(shutil.which('rt'), 'needs the Rattle toolchain')
+    def test_before_its_proof_the_program_answers_alike(self):
+        for name in ('p1', 'p9', 'surface3'):
+            records = subprocess.run([CARD, 'encode', os.path.join(TOP, 'examples', name + '.txt')], stdout=subprocess.PIPE, check=True).stdout
+            self.assertEqual(card_try.lines(TOP, records), card_run.cardrun(records))
 
     def test_an_answer_that_did_not_come_is_named(self):
         status, _, said = card('run', '-', given=(P + 'defect 1 grow -> node 1; contacts -> nothing\ntable -> done').encode())
