@@ -6,6 +6,7 @@ use crate::records::{fields, kind, record, Record};
 use crate::speed::{self, ROUNDS};
 use crate::streams;
 use asserting::session::Session;
+use std::collections::BTreeMap;
 use std::time::Instant;
 
 /// include/fusion_blossom.h. A slice goes over as its address and its length.
@@ -163,6 +164,8 @@ struct Counts {
     states: usize,
     words: usize,
     nodes: usize,
+    /// how often each answer came, by its first word, a refusal with its number
+    answers: BTreeMap<String, usize>,
 }
 
 /// One stream: the first record at which port and Rust differ. Of a large block the words are compared after some calls only.
@@ -192,6 +195,8 @@ fn agree(s: &streams::Stream, n: &mut Counts) -> Result<(), String> {
         };
         for p in port {
             n.lines += 1;
+            let kind = if p.starts_with("refused") { &p[..] } else { p.split(' ').next().unwrap() };
+            *n.answers.entry(kind.to_string()).or_default() += 1;
             let p = format!("{} {p}", i + 1);
             match rust.next() {
                 Some(r) if r == p => {}
@@ -255,6 +260,7 @@ pub fn compare(runs: u64, seed: u64) -> bool {
     let kinds: Vec<_> = graphs::KINDS.iter().zip(streams).filter(|k| k.1 > 0).map(|(k, n)| format!("{k} {n}")).collect();
     println!("{} streams ({}), up to V {}, E {} and {} nodes", streams.iter().sum::<usize>(), kinds.join(", "), largest.0, largest.1, n.nodes);
     println!("{} calls, {} lines, {} representative vertices, {} whole states of {} words compared", n.calls, n.lines, n.vertices, n.states, n.words);
+    println!("answers: {}", n.answers.iter().map(|(k, n)| format!("{k} {n}")).collect::<Vec<_>>().join(", "));
     println!("different: {different}");
     different == 0
 }
