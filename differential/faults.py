@@ -1,7 +1,8 @@
 #!/usr/bin/env python3
-"""faults.py [RUNS]: the comparison must notice faults. Each edit below goes into a copy of the Rust; run.sh on it must find differences.
+"""faults.py [RUNS]: the comparison must notice faults. Each edit below goes into a copy of the Rust; run.sh on it must find differences,
+or library-run.sh where only the state shows the fault.
 
-Needs what run.sh needs, and its archive built before. FB_SRC as for run.sh.
+Needs what run.sh and library-run.sh need, and their archives built before. FB_SRC as for run.sh.
 """
 import os, re, shutil, subprocess, sys, tempfile
 
@@ -29,6 +30,9 @@ FAULTS = [
     ('taking a vertex over an edge of weight 0 calls for no other pass', 'newly_propagated_edge_has_zero_weight = true;', '', 0),
     ('clear keeps the growth', 'self.clear_graph();\n        self.nodes_length = 0;', 'self.nodes_length = 0;', 0),
 ]
+IN_STATES = [
+    ('a released vertex keeps its grandson', '                            vertex.propagated_grandson_dual_node = None;\n', '', 0),
+]
 
 
 def edited(text, old, new, place):
@@ -42,10 +46,12 @@ def main():
     missed = 0
     work = tempfile.mkdtemp()
     env = dict(os.environ, FB_SRC=os.path.join(work, 'src'), FOUND=os.path.join(work, 'found'))
-    env.setdefault('ARCHIVE', os.path.join(ROOT, 'target', 'staticlib', 'libstream.a'))
+    for name, archive in (('ARCHIVE', 'libstream.a'), ('LIBRARY', 'libhost.a')):
+        env.setdefault(name, os.path.join(ROOT, 'target', 'staticlib', archive))
     env.setdefault('CARGO_TARGET_DIR', os.path.join(ROOT, 'target', 'faults'))
     try:
-        for name, old, new, place in FAULTS:
+        for name, old, new, place in FAULTS + IN_STATES:
+            script, times = ('library-run.sh', '60') if (name, old, new, place) in IN_STATES else ('run.sh', runs)
             shutil.rmtree(env['FB_SRC'], ignore_errors=True)
             os.mkdir(env['FB_SRC'])
             for m in ('dual_module_serial', 'dual_module', 'util'):
@@ -53,17 +59,17 @@ def main():
                 text = open(path if os.path.exists(path) else os.path.join(SRC, m + '.rs')).read()
                 with open(os.path.join(env['FB_SRC'], m + '.rs'), 'w') as f:
                     f.write(edited(text, old, new, place) if m == 'dual_module_serial' else text)
-            p = subprocess.run([os.path.join(HERE, 'run.sh'), runs, '1'], env=env, capture_output=True, text=True)
+            p = subprocess.run([os.path.join(HERE, script), times, '1'], env=env, capture_output=True, text=True)
             found = re.search(r'^different: (\d+)$', p.stdout, re.M)
             n = int(found.group(1)) if found else -1
             small = min(re.findall(r'^reduced to: (.*)$', p.stdout, re.M), key=len, default='')
-            print('%-70s %s' % (name, '%d of %s streams differ' % (n, runs) if n >= 0 else 'no summary: ' + p.stderr[-300:]), flush=True)
+            print('%-70s %s' % (name, '%d of %s streams differ' % (n, times) if n >= 0 else 'no summary: ' + p.stderr[-300:]), flush=True)
             if small:
                 print('    ' + small, flush=True)
             missed += n <= 0
     finally:
         shutil.rmtree(work, ignore_errors=True)
-    print('%d of %d faults noticed' % (len(FAULTS) - missed, len(FAULTS)))
+    print('%d of %d faults noticed' % (len(FAULTS + IN_STATES) - missed, len(FAULTS + IN_STATES)))
     sys.exit(missed > 0)
 
 
