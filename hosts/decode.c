@@ -1,108 +1,172 @@
-/* Decodes a planar surface-code patch of distance 15 with the exported calls. Vertices are the stabilizers of 15 rows and 14 columns
-   and two virtual ones at the left and right side; edges are data qubits, each of weight 2. Random qubits flip; the stabilizers
-   that see an odd number of flips are defects. Every defect grows until it meets another, which it is matched with, or a side, or one
-   that is matched already; then it is matched with the nearer side. What the correction leaves must be no defect. */
+/* Decodes a planar surface-code patch of distance 15 with the exported calls.   decode [SEED]
+ *
+ * Vertices are the stabilizers of 15 rows and 14 columns and two virtual ones at the left and right side; edges are
+ * data qubits, each of weight 2. Random qubits flip; the stabilizers that see an odd number of flips are defects. All
+ * defects grow together: in a round each is asked how far it may grow, and all grow by the least length of them. Those
+ * that meet are paired, one that meets a side is matched with it, and one that meets a paired one goes to its nearest
+ * side. Weights are even and all growing defects have grown equally far, so no gap between two of them is odd, and a
+ * conflict is a meeting (fusion_blossom.h, FB_CONFLICT); the host checks that, and that its correction leaves no
+ * defect. */
+#define _POSIX_C_SOURCE 200809L /* clock_gettime */
 #include <stdint.h>
 #include <stdio.h>
 #include <stdlib.h>
+#include <time.h>
 #include "fusion_blossom.h"
 
-enum { D = 15, COLS = D - 1, LEFT = D * COLS, RIGHT = LEFT + 1, V = RIGHT + 1, E = D * (COLS + 1) + (D - 1) * COLS, N = 256, L = 20000 };
-enum { BLOCK = 16 + 4 * V + 11 * E + 7 * N + L, SCRATCH = 6 * E };
+enum {
+    D = 15,
+    COLS = D - 1,
+    LEFT = D * COLS,
+    RIGHT = LEFT + 1,
+    V = RIGHT + 1,
+    E = D * (COLS + 1) + (D - 1) * COLS,
+    N = 256,
+    L = FB_STORE(V, E)
+};
+enum { BLOCK = FB_BLOCK(V, E, N, L), SCRATCH = FB_SCRATCH(E), WEIGHT = 2 };
+enum { GROWING = -1, SIDE = -2 }; /* what a defect is matched with, if with no node */
 
 static int64_t block[BLOCK], scratch[SCRATCH], edges[3 * E], table[2 * E];
-static size_t answer[5];
-static int flips[V], fixes[V];       /* how often a flipped or a corrected qubit touches the stabilizer */
-static int node_of[V], vertex_of[N]; /* node and vertex of a defect */
-static int matched[N];
-static long calls;
+static size_t answer[FB_ANSWER];
+static int flips[V], fixes[V]; /* how often a flipped or a corrected qubit touches the stabilizer */
+static int vertex_of[N], partner[N], reached[N]; /* of each node: its vertex, its match, how far it has grown */
+static int defects, pairs, sides, cost, calls, rounds;
 
 static int at(int row, int col) { return col < 0 ? LEFT : col >= COLS ? RIGHT : row * COLS + col; }
+static int away(int v, int w) { return WEIGHT * (abs(v / COLS - w / COLS) + abs(v % COLS - w % COLS)); }
+static int to_side(int v) {
+    int c = v % COLS;
+    return WEIGHT * (c < COLS - 1 - c ? c + 1 : COLS - c);
+}
 
 static void expect(int ok, const char *what) {
-    if (!ok) {
-        fprintf(stderr, "%s: case %zu, value %zu\n", what, answer[0], answer[1]);
-        exit(1);
-    }
+    if (ok) return;
+    fprintf(stderr, "%s: case %zu, value %zu%s%s\n", what, answer[0], answer[1], answer[0] == FB_REFUSED ? ": " : "",
+            answer[0] == FB_REFUSED ? fb_refusal_sentence(answer[1]) : "");
+    exit(1);
 }
 
-/* A path of corrected qubits: each touches two stabilizers. */
-static void correct(int a, int b) { fixes[a]++, fixes[b]++; }
-
-static void correct_pair(int v, int w) {
-    int r = v / COLS, c = v % COLS;
-    for (; c != w % COLS; c += c < w % COLS ? 1 : -1) correct(at(r, c), at(r, c + (c < w % COLS ? 1 : -1)));
-    for (; r != w / COLS; r += r < w / COLS ? 1 : -1) correct(at(r, c), at(r + (r < w / COLS ? 1 : -1), c));
-}
-
-static void correct_side(int v) {
-    int r = v / COLS, c = v % COLS, step = c < COLS / 2 ? -1 : 1;
-    for (; c >= 0 && c < COLS; c += step) correct(at(r, c), at(r, c + step));
-}
-
-/* The node grows no more. */
-static void rest(int n) {
-    matched[n] = 1;
-    fb_set_grow_state(block, BLOCK, scratch, SCRATCH, n, FB_STAY, answer, 5), calls++;
-    expect(answer[0] == FB_DONE, "set state");
-}
-
-int main(int argc, char **argv) {
-    uint64_t seed = argc > 1 ? strtoull(argv[1], NULL, 10) : 1;
-    int64_t virtuals[2] = {LEFT, RIGHT};
-    int e = 0, defects = 0, pairs = 0, sides = 0, flipped = 0;
+/* The patch, with random flips. */
+static void make_patch(uint64_t seed, int *flipped) {
+    int e = 0;
     for (int r = 0; r < D; r++)
         for (int c = -1; c < COLS; c++)
             for (int down = 0; down < 2; down++) {
                 if (down && (c < 0 || r + 1 == D)) continue;
                 int a = at(r, c), b = down ? at(r + 1, c) : at(r, c + 1);
-                edges[3 * e] = a, edges[3 * e + 1] = b, edges[3 * e + 2] = 2, e++;
+                edges[3 * e] = a, edges[3 * e + 1] = b, edges[3 * e + 2] = WEIGHT, e++;
                 seed = seed * 6364136223846793005u + 1442695040888963407u;
-                if ((seed >> 33) % 100 < 6) flips[a]++, flips[b]++, flipped++;
+                if ((seed >> 33) % 100 < 6) flips[a]++, flips[b]++, ++*flipped;
             }
-    fb_open(block, BLOCK, scratch, SCRATCH, edges, 3 * E, virtuals, 2, V, E, N, L, answer, 5), calls++;
-    expect(answer[0] == FB_DONE, "open");
+}
+
+/* A path of corrected qubits: along the row, then along the column. */
+static void correct_pair(int v, int w) {
+    int r = v / COLS, c = v % COLS;
+    for (int step; c != w % COLS; c += step) step = c < w % COLS ? 1 : -1, fixes[at(r, c)]++, fixes[at(r, c + step)]++;
+    for (int step; r != w / COLS; r += step) step = r < w / COLS ? 1 : -1, fixes[at(r, c)]++, fixes[at(r + step, c)]++;
+}
+
+/* The same to the nearest side. */
+static void correct_side(int v) {
+    int r = v / COLS, c = v % COLS, step = c < COLS - 1 - c ? -1 : 1;
+    for (; c >= 0 && c < COLS; c += step) fixes[at(r, c)]++, fixes[at(r, c + step)]++;
+}
+
+/* The node grows no more. */
+static void rest(int n, int with) {
+    partner[n] = with;
+    fb_set_grow_state(block, BLOCK, scratch, SCRATCH, n, FB_STAY, answer, FB_ANSWER), calls++;
+    expect(answer[0] == FB_DONE, "set state");
+}
+
+static void match_pair(int n, int peer) {
+    expect(reached[n] + reached[peer] == away(vertex_of[n], vertex_of[peer]), "a conflict that is no meeting");
+    correct_pair(vertex_of[n], vertex_of[peer]);
+    cost += away(vertex_of[n], vertex_of[peer]), pairs++;
+    rest(n, peer), rest(peer, n);
+}
+
+static void match_side(int n) {
+    correct_side(vertex_of[n]);
+    cost += to_side(vertex_of[n]), sides++;
+    rest(n, SIDE);
+}
+
+/* Asks one growing node, and matches it if it has met something. A node that meets one of those paired in this round
+ * asks again in the next. */
+static void ask(int n, const int *before, size_t *least, int *met) {
+    fb_max_update_length(block, BLOCK, scratch, SCRATCH, n, FB_UP, true, answer, FB_ANSWER), calls++;
+    if (answer[0] == FB_FREE) {
+        if (answer[2] < *least) *least = answer[2];
+        return;
+    }
+    expect(answer[0] == FB_CONFLICT || answer[0] == FB_VIRTUAL, "length");
+    int peer = answer[0] == FB_CONFLICT ? (int)answer[1] : SIDE;
+    *met = 1;
+    if (peer == SIDE)
+        expect(reached[n] == to_side(vertex_of[n]), "a side that is not reached"), match_side(n);
+    else if (partner[peer] == GROWING)
+        match_pair(n, peer);
+    else if (before[peer] != GROWING)
+        match_side(n);
+}
+
+/* Either some are matched, or all that still grow do so by the least length. Whether any grows. */
+static int play_round(void) {
+    static int before[N];
+    size_t least = SIZE_MAX;
+    int met = 0, growing = 0;
+    for (int n = 0; n < defects; n++) before[n] = partner[n];
+    for (int n = 0; n < defects; n++)
+        if (partner[n] == GROWING) ask(n, before, &least, &met);
+    for (int n = 0; n < defects; n++) {
+        if (partner[n] != GROWING) continue;
+        growing = 1;
+        if (met) continue;
+        fb_grow(block, BLOCK, scratch, SCRATCH, n, (int64_t)least, answer, FB_ANSWER), calls++;
+        expect(answer[0] == FB_DONE, "grow");
+        reached[n] += (int)least;
+    }
+    rounds++;
+    return growing;
+}
+
+static void insert_defects(void) {
     for (int v = 0; v < LEFT; v++)
         if (flips[v] % 2) {
-            fb_insert_defect(block, BLOCK, scratch, SCRATCH, v, FB_GROW, answer, 5), calls++;
-            expect(answer[0] == FB_NODE, "insert defect");
-            node_of[v] = (int)answer[1], vertex_of[answer[1]] = v, defects++;
+            fb_insert_defect(block, BLOCK, scratch, SCRATCH, v, FB_GROW, answer, FB_ANSWER), calls++;
+            expect(answer[0] == FB_NODE && answer[1] == (size_t)defects, "insert defect");
+            vertex_of[defects] = v, partner[defects] = GROWING, defects++;
         }
-    for (int growing = defects; growing > 0;) {
-        size_t least = SIZE_MAX;
-        growing = 0;
-        for (int n = 0; n < defects; n++) {
-            if (matched[n]) continue;
-            fb_max_update_length(block, BLOCK, scratch, SCRATCH, n, FB_UP, 1, answer, 5), calls++;
-            if (answer[0] == FB_FREE) {
-                growing++;
-                if (answer[2] < least) least = answer[2];
-            } else if (answer[0] == FB_CONFLICT && !matched[answer[1]]) {
-                int peer = (int)answer[1];
-                correct_pair(vertex_of[n], vertex_of[peer]), pairs++;
-                rest(n), rest(peer);
-            } else {
-                expect(answer[0] == FB_CONFLICT || answer[0] == FB_VIRTUAL, "length");
-                correct_side(vertex_of[n]), sides++;
-                rest(n);
-            }
-        }
-        for (int n = 0; n < defects; n++) {
-            if (matched[n]) continue;
-            fb_max_update_length(block, BLOCK, scratch, SCRATCH, n, FB_UP, 1, answer, 5), calls++;
-            if (answer[0] != FB_FREE || answer[2] < least) continue; /* it met one that was grown just now */
-            fb_grow(block, BLOCK, scratch, SCRATCH, n, (int64_t)least, answer, 5), calls++;
-            expect(answer[0] == FB_DONE, "grow");
-        }
-    }
-    fb_read_table(block, BLOCK, scratch, SCRATCH, table, 2 * E, answer, 5), calls++;
+}
+
+static double seconds(void) {
+    struct timespec now;
+    clock_gettime(CLOCK_MONOTONIC, &now);
+    return (double)now.tv_sec + 1e-9 * (double)now.tv_nsec;
+}
+
+int main(int argc, char **argv) {
+    int64_t virtuals[2] = {LEFT, RIGHT};
+    int flipped = 0, wrong = 0, sum = 0;
+    make_patch(argc > 1 ? strtoull(argv[1], NULL, 10) : 1, &flipped);
+    double start = seconds();
+    fb_open(block, BLOCK, scratch, SCRATCH, edges, 3 * E, virtuals, 2, V, E, N, L, answer, FB_ANSWER), calls++;
+    expect(answer[0] == FB_DONE, "open");
+    insert_defects();
+    while (play_round()) {}
+    fb_read_table(block, BLOCK, scratch, SCRATCH, table, 2 * E, answer, FB_ANSWER), calls++;
     expect(answer[0] == FB_DONE, "read table");
-    int64_t grown = 0;
-    for (int s = 0; s < 2 * E; s++) grown += table[s];
-    int wrong = 0;
+    double took = seconds() - start;
+    for (int e = 0; e < E; e++) expect(table[2 * e] + table[2 * e + 1] <= WEIGHT, "an edge past its weight");
     for (int v = 0; v < LEFT; v++) wrong += (flips[v] + fixes[v]) % 2;
+    for (int n = 0; n < defects; n++) sum += reached[n];
     printf("distance %d: %d vertices, %d edges; %d flipped qubits, %d defects\n", D, V, E, flipped, defects);
-    printf("%d pairs, %d matched with a side; %lld grown in all; %ld calls\n", pairs, sides, (long long)grown, calls);
+    printf("%d pairs, %d matched with a side, in %d rounds; cost %d, at least %d by the dual variables\n", pairs, sides,
+           rounds, cost, sum);
     printf("defects that the correction leaves: %d\n", wrong);
-    return wrong != 0;
+    printf("C: %d calls in %.0f microseconds\n", calls, 1e6 * took);
+    return wrong != 0 || sum > cost;
 }

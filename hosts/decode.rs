@@ -1,5 +1,8 @@
-//! Opens a planar surface-code patch of distance 15 with the exported calls, lets every defect grow by `fb_advance` until it meets something, and
-//! lists the full edges: the clusters that a matching would work on. The calls are declared in fusion_blossom.h.
+//! Decodes a planar surface-code patch of distance 15 with the exported calls, as decode.c does and with the same
+//! result: all defects grow together, those that meet are paired, one that meets a side or a paired one is matched with
+//! its nearest side. The calls are declared in fusion_blossom.h.
+use std::time::Instant;
+
 const D: usize = 15;
 const COLS: usize = D - 1;
 const LEFT: usize = D * COLS;
@@ -7,61 +10,208 @@ const RIGHT: usize = LEFT + 1;
 const V: usize = RIGHT + 1;
 const E: usize = D * D + (D - 1) * COLS;
 const N: usize = 256;
-const L: usize = 20000;
+const L: usize = 2 * (2 * E + V); // FB_STORE: enough for defects alone
+const WEIGHT: usize = 2;
 
+// Cases of an answer, states and a direction, as fusion_blossom.h has them with FB_ in front.
+const FREE: usize = 0;
+const CONFLICT: usize = 2;
+const VIRTUAL: usize = 3;
+const DONE: usize = 7;
+const NODE: usize = 8;
+const STAY: usize = 0;
+const GROW: usize = 1;
+const UP: usize = 1;
+
+type Words = *mut i64;
+type Told = *mut usize;
+
+// Block, scratch and answer, each with its length, stand around the values of every call.
 extern "C" {
-    fn fb_open(b: *mut i64, bl: usize, t: *const i64, tl: usize, edges: *const i64, el: usize, virtuals: *const i64, vl: usize, v: usize, e: usize, n: usize, l: usize, a: *mut usize, al: usize) -> usize;
-    fn fb_insert_defect(b: *mut i64, bl: usize, t: *mut i64, tl: usize, vertex: usize, state: usize, a: *mut usize, al: usize) -> usize;
-    fn fb_advance(b: *mut i64, bl: usize, t: *mut i64, tl: usize, node: usize, a: *mut usize, al: usize) -> usize;
-    fn fb_contacts(b: *const i64, bl: usize, t: *const i64, tl: usize, list: *mut i64, ll: usize, a: *mut usize, al: usize) -> usize;
+    fn fb_open(
+        b: Words, bl: usize, s: Words, sl: usize, edges: *const i64, el: usize, virtuals: *const i64, vl: usize, v: usize,
+        e: usize, n: usize, l: usize, a: Told, al: usize,
+    ) -> usize;
+    fn fb_insert_defect(b: Words, bl: usize, s: Words, sl: usize, v: usize, state: usize, a: Told, al: usize) -> usize;
+    fn fb_set_grow_state(b: Words, bl: usize, s: Words, sl: usize, n: usize, state: usize, a: Told, al: usize) -> usize;
+    fn fb_max_update_length(
+        b: Words, bl: usize, s: Words, sl: usize, node: usize, direction: usize, first: bool, a: Told, al: usize,
+    ) -> usize;
+    fn fb_grow(b: Words, bl: usize, s: Words, sl: usize, node: usize, length: i64, a: Told, al: usize) -> usize;
+    fn fb_read_table(b: Words, bl: usize, s: Words, sl: usize, list: Words, ll: usize, a: Told, al: usize) -> usize;
 }
 
-/// Block and scratch, lent to each call, and its last answer.
+/// Block and scratch, lent to each call, its last answer, and how many calls were made.
 struct Card {
     block: Vec<i64>,
     scratch: Vec<i64>,
     answer: [usize; 5],
+    calls: usize,
+}
+
+/// Makes a call with the card's memory. SAFETY: each pointer is followed by the length of its own vector, slice or
+/// array, and no two of these overlap.
+macro_rules! call {
+    ($card:expr, $call:ident $(, $value:expr)*) => {{
+        let (b, s) = (&mut $card.block, &mut $card.scratch);
+        $card.calls += 1;
+        unsafe { $call(b.as_mut_ptr(), b.len(), s.as_mut_ptr(), s.len(), $($value,)* $card.answer.as_mut_ptr(), 5) }
+    }};
 }
 
 impl Card {
-    fn open(edges: &[i64], virtuals: &[i64]) -> Card {
-        let mut c = Card { block: vec![0; 16 + 4 * V + 11 * E + 7 * N + L], scratch: vec![0; 6 * E], answer: [0; 5] };
-        // SAFETY: every pointer is followed by the length of its own vector or slice, and no two overlap.
-        unsafe {
-            fb_open(c.block.as_mut_ptr(), c.block.len(), c.scratch.as_ptr(), c.scratch.len(), edges.as_ptr(), edges.len(), virtuals.as_ptr(), virtuals.len(), V, E, N, L, c.answer.as_mut_ptr(), 5);
-        }
-        assert_eq!(c.answer[0], 7, "open: refused {}", c.answer[1]);
+    /// The value of an answer that must be of this case.
+    fn told(&self, case: usize, what: &str) -> usize {
+        assert_eq!(self.answer[0], case, "{what}: case {}, value {}", self.answer[0], self.answer[1]);
+        self.answer[1]
+    }
+
+    fn open(edges: &[i64], ends: &[i64]) -> Card {
+        let words = 16 + 4 * V + 11 * E + 7 * N + L;
+        let mut c = Card { block: vec![0; words], scratch: vec![0; 6 * E], answer: [0; 5], calls: 0 };
+        call!(c, fb_open, edges.as_ptr(), edges.len(), ends.as_ptr(), ends.len(), V, E, N, L);
+        c.told(DONE, "open");
         c
     }
 
     fn insert_defect(&mut self, vertex: usize) -> usize {
-        // SAFETY: as above.
-        unsafe { fb_insert_defect(self.block.as_mut_ptr(), self.block.len(), self.scratch.as_mut_ptr(), self.scratch.len(), vertex, 1, self.answer.as_mut_ptr(), 5) };
-        assert_eq!(self.answer[0], 8, "insert defect: refused {}", self.answer[1]);
-        self.answer[1]
+        call!(self, fb_insert_defect, vertex, GROW);
+        self.told(NODE, "insert defect")
     }
 
-    /// Whether the node grew.
-    fn advance(&mut self, node: usize) -> bool {
-        // SAFETY: as above.
-        unsafe { fb_advance(self.block.as_mut_ptr(), self.block.len(), self.scratch.as_mut_ptr(), self.scratch.len(), node, self.answer.as_mut_ptr(), 5) };
-        self.answer[0] == 7
+    fn rest(&mut self, node: usize) {
+        call!(self, fb_set_grow_state, node, STAY);
+        self.told(DONE, "set state");
     }
 
-    fn contacts(&mut self) -> Vec<i64> {
-        let mut list = vec![-1; E];
-        // SAFETY: as above.
-        unsafe { fb_contacts(self.block.as_ptr(), self.block.len(), self.scratch.as_ptr(), self.scratch.len(), list.as_mut_ptr(), list.len(), self.answer.as_mut_ptr(), 5) };
-        assert_eq!(self.answer[0], 7, "contacts: refused {}", self.answer[1]);
-        list.truncate(self.answer[1]);
+    /// The answer: its case, and the length or the peer.
+    fn length(&mut self, node: usize) -> (usize, usize) {
+        call!(self, fb_max_update_length, node, UP, true);
+        (self.answer[0], if self.answer[0] == FREE { self.answer[2] } else { self.answer[1] })
+    }
+
+    fn grow(&mut self, node: usize, length: usize) {
+        call!(self, fb_grow, node, length as i64);
+        self.told(DONE, "grow");
+    }
+
+    fn table(&mut self) -> Vec<i64> {
+        let mut list = vec![0; 2 * E];
+        call!(self, fb_read_table, list.as_mut_ptr(), list.len());
+        self.told(DONE, "read table");
         list
     }
 }
 
-fn main() {
-    let mut seed: u64 = std::env::args().nth(1).and_then(|s| s.parse().ok()).unwrap_or(1);
-    let at = |r: usize, c: isize| if c < 0 { LEFT } else if c as usize >= COLS { RIGHT } else { r * COLS + c as usize };
-    let (mut edges, mut flips) = (Vec::new(), vec![0; V]);
+#[derive(Clone, Copy, PartialEq)]
+enum Match {
+    Growing,
+    Side,
+    With,
+}
+
+/// The defects by node: vertex, match and how far each has grown; and the correction so far.
+struct Decoder {
+    card: Card,
+    vertex: Vec<usize>,
+    state: Vec<Match>,
+    reached: Vec<usize>,
+    fixes: Vec<usize>,
+    pairs: usize,
+    sides: usize,
+    cost: usize,
+    rounds: usize,
+}
+
+fn at(row: usize, col: isize) -> usize {
+    if col < 0 {
+        LEFT
+    } else if col as usize >= COLS {
+        RIGHT
+    } else {
+        row * COLS + col as usize
+    }
+}
+
+fn to_side(v: usize) -> usize {
+    WEIGHT * (v % COLS + 1).min(COLS - v % COLS)
+}
+
+impl Decoder {
+    /// A path of corrected qubits: along the row, then along the column.
+    fn pair(&mut self, n: usize, peer: usize) {
+        let (v, w) = (self.vertex[n], self.vertex[peer]);
+        let away = WEIGHT * ((v / COLS).abs_diff(w / COLS) + (v % COLS).abs_diff(w % COLS));
+        assert_eq!(self.reached[n] + self.reached[peer], away, "a conflict that is no meeting");
+        let (mut r, mut c) = (v / COLS, v % COLS);
+        while (r, c) != (w / COLS, w % COLS) {
+            let here = r * COLS + c;
+            if c != w % COLS {
+                c = if c < w % COLS { c + 1 } else { c - 1 }
+            } else {
+                r = if r < w / COLS { r + 1 } else { r - 1 }
+            }
+            self.fixes[here] += 1;
+            self.fixes[r * COLS + c] += 1;
+        }
+        self.cost += away;
+        self.pairs += 1;
+        for k in [n, peer] {
+            self.state[k] = Match::With;
+            self.card.rest(k);
+        }
+    }
+
+    /// A path to the nearest side.
+    fn side(&mut self, n: usize) {
+        let (r, mut c) = (self.vertex[n] / COLS, (self.vertex[n] % COLS) as isize);
+        let step = if c < COLS as isize - 1 - c { -1 } else { 1 };
+        while c >= 0 && c < COLS as isize {
+            self.fixes[at(r, c)] += 1;
+            self.fixes[at(r, c + step)] += 1;
+            c += step;
+        }
+        self.cost += to_side(self.vertex[n]);
+        self.sides += 1;
+        self.state[n] = Match::Side;
+        self.card.rest(n);
+    }
+
+    /// Either some are matched, or all that still grow do so by the least length. Whether any grows.
+    fn round(&mut self) -> bool {
+        let before = self.state.clone();
+        let (mut least, mut met) = (usize::MAX, false);
+        for n in 0..self.vertex.len() {
+            if self.state[n] != Match::Growing {
+                continue;
+            }
+            let (case, value) = self.card.length(n);
+            met |= case != FREE;
+            match case {
+                FREE => least = least.min(value),
+                VIRTUAL => {
+                    assert_eq!(self.reached[n], to_side(self.vertex[n]), "a side that is not reached");
+                    self.side(n);
+                }
+                CONFLICT if self.state[value] == Match::Growing => self.pair(n, value),
+                CONFLICT if before[value] != Match::Growing => self.side(n),
+                CONFLICT => {} // paired in this round: asked again in the next
+                _ => panic!("length: case {case}, value {value}"),
+            }
+        }
+        let growing: Vec<usize> = (0..self.vertex.len()).filter(|n| self.state[*n] == Match::Growing).collect();
+        for n in growing.iter().filter(|_| !met) {
+            self.card.grow(*n, least);
+            self.reached[*n] += least;
+        }
+        self.rounds += 1;
+        !growing.is_empty()
+    }
+}
+
+/// The patch as edges, with random flips: how often each stabilizer is touched, and how many qubits flipped.
+fn patch(mut seed: u64) -> (Vec<i64>, Vec<usize>, usize) {
+    let (mut edges, mut flips, mut flipped) = (Vec::new(), vec![0; V], 0);
     for r in 0..D {
         for c in -1..COLS as isize {
             for down in [false, true] {
@@ -69,24 +219,51 @@ fn main() {
                     continue;
                 }
                 let (a, b) = (at(r, c), if down { at(r + 1, c) } else { at(r, c + 1) });
-                edges.extend([a as i64, b as i64, 2]);
+                edges.extend([a as i64, b as i64, WEIGHT as i64]);
                 seed = seed.wrapping_mul(6364136223846793005).wrapping_add(1442695040888963407);
                 if (seed >> 33) % 100 < 6 {
                     flips[a] += 1;
                     flips[b] += 1;
+                    flipped += 1;
                 }
             }
         }
     }
-    let mut card = Card::open(&edges, &[LEFT as i64, RIGHT as i64]);
-    let defects: Vec<usize> = (0..LEFT).filter(|v| flips[*v] % 2 == 1).map(|v| card.insert_defect(v)).collect();
-    let mut answers = [0; 12];
-    for node in &defects {
-        while card.advance(*node) {}
-        answers[card.answer[0]] += 1;
+    (edges, flips, flipped)
+}
+
+fn main() {
+    let (edges, flips, flipped) = patch(std::env::args().nth(1).and_then(|s| s.parse().ok()).unwrap_or(1));
+    let vertex: Vec<usize> = (0..LEFT).filter(|v| flips[*v] % 2 == 1).collect();
+    let start = Instant::now();
+    let card = Card::open(&edges, &[LEFT as i64, RIGHT as i64]);
+    let count = vertex.len();
+    let mut d = Decoder {
+        card,
+        vertex,
+        state: vec![Match::Growing; count],
+        reached: vec![0; count],
+        fixes: vec![0; V],
+        pairs: 0,
+        sides: 0,
+        cost: 0,
+        rounds: 0,
+    };
+    for n in 0..count {
+        assert_eq!(d.card.insert_defect(d.vertex[n]), n, "a defect's node");
     }
-    let full = card.contacts();
-    println!("distance {D}: {V} vertices, {E} edges; {} defects", defects.len());
-    println!("{} met another, {} met a side; {} full edges", answers[2], answers[3], full.len());
-    assert_eq!(answers[2] + answers[3], defects.len());
+    while d.round() {}
+    let table = d.card.table();
+    let took = start.elapsed();
+    assert!(table.chunks(2).all(|g| g[0] + g[1] <= WEIGHT as i64), "an edge past its weight");
+    let wrong = (0..LEFT).filter(|v| (flips[*v] + d.fixes[*v]) % 2 == 1).count();
+    let sum: usize = d.reached.iter().sum();
+    println!("distance {D}: {V} vertices, {E} edges; {flipped} flipped qubits, {count} defects");
+    println!(
+        "{} pairs, {} matched with a side, in {} rounds; cost {}, at least {sum} by the dual variables",
+        d.pairs, d.sides, d.rounds, d.cost
+    );
+    println!("defects that the correction leaves: {wrong}");
+    println!("Rust: {} calls in {} microseconds", d.card.calls, took.as_micros());
+    assert!(wrong == 0 && sum <= d.cost);
 }

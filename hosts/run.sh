@@ -1,10 +1,23 @@
 #!/bin/sh
-# Builds the archive of crate `host`, links it into the C and the Rust host, and runs both.   hosts/run.sh [SEED]
+# Builds the hosts and runs them: decode in C and, where rustc is there, in Rust, which must come to the same; and lines.
+#
+#     hosts/run.sh [SEED]
 set -e
 cd "$(dirname "$0")/.."
-rt staticlib host > target/hosts.log 2>&1 || { tail target/hosts.log; exit 1; }
+[ -f target/lib/libfusion_blossom.a ] || tools/build-library.sh > /dev/null
 mkdir -p target/hosts
-cc -std=c11 -O2 -Wall -Wextra -Iinclude hosts/decode.c target/staticlib/libhost.a -o target/hosts/decode_c
-rustc -O --edition 2021 hosts/decode.rs -L native=target/staticlib -l static=host -o target/hosts/decode_rs
-target/hosts/decode_c "$@"
-target/hosts/decode_rs "$@"
+for host in decode lines; do
+    ${CC:-cc} -std=c11 -O2 -Wall -Wextra -Iinclude hosts/$host.c -o target/hosts/$host \
+        target/lib/libfusion_blossom.a target/lib/libcardrun_lines.a
+done
+target/hosts/decode "$@" | tee target/hosts/decode.out
+if command -v rustc > /dev/null; then
+    rustc -O --edition 2021 hosts/decode.rs -L native=target/lib -l static=fusion_blossom -o target/hosts/decode_rs
+    target/hosts/decode_rs "$@" > target/hosts/decode_rs.out
+    tail -n 1 target/hosts/decode_rs.out
+    grep -v microseconds target/hosts/decode.out > target/hosts/one
+    grep -v microseconds target/hosts/decode_rs.out | cmp - target/hosts/one
+else
+    echo "rustc is not here: decode.rs was not run"
+fi
+target/hosts/lines

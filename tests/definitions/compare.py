@@ -8,15 +8,14 @@ The prover computes, from the definitions themselves:
   states   sound states that no call list reaches (a reached state with fields changed at random), a few calls on each;
   streams  record streams: the lines, all of them and those that fit into a random space.
 Each comparison is a theorem proved by `refl` in a crate of tests that is written beside a copy of this repository.
-MODEL names the folder of model.py and runner.py (default ../shared/model), VECTORS the file of streams (default
-../shared/vectors/streams.bin). A wrong answer makes the check fail and names the case.
+The model is tests/model, the streams are those of tests/vectors, or of the file that VECTORS names. A wrong answer makes the check fail and names
+the case.
 """
-import argparse, collections, os, random, shutil, struct, subprocess, sys, tempfile
+import argparse, collections, os, random, shutil, subprocess, sys, tempfile
 
 TOP = os.path.dirname(os.path.dirname(os.path.dirname(os.path.abspath(__file__))))
-sys.path.insert(0, os.environ.get('MODEL', os.path.join(TOP, '..', 'shared', 'model')))
+sys.path.insert(0, os.path.join(TOP, 'tests'))
 import model as M  # noqa: E402
-import runner as R  # noqa: E402
 
 SEEN = collections.Counter()
 
@@ -202,13 +201,8 @@ def state_case(rng, name):
     return case(name, start, lines, st)
 
 
-def streams(rng, path, count):
-    data, out = open(path, 'rb').read(), []
-    while data:
-        n, m = struct.unpack('<II', data[:8])
-        out.append((data[8:8 + n], data[8 + n:8 + n + m]))
-        data = data[8 + n + m:]
-    out = [x for x in out if len(x[0]) < 1200]
+def streams(rng, count):
+    out = [x for x in M.frames() if len(x[0]) < 1200]
     return rng.sample(out, min(count, len(out)))
 
 
@@ -249,8 +243,7 @@ def main():
     for kind, count, make, what in (('Lists', o.lists, list_case, 'Random call lists.'), ('States', o.states, state_case, 'Sound states that no call list reaches.')):
         for f in range(0, count, per):
             modules[f'{kind}{f // per}'] = HEAD.format(what) + ''.join(make(rng, f'case{k}') for k in range(f, min(f + per, count)))
-    path = os.environ.get('VECTORS', os.path.join(TOP, '..', 'shared', 'vectors', 'streams.bin'))
-    chosen = streams(rng, path, o.streams) if o.streams else []
+    chosen = streams(rng, o.streams) if o.streams else []
     for f in range(0, len(chosen), per):
         modules[f'Streams{f // per}'] = STREAMS + ''.join(
             stream_case(f'stream{f + k}', d, t, rng.randint(0, len(t) + 3)) for k, (d, t) in enumerate(chosen[f:f + per]))

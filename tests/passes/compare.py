@@ -7,14 +7,14 @@ Every preparation that the Python model makes while it runs the streams gives a 
 program lends the block to `prepare_dual_node_growth` and writes the number of passes and a checksum of the block that is left
 (words that are free set to zero) and of the scratch. `rt try` runs it, with no proof, compiled at -O0 and at -O3, and with the
 compiler's assumptions checked (its interpreter stops after ten million steps, some forty preparations).
-MODEL and VECTORS as in tests/definitions/compare.py.
+The model is tests/model, the streams are those of tests/vectors, or of the file that VECTORS names.
 """
 import argparse, copy, os, random, shutil, struct, subprocess, sys, tempfile
 
 TOP = os.path.dirname(os.path.dirname(os.path.dirname(os.path.abspath(__file__))))
-sys.path.insert(0, os.environ.get('MODEL', os.path.join(TOP, '..', 'shared', 'model')))
+sys.path.insert(0, os.path.join(TOP, 'tests'))
 import model as M  # noqa: E402
-import runner as R  # noqa: E402
+from model import passes  # noqa: E402
 
 PROGRAM = '''// Lends each block of the input to a preparation.
 fn number(b: &[u8], i: usize) -> usize {
@@ -122,29 +122,32 @@ def checksum(ws, h=7):
     return h
 
 
-def preparations(path):
+def preparations():
     """Every preparation of every stream, as (state before, node, direction, passes, state after)."""
-    seen, plain = [], M.do_prepare
+    seen, plain = [], passes.do_prepare
 
-    def watched(st, n, direction, mended=True):
+    def watched(st, n, direction):
         before = copy.deepcopy(st)
-        passes = plain(st, n, direction, mended)
-        seen.append((before, n, direction, passes, copy.deepcopy(st)))
-        return passes
+        count = plain(st, n, direction)
+        seen.append((before, n, direction, count, copy.deepcopy(st)))
+        return count
 
-    M.do_prepare = watched
-    data = open(path, 'rb').read()
-    while data:
-        n, m = struct.unpack('<II', data[:8])
-        records, data = data[8:8 + n], data[8 + n + m:]
-        run = R.Run()
-        while records and not run.over:
-            if len(records) < 2 or len(records) < 2 + struct.unpack('<H', records[:2])[0]: break
-            k = struct.unpack('<H', records[:2])[0]
-            body, records = records[2:2 + k], records[2 + k:]
-            if k < 2 or (k - 2) % 4: break
-            run.feed(struct.unpack('<H' + 'i' * ((k - 2) // 4), body))
+    passes.do_prepare = watched
+    for records, _ in M.frames():
+        M.lines(records)
     return seen
+
+
+def crates_below(name):
+    """A crate and all that it rests on, each with what it depends on."""
+    lines = [l.partition('#')[0].partition(':') for l in open(os.path.join(TOP, 'crates.txt'))]
+    needs, out, todo = {c.strip(): d.split() for c, _, d in lines if c.strip()}, {}, [name]
+    while todo:
+        c = todo.pop()
+        if c not in out and c in needs:
+            out[c] = needs[c]
+            todo += needs[c]
+    return out
 
 
 def main():
@@ -152,20 +155,22 @@ def main():
     p.add_argument('--count', type=int, default=2000)
     p.add_argument('--seed', type=int, default=1)
     o = p.parse_args()
-    every = preparations(os.environ.get('VECTORS', os.path.join(TOP, '..', 'shared', 'vectors', 'streams.bin')))
+    every = preparations()
     busy = [x for x in every if words(x[0]) != words(x[4])]
     rng = random.Random(o.seed)
     chosen = rng.sample(busy, min(o.count * 3 // 4, len(busy)))
     chosen += rng.sample(every, min(o.count - len(chosen), len(every)))
     data, lines = b'', b''
-    for before, n, d, passes, after in chosen:
+    for before, n, d, count, after in chosen:
         ws = words(before)
         data += struct.pack('<4q', len(ws), 6 * before.E, n, d) + struct.pack(f'<{len(ws)}q', *ws)
-        lines += f'{passes} {checksum([0] * (6 * after.E), checksum(words(after)))}\n'.encode()
+        lines += f'{count} {checksum([0] * (6 * after.E), checksum(words(after)))}\n'.encode()
     top = tempfile.mkdtemp()
-    for c in ('graph', 'pass', 'grow_pass', 'shrink_pass', 'prepare'): shutil.copytree(os.path.join(TOP, 'crates', c), os.path.join(top, 'crates', c))
+    below = crates_below('prepare')
+    for c in below: shutil.copytree(os.path.join(TOP, 'crates', c), os.path.join(top, 'crates', c))
     os.makedirs(os.path.join(top, 'crates', 'drive', 'src'))
-    open(os.path.join(top, 'crates.txt'), 'w').write('graph:\npass: graph\ngrow_pass: graph pass\nshrink_pass: graph pass\nprepare: graph pass grow_pass shrink_pass\ndrive: graph prepare io libc\n')
+    lines_of = [f'{c}: {" ".join(d)}\n' for c, d in {**below, 'drive': list(below) + ['io', 'libc']}.items()]
+    open(os.path.join(top, 'crates.txt'), 'w').write(''.join(lines_of))
     for name, text in ('src/main.rt', PROGRAM.encode()), ('stdin', data), ('stdout', lines):
         open(os.path.join(top, 'crates', 'drive', name), 'wb').write(text)
     subprocess.run(['git', 'init', '-q', top], check=True)

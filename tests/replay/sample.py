@@ -3,16 +3,15 @@
 
     tests/replay/sample.py FILE [STEP]
 
-A frame is two little-endian 32-bit numbers, the bytes of records and of lines, then the records, then the lines.
+A frame is two little-endian 32-bit numbers, the bytes of records and of lines, then the records, then the lines. A
+file that ends in .gz is unpacked.
 """
-import struct, sys
+import os, struct, sys
 
-data = open(sys.argv[1], "rb").read()
+sys.path.insert(0, os.path.dirname(os.path.dirname(os.path.abspath(__file__))))
+from model.vectors import frames  # noqa: E402
+
 step = int(sys.argv[2]) if len(sys.argv) > 2 else 1
-at = count = 0
-while at < len(data):
-    records, lines = struct.unpack_from("<II", data, at)
-    end = at + 8 + records + lines
-    if count % step == 0:
-        sys.stdout.buffer.write(data[at:end])
-    at, count = end, count + 1
+for k, (records, lines) in enumerate(frames(sys.argv[1])):
+    if k % step == 0:
+        sys.stdout.buffer.write(struct.pack("<II", len(records), len(lines)) + records + lines)

@@ -3,10 +3,9 @@
 ghost use mathlib.Core.Path.{_≡_};
 ghost use Prim.Native.Nat.{_+_, _<_, _≤_};
 ghost use lib.ListN.{length, take};
-ghost use Rattle.records.specs.Record.{decoded};
 ghost use Rattle.records.specs.Lines.{joined};
-ghost use Rattle.records.specs.Run.{Stage, turn, ends};
-ghost use Rattle.run.specs.Standing.{memory, Stands, Standing, Roomy};
+ghost use Rattle.records.specs.Run.{ends};
+ghost use Rattle.run.specs.Standing.{memory, Standing, Roomy, RecordTold};
 use records::bytes;
 use records::lines::Out;
 use run::turn;
@@ -43,7 +42,7 @@ fn tell_record(
     virtuals: &mut [i64],
 ) -> After
     requires { ⌜ (16384 ≤ length (now lines)) × (r .stage < 3) × (r .record < 18446744073709551615) × Standing (memory (r .stage) (r .setup) (now block) (now edges) (now virtuals)) × (length (now body) ≤ 65535) × Roomy (now block) (now scratch) (now edges) (now virtuals) ⌝ }
-    ensures { λ x. ⌜ ((s : Stage) → Stands (memory (r .stage) (r .setup) (now (block .entry)) (now (edges .entry)) (now (virtuals .entry))) s → Stands (memory (x .run .stage) (x .run .setup) (now (block .exit)) (now (edges .exit)) (now (virtuals .exit))) (turn (r .record + 1) s (decoded (now (body .entry))) .stage) × (take (x .out .at) (now (lines .exit)) ≡ joined (turn (r .record + 1) s (decoded (now (body .entry))) .lines))) × (x .out .at ≤ length (now (lines .exit))) × (x .run .record ≡ r .record + 1) × (now (scratch .exit) ≡ now (scratch .entry)) ⌝ }
+    ensures { λ x. ⌜ RecordTold (r .record + 1) (memory (r .stage) (r .setup) (now (block .entry)) (now (edges .entry)) (now (virtuals .entry))) (memory (x .run .stage) (x .run .setup) (now (block .exit)) (now (edges .exit)) (now (virtuals .exit))) (now (body .entry)) (take (x .out .at) (now (lines .exit))) × (x .out .at ≤ length (now (lines .exit))) × (x .run .record ≡ r .record + 1) × (now (scratch .exit) ≡ now (scratch .entry)) ⌝ }
 {
     turn::turn(
         lines,

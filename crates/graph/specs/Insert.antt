@@ -7,6 +7,7 @@ use lib.ListN.{length, set}
 use Rattle.graph.specs.State.{State, vertexCount, edgeCount, sideCount, nodeCount}
 use Rattle.graph.specs.Layout.{row, stateOf}
 use Rattle.graph.specs.Form.{Formed}
+use Rattle.graph.specs.declared.dual_node.DualNode.{DualNode}
 
 -- after b₀, the block b is in form, has one more node and otherwise the same counts, and holds the state c
 pub record Inserted (b₀ b : List ℤ) (c : State) : Type 0 where
@@ -22,9 +23,9 @@ pub record Inserted (b₀ b : List ℤ) (c : State) : Type 0 where
 abbrev pub put : ℕ → ℕ → ℕ → List (List ℕ) → List (List ℕ)
 put k n x r = set r k (set (row r k) n x)
 
--- node n stands for `class` in grow state x, in no blossom, with dual variable 0
-abbrev pub headPut : ℕ → ℕ → ℕ → List (List ℕ) → List (List ℕ)
-headPut n class x r = put 14 n 0 (put 13 n 0 (put 12 n x (put 11 n class r)))
+-- the numbers of node n are those of d: what it stands for, its grow state, its parent and its dual variable
+abbrev pub headPut : ℕ → DualNode → List (List ℕ) → List (List ℕ)
+headPut n d r = put 14 n (d .dual) (put 13 n (d .parent) (put 12 n (d .state) (put 11 n (d .class) r)))
 
 -- the lists of node n start at a, and are empty
 abbrev pub tailPut : ℕ → ℕ → List (List ℕ) → List (List ℕ)

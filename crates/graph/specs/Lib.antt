@@ -6,6 +6,7 @@ pub mod Sound
 pub mod Word
 pub mod Rows
 pub mod Layout
+pub mod Free
 pub mod Node
 pub mod Form
 pub mod Readable

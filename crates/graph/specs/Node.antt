@@ -21,6 +21,10 @@ movedTop d l n x = if eqb n 0 then x else moved d l x
 unfoldable pub emptyNode : DualNode
 emptyNode = record { class = 0; state = 0; parent = 0; dual = 0; overgrown = 0; top = 0 }
 
+-- a new node: the empty one, standing for `class` in grow state x
+abbrev pub newNode : ℕ → ℕ → DualNode
+newNode class x = record { class = class; state = x; parent = 0; dual = 0; overgrown = 0; top = 0 }
+
 -- the node with its dual variable and its top amount moved
 unfoldable pub grownNode : ℕ → ℕ → DualNode → DualNode
 grownNode d l x =

@@ -3,6 +3,7 @@ pub mod Count
 pub mod Cut
 pub mod Field
 pub mod Form
+pub mod Free
 pub mod List
 pub mod Members
 pub mod Number

@@ -1,3 +1,4 @@
--- What the contracts of `host` cite: an answer as numbers; its laws are in laws/.
+-- What the contracts of `host` cite: an answer as numbers, and what an exported call promises; its laws are in laws/.
 pub mod Words
+pub mod Told
 pub mod laws

@@ -5,7 +5,7 @@ use mathlib.Core.Bool.{not}
 use mathlib.Core.List.{List, [], _∷_, _++_}
 use lib.IntN.{ℤ, natAbs}
 use lib.Signed.{nonNeg}
-use lib.Dec.{eqb}
+use lib.Dec.{eqb, leb}
 use lib.ListN.{length, drop, getD}
 use Rattle.graph.specs.Basic.{if_then_else_}
 use Rattle.length.specs.declared.Answer.{Answer}
@@ -55,10 +55,19 @@ pub record Saying {A : Type 0} (numbers : A → List ℕ) (list list' : List ℕ
   pub says : Says answer
   pub tells : Tells (numbers answer) list list' k
 
+-- A list of fewer than five words, which has no room for every answer: refused 1, as every lent list of a wrong length, if it has
+-- room for that; one of no word or one word is left.
+unfoldable pub shortList : List ℕ → List ℕ
+shortList list = if leb 2 (length list) then answerNumbers (Refused 1) ++ drop 2 list else list
+
+-- how many numbers are told there
+unfoldable pub shortCount : List ℕ → ℕ
+shortCount list = if leb 2 (length list) then 2 else 0
+
 -- What an exported call promises that gives back k. A list of five words or more: the call was made, and what it answers is told there.
--- A shorter one: nothing was called and k is 0; the list and, by Still, all else that the call may write are as they were.
+-- A shorter one: nothing was called; by Still all else that the call may write is as it was.
 pub record Told {A : Type 0} (numbers : A → List ℕ) (list list' : List ℕ) (k : ℕ) (Still : Type 0) (Says : A → Type 0) : Type 0 where
-  pub short : length list < 5 → (k ≡ 0) × (list' ≡ list) × Still
+  pub short : length list < 5 → (k ≡ shortCount list) × (list' ≡ shortList list) × Still
   pub told : 5 ≤ length list → Saying numbers list list' k Says
 
 -- block and scratch are as they were

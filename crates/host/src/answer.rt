@@ -6,7 +6,7 @@ ghost use Prim.Native.Nat.{_≤_};
 ghost use lib.Signed.{nonNeg};
 ghost use lib.ListN.{length};
 ghost use Rattle.length.specs.Answer.{flag};
-ghost use Rattle.host.specs.Words.{answerNumbers, openAnswer, openNumbers, countedNumbers, Tells};
+ghost use Rattle.host.specs.Words.{answerNumbers, openAnswer, openNumbers, countedNumbers, Tells, shortList, shortCount};
 ghost use Rattle.length.specs.declared.Answer.the-variants.{NonZeroGrow};
 use graph::words;
 use length::Answer;
@@ -23,6 +23,16 @@ pub fn front(list: &mut [usize], numbers: &[usize]) -> usize
         i += 1;
     }
     i
+}
+
+// A list that is too short for an answer: refused 1, if it has room for that; how many numbers are told.
+pub fn refuse_short(list: &mut [usize]) -> usize
+    ensures { λ r. ⌜ (r ≡ shortCount (now (list .entry))) × (now (list .exit) ≡ shortList (now (list .entry))) ⌝ }
+{
+    if list.len() < 2 {
+        return 0;
+    }
+    front(list, &[11, 1])
 }
 
 // 1 or 0.

@@ -1,10 +1,9 @@
 // The calls on lent memory, exported for C. The host lends a list for the answer too: what is told stands at its front, in numbers,
-// and each call gives back how many. A list of fewer than five words has no room: then nothing happens, and 0 is given back.
+// and each call gives back how many. A list of two to four words is of a wrong length: refused 1, and nothing is called. One that is shorter has no
+// room even for that: nothing happens, and 0 is given back.
 
-ghost use mathlib.Core.Path.{_≡_};
-ghost use Rattle.graph.specs.Opening.{OpenCalled};
-ghost use Rattle.lent.specs.Called.{DefectCalled, BlossomCalled, StateCalled, PrepareCalled, LengthCalled, GrowCalled, AdvanceCalled, ClearCalled, VertexRead, TableRead, ContactsRead, ContactsCounted};
-ghost use Rattle.host.specs.Words.{answerNumbers, openNumbers, countedNumbers, Told, Kept};
+ghost use Rattle.host.specs.Told.{OpenTold, DefectTold, BlossomTold, StateTold, PrepareTold, LengthTold, GrowTold, AdvanceTold, ClearTold};
+ghost use Rattle.host.specs.Told.{VertexTold, TableTold, ContactsTold};
 
 pub mod answer; // an answer as numbers
 
@@ -21,10 +20,10 @@ pub extern "C" fn fb_open(
     l: usize,
     answer: &mut [usize],
 ) -> usize
-    ensures { λ r. ⌜ Told openNumbers (now (answer .entry)) (now (answer .exit)) r (now (block .exit) ≡ now (block .entry)) (λ k. OpenCalled (now (block .entry)) (now (scratch .entry)) v e n l (now (edges .entry)) (now (virtuals .entry)) (now (block .exit)) k) ⌝ }
+    ensures { λ r. ⌜ OpenTold (now (block .entry)) (now (scratch .entry)) v e n l (now (edges .entry)) (now (virtuals .entry)) (now (block .exit)) (now (answer .entry)) (now (answer .exit)) r ⌝ }
 {
     if answer.len() < 5 {
-        return 0;
+        return answer::refuse_short(answer);
     }
     let k = memory::open::open(block, scratch, v, e, n, l, edges, virtuals);
     answer::tell_opened(answer, k)
@@ -39,10 +38,10 @@ pub extern "C" fn fb_insert_defect(
     state: usize,
     answer: &mut [usize],
 ) -> usize
-    ensures { λ r. ⌜ Told answerNumbers (now (answer .entry)) (now (answer .exit)) r (Kept (now (block .entry)) (now (scratch .entry)) (now (block .exit)) (now (scratch .exit))) (λ a. DefectCalled (now (block .entry)) (now (scratch .entry)) vertex state (now (block .exit)) (now (scratch .exit)) a) ⌝ }
+    ensures { λ r. ⌜ DefectTold (now (block .entry)) (now (scratch .entry)) vertex state (now (block .exit)) (now (scratch .exit)) (now (answer .entry)) (now (answer .exit)) r ⌝ }
 {
     if answer.len() < 5 {
-        return 0;
+        return answer::refuse_short(answer);
     }
     let a = lent::insert_defect(block, scratch, vertex, state);
     answer::tell(answer, a)
@@ -57,10 +56,10 @@ pub extern "C" fn fb_insert_blossom(
     state: usize,
     answer: &mut [usize],
 ) -> usize
-    ensures { λ r. ⌜ Told answerNumbers (now (answer .entry)) (now (answer .exit)) r (Kept (now (block .entry)) (now (scratch .entry)) (now (block .exit)) (now (scratch .exit))) (λ a. BlossomCalled (now (block .entry)) (now (scratch .entry)) state (now (circle .entry)) (now (block .exit)) (now (scratch .exit)) a) ⌝ }
+    ensures { λ r. ⌜ BlossomTold (now (block .entry)) (now (scratch .entry)) state (now (circle .entry)) (now (block .exit)) (now (scratch .exit)) (now (answer .entry)) (now (answer .exit)) r ⌝ }
 {
     if answer.len() < 5 {
-        return 0;
+        return answer::refuse_short(answer);
     }
     let a = lent::insert_blossom(block, scratch, state, circle);
     answer::tell(answer, a)
@@ -75,10 +74,10 @@ pub extern "C" fn fb_set_grow_state(
     state: usize,
     answer: &mut [usize],
 ) -> usize
-    ensures { λ r. ⌜ Told answerNumbers (now (answer .entry)) (now (answer .exit)) r (now (block .exit) ≡ now (block .entry)) (λ a. StateCalled (now (block .entry)) (now (scratch .entry)) node state (now (block .exit)) a) ⌝ }
+    ensures { λ r. ⌜ StateTold (now (block .entry)) (now (scratch .entry)) node state (now (block .exit)) (now (answer .entry)) (now (answer .exit)) r ⌝ }
 {
     if answer.len() < 5 {
-        return 0;
+        return answer::refuse_short(answer);
     }
     let a = lent::set_grow_state(block, scratch, node, state);
     answer::tell(answer, a)
@@ -93,10 +92,10 @@ pub extern "C" fn fb_prepare(
     direction: usize,
     answer: &mut [usize],
 ) -> usize
-    ensures { λ r. ⌜ Told answerNumbers (now (answer .entry)) (now (answer .exit)) r (Kept (now (block .entry)) (now (scratch .entry)) (now (block .exit)) (now (scratch .exit))) (λ a. PrepareCalled (now (block .entry)) (now (scratch .entry)) node direction (now (block .exit)) (now (scratch .exit)) a) ⌝ }
+    ensures { λ r. ⌜ PrepareTold (now (block .entry)) (now (scratch .entry)) node direction (now (block .exit)) (now (scratch .exit)) (now (answer .entry)) (now (answer .exit)) r ⌝ }
 {
     if answer.len() < 5 {
-        return 0;
+        return answer::refuse_short(answer);
     }
     let a = lent::prepare_dual_node_growth(block, scratch, node, direction);
     answer::tell(answer, a)
@@ -112,10 +111,10 @@ pub extern "C" fn fb_max_update_length(
     first: bool,
     answer: &mut [usize],
 ) -> usize
-    ensures { λ r. ⌜ Told answerNumbers (now (answer .entry)) (now (answer .exit)) r (Kept (now (block .entry)) (now (scratch .entry)) (now (block .exit)) (now (scratch .exit))) (λ a. LengthCalled (now (block .entry)) (now (scratch .entry)) node direction first (now (block .exit)) (now (scratch .exit)) a) ⌝ }
+    ensures { λ r. ⌜ LengthTold (now (block .entry)) (now (scratch .entry)) node direction first (now (block .exit)) (now (scratch .exit)) (now (answer .entry)) (now (answer .exit)) r ⌝ }
 {
     if answer.len() < 5 {
-        return 0;
+        return answer::refuse_short(answer);
     }
     let a = lent::compute_maximum_update_length_dual_node(block, scratch, node, direction, first);
     answer::tell(answer, a)
@@ -130,10 +129,10 @@ pub extern "C" fn fb_grow(
     length: i64,
     answer: &mut [usize],
 ) -> usize
-    ensures { λ r. ⌜ Told answerNumbers (now (answer .entry)) (now (answer .exit)) r (Kept (now (block .entry)) (now (scratch .entry)) (now (block .exit)) (now (scratch .exit))) (λ a. GrowCalled (now (block .entry)) (now (scratch .entry)) node length (now (block .exit)) (now (scratch .exit)) a) ⌝ }
+    ensures { λ r. ⌜ GrowTold (now (block .entry)) (now (scratch .entry)) node length (now (block .exit)) (now (scratch .exit)) (now (answer .entry)) (now (answer .exit)) r ⌝ }
 {
     if answer.len() < 5 {
-        return 0;
+        return answer::refuse_short(answer);
     }
     let a = lent::grow_dual_node(block, scratch, node, length);
     answer::tell(answer, a)
@@ -147,10 +146,10 @@ pub extern "C" fn fb_advance(
     node: usize,
     answer: &mut [usize],
 ) -> usize
-    ensures { λ r. ⌜ Told answerNumbers (now (answer .entry)) (now (answer .exit)) r (Kept (now (block .entry)) (now (scratch .entry)) (now (block .exit)) (now (scratch .exit))) (λ a. AdvanceCalled (now (block .entry)) (now (scratch .entry)) node (now (block .exit)) (now (scratch .exit)) a) ⌝ }
+    ensures { λ r. ⌜ AdvanceTold (now (block .entry)) (now (scratch .entry)) node (now (block .exit)) (now (scratch .exit)) (now (answer .entry)) (now (answer .exit)) r ⌝ }
 {
     if answer.len() < 5 {
-        return 0;
+        return answer::refuse_short(answer);
     }
     let a = lent::advance(block, scratch, node);
     answer::tell(answer, a)
@@ -159,10 +158,10 @@ pub extern "C" fn fb_advance(
 // Everything but the graph is emptied.
 #[no_mangle]
 pub extern "C" fn fb_clear(block: &mut [i64], scratch: &[i64], answer: &mut [usize]) -> usize
-    ensures { λ r. ⌜ Told answerNumbers (now (answer .entry)) (now (answer .exit)) r (now (block .exit) ≡ now (block .entry)) (λ a. ClearCalled (now (block .entry)) (now (scratch .entry)) (now (block .exit)) a) ⌝ }
+    ensures { λ r. ⌜ ClearTold (now (block .entry)) (now (scratch .entry)) (now (block .exit)) (now (answer .entry)) (now (answer .exit)) r ⌝ }
 {
     if answer.len() < 5 {
-        return 0;
+        return answer::refuse_short(answer);
     }
     let a = lent::clear(block, scratch);
     answer::tell(answer, a)
@@ -176,10 +175,10 @@ pub extern "C" fn fb_representative_vertex(
     node: usize,
     answer: &mut [usize],
 ) -> usize
-    ensures { λ r. ⌜ Told answerNumbers (now (answer .entry)) (now (answer .exit)) r Unit (λ a. VertexRead (now (block .entry)) (now (scratch .entry)) node a) ⌝ }
+    ensures { λ r. ⌜ VertexTold (now (block .entry)) (now (scratch .entry)) node (now (answer .entry)) (now (answer .exit)) r ⌝ }
 {
     if answer.len() < 5 {
-        return 0;
+        return answer::refuse_short(answer);
     }
     let a = lent::representative_vertex(block, scratch, node);
     answer::tell(answer, a)
@@ -193,10 +192,10 @@ pub extern "C" fn fb_read_table(
     list: &mut [i64],
     answer: &mut [usize],
 ) -> usize
-    ensures { λ r. ⌜ Told answerNumbers (now (answer .entry)) (now (answer .exit)) r (now (list .exit) ≡ now (list .entry)) (λ a. TableRead (now (block .entry)) (now (scratch .entry)) (now (list .entry)) (now (list .exit)) a) ⌝ }
+    ensures { λ r. ⌜ TableTold (now (block .entry)) (now (scratch .entry)) (now (list .entry)) (now (list .exit)) (now (answer .entry)) (now (answer .exit)) r ⌝ }
 {
     if answer.len() < 5 {
-        return 0;
+        return answer::refuse_short(answer);
     }
     let a = lent::read_table(block, scratch, list);
     answer::tell(answer, a)
@@ -210,10 +209,10 @@ pub extern "C" fn fb_contacts(
     list: &mut [i64],
     answer: &mut [usize],
 ) -> usize
-    ensures { λ r. ⌜ Told countedNumbers (now (answer .entry)) (now (answer .exit)) r (now (list .exit) ≡ now (list .entry)) (λ c. ContactsRead (now (block .entry)) (now (scratch .entry)) (now (list .entry)) (now (list .exit)) (c .answer) × ContactsCounted (now (block .entry)) (now (scratch .entry)) (now (list .entry)) (c .count)) ⌝ }
+    ensures { λ r. ⌜ ContactsTold (now (block .entry)) (now (scratch .entry)) (now (list .entry)) (now (list .exit)) (now (answer .entry)) (now (answer .exit)) r ⌝ }
 {
     if answer.len() < 5 {
-        return 0;
+        return answer::refuse_short(answer);
     }
     let c = lent::contacts(block, scratch, list);
     answer::tell_counted(answer, c)

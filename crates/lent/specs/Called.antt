@@ -20,26 +20,24 @@ use Rattle.calls.specs.Reply.{placed}
 use Rattle.calls.specs.Insert.{defectRefusal, blossomRefusal, insertDefect, insertBlossom}
 use Rattle.calls.specs.Calls.{setGrowState, prepareDualNodeGrowth, maxUpdateLength, growDualNode, advance, growthTable, contacts, representativeVertex, clear}
 
--- the reply r of a call on the block b, unless block and scratch are refused
-unfoldable pub lentReply : List ℤ → List ℤ → Reply → Reply
-lentReply b t r = unless (memoryRefusal b t) (stateOf b) r
+-- the call writes: k, the refusal of what is lent, is 0, and the call itself says so
+abbrev pub lentWrites : ℕ → Bool → Bool
+lentWrites k writes = eqb k 0 && writes
 
--- block and scratch are not refused, and the call writes
-unfoldable pub lentWrites : List ℤ → List ℤ → Bool → Bool
-lentWrites b t writes = eqb (memoryRefusal b t) 0 && writes
-
--- From the block b to b': the answer and the state are those of the reply r. A call that doesn't write leaves every word as it was.
-pub record Called (b t b' : List ℤ) (a : Answer) (writes : Bool) (r : Reply) : Type 0 where
-  pub answer : a ≡ lentReply b t r .answer
-  pub state : stateOf b' ≡ lentReply b t r .state
-  pub formed : memoryRefusal b t ≡ 0 → Formed b'
-  pub unchanged : lentWrites b t writes ≡ false → b' ≡ b
+-- From the block b to b', where k is 0 or refuses what is lent: answer and state are those of the reply r, or of the refusal with nothing
+-- changed. A call that doesn't write leaves every word as it was. Of one that does, the words that hold no part of the state are free
+-- (docs/LAYOUT.md names them), and no call reads them.
+pub record Called (k : ℕ) (b b' : List ℤ) (a : Answer) (writes : Bool) (r : Reply) : Type 0 where
+  pub answer : a ≡ unless k (stateOf b) r .answer
+  pub state : stateOf b' ≡ unless k (stateOf b) r .state
+  pub formed : k ≡ 0 → Formed b'
+  pub unchanged : lentWrites k writes ≡ false → b' ≡ b
   pub len : length b' ≡ length b
 
 -- The same of a call that prepares or inserts where it writes: it leaves the scratch all zero then, and as it was else.
-pub record CalledWithScratch (b t b' t' : List ℤ) (a : Answer) (writes : Bool) (r : Reply) : Type 0 where
-  pub block : Called b t b' a writes r
-  pub scratch : t' ≡ (if lentWrites b t writes then zeroScratch (length t) else t)
+pub record CalledWithScratch (k : ℕ) (b t b' t' : List ℤ) (a : Answer) (writes : Bool) (r : Reply) : Type 0 where
+  pub block : Called k b b' a writes r
+  pub scratch : t' ≡ (if lentWrites k writes then zeroScratch (length t) else t)
 
 -- ---- which calls write
 
@@ -74,36 +72,36 @@ advanceWrites c n = not (eqb (growStateOf c n) stay) && prepareWrites c n up
 -- b and t are block and scratch before, b' and t' after, a the answer; numbers and lists beside them stand between
 
 abbrev pub DefectCalled : List ℤ → List ℤ → ℕ → ℕ → List ℤ → List ℤ → Answer → Type 0
-DefectCalled b t v x b' t' a = CalledWithScratch b t b' t' a (defectWrites (stateOf b) v x) (insertDefect (stateOf b) v x)
+DefectCalled b t v x b' t' a = CalledWithScratch (memoryRefusal b t) b t b' t' a (defectWrites (stateOf b) v x) (insertDefect (stateOf b) v x)
 
 -- a word of the circle that is below 0 names no node
 abbrev pub BlossomCalled : List ℤ → List ℤ → ℕ → List ℤ → List ℤ → List ℤ → Answer → Type 0
-BlossomCalled b t x circle b' t' a = CalledWithScratch b t b' t' a (blossomWrites (stateOf b) x (map toNat circle)) (insertBlossom (stateOf b) x (map toNat circle))
+BlossomCalled b t x circle b' t' a = CalledWithScratch (memoryRefusal b t) b t b' t' a (blossomWrites (stateOf b) x (map toNat circle)) (insertBlossom (stateOf b) x (map toNat circle))
 
 -- the scratch is only read
 abbrev pub StateCalled : List ℤ → List ℤ → ℕ → ℕ → List ℤ → Answer → Type 0
-StateCalled b t n x b' a = Called b t b' a (stateWrites (stateOf b) n x) (setGrowState (stateOf b) n x)
+StateCalled b t n x b' a = Called (memoryRefusal b t) b b' a (stateWrites (stateOf b) n x) (setGrowState (stateOf b) n x)
 
 abbrev pub PrepareCalled : List ℤ → List ℤ → ℕ → ℕ → List ℤ → List ℤ → Answer → Type 0
-PrepareCalled b t n d b' t' a = CalledWithScratch b t b' t' a (prepareWrites (stateOf b) n d) (prepareDualNodeGrowth (stateOf b) n d)
+PrepareCalled b t n d b' t' a = CalledWithScratch (memoryRefusal b t) b t b' t' a (prepareWrites (stateOf b) n d) (prepareDualNodeGrowth (stateOf b) n d)
 
 abbrev pub LengthCalled : List ℤ → List ℤ → ℕ → ℕ → Bool → List ℤ → List ℤ → Answer → Type 0
-LengthCalled b t n d first b' t' a = CalledWithScratch b t b' t' a (lengthWrites (stateOf b) n d first) (maxUpdateLength (stateOf b) n d first)
+LengthCalled b t n d first b' t' a = CalledWithScratch (memoryRefusal b t) b t b' t' a (lengthWrites (stateOf b) n d first) (maxUpdateLength (stateOf b) n d first)
 
 abbrev pub GrowCalled : List ℤ → List ℤ → ℕ → ℤ → List ℤ → List ℤ → Answer → Type 0
-GrowCalled b t n l b' t' a = CalledWithScratch b t b' t' a (growWrites (stateOf b) n l) (growDualNode (stateOf b) n l)
+GrowCalled b t n l b' t' a = CalledWithScratch (memoryRefusal b t) b t b' t' a (growWrites (stateOf b) n l) (growDualNode (stateOf b) n l)
 
 abbrev pub AdvanceCalled : List ℤ → List ℤ → ℕ → List ℤ → List ℤ → Answer → Type 0
-AdvanceCalled b t n b' t' a = CalledWithScratch b t b' t' a (advanceWrites (stateOf b) n) (advance (stateOf b) n)
+AdvanceCalled b t n b' t' a = CalledWithScratch (memoryRefusal b t) b t b' t' a (advanceWrites (stateOf b) n) (advance (stateOf b) n)
 
 -- the scratch is only read
 abbrev pub ClearCalled : List ℤ → List ℤ → List ℤ → Answer → Type 0
-ClearCalled b t b' a = Called b t b' a true (clear (stateOf b))
+ClearCalled b t b' a = Called (memoryRefusal b t) b b' a true (clear (stateOf b))
 
 -- ---- the three that only read block and scratch
 
 abbrev pub VertexRead : List ℤ → List ℤ → ℕ → Answer → Type 0
-VertexRead b t n a = a ≡ lentReply b t (representativeVertex (stateOf b) n) .answer
+VertexRead b t n a = a ≡ unless (memoryRefusal b t) (stateOf b) (representativeVertex (stateOf b) n) .answer
 
 -- From the lent list to list': done and filled, or refused with the number k and left.
 pub record ListRead (b list list' filled : List ℤ) (k : ℕ) (a : Answer) : Type 0 where

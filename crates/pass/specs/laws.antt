@@ -2,6 +2,7 @@
 pub mod Counts
 pub mod Fits
 pub mod GrowSound
+pub mod Holders
 pub mod Passes
 pub mod Prepare
 pub mod Preparing

@@ -1,5 +1,6 @@
 -- A run: records in, lines out.
 use Prim.Native.Nat.{ℕ, zero, suc, _+_}
+use mathlib.Core.Path.{_≡_}
 use mathlib.Core.Bool.{Bool, true, false, _&&_, _||_, not}
 use mathlib.Core.List.{List, [], _∷_, _++_}
 use lib.Dec.{leb, ltb, eqb}
@@ -104,3 +105,8 @@ fittedLines b space = fitting space (linesIn b)
 
 unfoldable pub filled : List ℕ → List ℕ → List ℕ
 filled b out = over (fittedLines b (length out)) out
+
+-- What the exported call promises, from the bytes `lines` that it is lent to lines', and with the number k that it gives back.
+pub record LinesCalled (b lines lines' : List ℕ) (k : ℕ) : Type 0 where
+  pub bytes : lines' ≡ filled b lines
+  pub count : k ≡ length (fittedLines b (length lines))

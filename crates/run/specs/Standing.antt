@@ -14,6 +14,7 @@ use Rattle.length.specs.declared.Answer.{Answer}
 use Rattle.calls.specs.Calls.{Call, Clear, answered, respond}
 use Rattle.reachable.specs.Reachable.{Reachable}
 use Rattle.records.specs.Record.{Record, sizes, anEdge, aVirtual, ask, illFormed, pairAt, decoded, nextRecord, next}
+use Rattle.records.specs.Lines.{joined}
 use Rattle.records.specs.Decode.{wellFormed}
 use Rattle.records.specs.Run.{Gathered, Stage, fresh, gathering, running, ended, turn}
 use Rattle.records.specs.declared.setup.Setup.{Setup}
@@ -118,6 +119,11 @@ pub record Roomy (block scratch edges virtuals : List ℤ) : Type 0 where
 pub record Turned (k : ℕ) (m m' : Memory) (b : List ℕ) (n : ℕ) (full : Bool) (c : List ℕ) (i : ℕ) (stopped : Bool) (x : Record) : Type 0 where
   pub stands : (s : Stage) → Stands m s → Stands m' (turn k s x .stage)
   pub told : (s : Stage) → Stands m s → Told b n full c i stopped (turn k s x .lines)
+
+-- From the memory m to m' by record number k, whose body is given, with the bytes `out` for its lines: wherever the run stood, it now stands where the
+-- definition has it, and the bytes are all lines that the definition gives.
+pub record RecordTold (k : ℕ) (m m' : Memory) (body out : List ℕ) : Type 0 where
+  pub promise : (s : Stage) → Stands m s → Stands m' (turn k s (decoded body) .stage) × (out ≡ joined (turn k s (decoded body) .lines))
 
 -- the same of the record that begins at place i of the input; the one after it begins at j
 pub record Stepped (input : List ℕ) (i j k : ℕ) (m m' : Memory) (b : List ℕ) (n : ℕ) (full : Bool) (c : List ℕ) (l : ℕ) (stopped : Bool) : Type 0 where

@@ -2,3 +2,4 @@
 pub mod Block
 pub mod Memory
 pub mod Pack
+pub mod Whole

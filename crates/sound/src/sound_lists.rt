@@ -10,6 +10,7 @@ ghost use Rattle.graph.specs.Sound.{overSound, ownLists};
 ghost use Rattle.graph.specs.Layout.{stateOf, fitsAt, packed};
 ghost use Rattle.graph.specs.Form.{Laid, Listed, sidesOk};
 ghost use Rattle.graph.specs.Scans.{sideHeld, vertexHeld, overgrownVertices, onceAll, AtMost, Stamps};
+use graph::dual_node::DualNode;
 use graph::lists;
 use graph::rows;
 
@@ -81,7 +82,7 @@ pub fn overgrown_sound(b: &[i64], n: usize) -> bool
     while i < k {
         let v = lists::overgrown_vertex(b, n, i);
         let a = lists::overgrown_amount(b, n, i);
-        if (v < m) & (a <= 1000000000) {
+        if (v < m) & (a <= DualNode::MAX_DUAL) {
             i += 1;
         } else {
             return false;

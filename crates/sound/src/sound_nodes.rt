@@ -9,6 +9,7 @@ ghost use Rattle.graph.specs.Layout.{stateOf};
 ghost use Rattle.graph.specs.Form.{Laid, Listed};
 ghost use Rattle.graph.specs.Scans.{nodeNumbers, Stamps};
 use crate::sound_lists;
+use graph::dual_node::DualNode;
 use graph::rows;
 
 // ---- the numbers
@@ -40,7 +41,7 @@ fn node_numbers(b: &[i64], n: usize) -> bool
 {
     let s = rows::node_word(b, 1, n);
     let d = rows::node_word(b, 3, n);
-    class_sound(b, n) & (s <= 2) & parent_sound(b, n) & (d <= 1000000000)
+    class_sound(b, n) & (s <= 2) & parent_sound(b, n) & (d <= DualNode::MAX_DUAL)
 }
 
 // ---- numbers and lists

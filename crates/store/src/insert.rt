@@ -8,22 +8,35 @@ ghost use Rattle.graph.specs.Sound.{entries};
 ghost use Rattle.graph.specs.Word.{numbersAt};
 ghost use Rattle.graph.specs.Layout.{rowsOf, stateOf, classFrom};
 ghost use Rattle.graph.specs.Form.{Laid, Formed};
+ghost use mathlib.Core.Path.{_≡_};
+ghost use Rattle.graph.specs.Node.{newNode};
 ghost use Rattle.graph.specs.Insert.{Inserted, headPut, tailPut};
 ghost use Rattle.store.specs.laws.Clear.{Rewritten};
 use crate::clear;
 use crate::replace;
+use graph::dual_node::DualNode;
 use graph::lists;
 use graph::rows;
 
-// What node n stands for and its grow state; it lies in no blossom and has dual variable 0.
-fn put_head(b: &mut [i64], n: usize, class: usize, x: usize)
-    requires { ⌜ Laid (now b) × (n < stateOf (now b) .nodeLimit) × (class < 9223372036854775808) × (x < 9223372036854775808) ⌝ }
-    ensures { λ r. ⌜ Rewritten (now (b .entry)) (now (b .exit)) (headPut n class x (rowsOf (now (b .entry)))) ⌝ }
+// The numbers of node n are those of d.
+fn put_head(b: &mut [i64], n: usize, d: DualNode)
+    requires { ⌜ Laid (now b) × (n < stateOf (now b) .nodeLimit) × (d .class < 9223372036854775808) × (d .state < 9223372036854775808) × (d .parent < 9223372036854775808) × (d .dual < 9223372036854775808) ⌝ }
+    ensures { λ r. ⌜ Rewritten (now (b .entry)) (now (b .exit)) (headPut n d (rowsOf (now (b .entry)))) ⌝ }
 {
-    rows::put_node(b, 0, n, class);
-    rows::put_node(b, 1, n, x);
-    rows::put_node(b, 2, n, 0);
-    rows::put_node(b, 3, n, 0);
+    rows::put_node(b, 0, n, d.class);
+    rows::put_node(b, 1, n, d.state);
+    rows::put_node(b, 2, n, d.parent);
+    rows::put_node(b, 3, n, d.dual);
+}
+
+// A new node: the empty one, standing for `class` in grow state x.
+fn new_node(class: usize, x: usize) -> DualNode
+    ensures { λ r. ⌜ r ≡ newNode class x ⌝ }
+{
+    let mut d = DualNode::empty();
+    d.class = class;
+    d.state = x;
+    d
 }
 
 // Node n has no lists; they would start at a.
@@ -43,7 +56,8 @@ fn push_empty(b: &mut [i64], class: usize, x: usize)
 {
     let n = rows::node_count(b);
     let a = lists::entry_count(b);
-    put_head(b, n, class, x);
+    let d = new_node(class, x);
+    put_head(b, n, d);
     put_tail(b, n, a);
     clear::put_node_count(b, n + 1);
 }

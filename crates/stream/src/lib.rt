@@ -3,7 +3,7 @@
 ghost use mathlib.Core.Path.{_≡_};
 ghost use Prim.Native.Nat.{_+_, _<_, _≤_};
 ghost use lib.ListN.{length};
-ghost use Rattle.records.specs.Run.{ends, fittedLines, filled};
+ghost use Rattle.records.specs.Run.{ends, LinesCalled};
 ghost use Rattle.run.specs.Standing.{memory, Standing, Roomy, Stepped};
 ghost use Rattle.records.specs.Write.{Told};
 use records::bytes;
@@ -86,7 +86,7 @@ fn write_lines(
     virtuals: &mut [i64],
 ) -> usize
     requires { ⌜ Roomy (now block) (now scratch) (now edges) (now virtuals) ⌝ }
-    ensures { λ r. ⌜ (now (lines .exit) ≡ filled (now (records .entry)) (now (lines .entry))) × (r ≡ length (fittedLines (now (records .entry)) (length (now (lines .entry))))) ⌝ }
+    ensures { λ r. ⌜ LinesCalled (now (records .entry)) (now (lines .entry)) (now (lines .exit)) r ⌝ }
 {
     let mut r = turn::fresh();
     let mut o = Out { at: 0, full: false };
@@ -103,7 +103,7 @@ fn write_lines(
 // The same with words of its own.
 #[no_mangle]
 pub extern "C" fn cardrun_lines(records: &[u8], lines: &mut [u8]) -> usize
-    ensures { λ r. ⌜ (now (lines .exit) ≡ filled (now (records .entry)) (now (lines .entry))) × (r ≡ length (fittedLines (now (records .entry)) (length (now (lines .entry))))) ⌝ }
+    ensures { λ r. ⌜ LinesCalled (now (records .entry)) (now (lines .entry)) (now (lines .exit)) r ⌝ }
 {
     let mut block = [0i64; 4096];
     let mut scratch = [0i64; 768];

@@ -4,10 +4,7 @@ pub mod Answers
 pub mod History
 pub mod Runs
 pub mod Theorems
-pub mod Steps
-pub mod Delivered
 pub mod Opens
 pub mod Examples
-pub mod LentExample
 pub mod Hypotheses
 pub mod laws

@@ -7,7 +7,5 @@ pub mod Opening
 pub mod History
 pub mod Duals
 pub mod Runs
-pub mod Whole
 pub mod Kept
-pub mod Steps
-pub mod Delivered
+pub mod Append

@@ -8,7 +8,7 @@ use Rattle.graph.specs.State.{sideCount}
 use Rattle.graph.specs.Word.{toNat}
 use Rattle.graph.specs.Layout.{stateOf}
 use Rattle.pass.specs.laws.Scratch.{holding-zero}
-use Rattle.calls.specs.laws.Defect.{laid-nodes}
+use Rattle.graph.specs.laws.Form.{laid-nodes}
 use Rattle.graph.specs.laws.Number.{word-entry}
 use Rattle.blossom.specs.laws.Blossom.{MembersJoined, joined-here, members-none, members-node, members-sides, members-apart, members-more, members-all}
 use Rattle.blossom.proofs.join_members.Statement.{statement}

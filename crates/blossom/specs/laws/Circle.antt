@@ -31,7 +31,7 @@ use Rattle.blossom.specs.Circle.{Joinable}
 use Rattle.calls.specs.Reply.{Usable}
 use Rattle.calls.specs.laws.Accepted.{BlossomAccepted, store-room, entries-named, entries-none}
 use Rattle.graph.specs.laws.Members.{none-member}
-use Rattle.calls.specs.laws.Refuse.{laid-store}
+use Rattle.graph.specs.laws.List.{store-max}
 use Rattle.graph.specs.laws.Number.{word-entry}
 
 -- ---- its members are nodes
@@ -115,7 +115,7 @@ module _ (l : List ℤ) where
 
 -- a block in form has at most 65536 entries
 pub formed-entries : (b : List ℤ) → Formed b → entries (stateOf b) ≤ 65536
-formed-entries b f = omega (arith, entries-within b (f .laid) (f .listed), laid-store b (f .laid))
+formed-entries b f = omega (arith, entries-within b (f .laid) (f .listed), store-max b (f .laid))
 
 sum-le : (f g : ℕ → ℕ) (n : ℕ) → ((i : ℕ) → f i ≤ g i) → sumBelow f n ≤ sumBelow g n
 unfolding sumBelow

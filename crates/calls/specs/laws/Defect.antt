@@ -16,7 +16,8 @@ use Rattle.graph.specs.State.{State, defectVertex, vertexCount, sideCount, node
 use Rattle.graph.specs.Sound.{entriesOf, entries}
 use Rattle.graph.specs.Word.{numbersAt}
 use Rattle.graph.specs.Layout.{stateOf, classFrom}
-use Rattle.graph.specs.Form.{Laid, Formed, Becomes}
+use Rattle.graph.specs.Form.{Formed, Becomes}
+use Rattle.graph.specs.laws.Form.{laid-nodes}
 use Rattle.graph.specs.Insert.{Inserted}
 use Rattle.graph.specs.laws.State.{Kept, kept-refl, kept-trans, kept-held-side, fold-more, fold-done, fold-keeps, kept-sides}
 use Rattle.graph.specs.laws.Row.{becomes-none, becomes-then}
@@ -184,11 +185,6 @@ same-defect n c v = fold-keeps (holdStep n) (SameLists c) (same-hold n c) (heldV
 same-entries : {c d : State} → SameLists c d → entries d ≡ entries c
 unfolding entries entriesOf
 same-entries p = rw (p .count, p .boundary, p .overgrown)
-
--- how many nodes a block may have
-pub laid-nodes : (b : List ℤ) → Laid b → stateOf b .nodeLimit ≤ 1024
-unfolding Laid
-laid-nodes b q = omega (arith, q .counted .node-limit, q .sized .n-max)
 
 class-defect : (m v : ℕ) → v < m → classFrom m v ≡ defectVertex v
 unfolding classFrom

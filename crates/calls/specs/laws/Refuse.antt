@@ -14,11 +14,6 @@ use Rattle.graph.specs.Form.{Laid}
 use Rattle.calls.specs.Refuse.{badNode, inBlossom, entriesBut, storeShort, nodeRefusal}
 use Rattle.calls.specs.laws.Accepted.{entries-named, entries-none}
 
--- the store of a block
-pub laid-store : (b : List ℤ) → Laid b → stateOf b .storeLimit ≤ 65536
-unfolding Laid
-laid-store b q = omega (arith, q .counted .store-limit, q .sized .l-max)
-
 -- the entries of one node are some of all
 pub entries-with : (c : State) (n : ℕ) → n < nodeCount c → entries c ≡ entriesBut c (n ∷ []) + entriesOf c n
 entries-with c n h = sym (entries-none c) ∙ entries-named c n [] h (unfold member any in refl)

@@ -91,7 +91,7 @@ returns-3 c =
     let p = c .before .before .before .before .before .before .before .before .before .before .before .before .before .before .before .before .before .before .before .before .before .before .before .before .before .before .pre .5 in
     let e = c .before .before .before .before .before .before .before .before .tell-record .ensures in
     let w = c .written .ensures in
-    (ap (λ x. x .«record») w ∙ e .2, rw w (record { at = _; stands = e .0 (p .at) (p .stands) .0 }), e .3)
+    (ap (λ x. x .«record») w ∙ e .2, rw w (record { at = _; stands = e .0 .promise (p .at) (p .stands) .0 }), e .3)
 
 pub take-record-spec : {M : Type 1} → statement M
 take-record-spec =

@@ -25,7 +25,7 @@ returns : tie.Need-returns
 returns c =
     let a = c .before .before .before .before .before .before .before .before .before .before .before .before .before .before in
     let e = c .before .before .before .before .before .before .turn .ensures in
-    ((λ s p. (e .0 .stands s p, turned-tells (a .pre .5 .edge-words) (a .pre .0) (e .0) s p)), e .0 .told (a .pre .3 .at) (a .pre .3 .stands) .room, e .1, e .2)
+    (record { promise = λ s p. (e .0 .stands s p, turned-tells (a .pre .5 .edge-words) (a .pre .0) (e .0) s p) }, e .0 .told (a .pre .3 .at) (a .pre .3 .stands) .room, e .1, e .2)
 
 pub tell-record-spec : {M : Type 1} → statement M
 tell-record-spec =

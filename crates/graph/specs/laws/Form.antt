@@ -1,15 +1,21 @@
 -- What a block in form has: the lengths of its state's lists.
-use Prim.Native.Nat.{ℕ, zero, suc, _+_, _*_, _/_, _≤_}
+use Prim.Native.Nat.{ℕ, zero, suc, _+_, _*_, _/_, _≤_, _<_}
 use native.Mathlib.Omega.{arith}
 use mathlib.Core.Path.{_≡_, refl, sym, ap, _∙_}
-use mathlib.Core.List.{List, [], _∷_}
+use mathlib.Core.Bool.{true}
+use mathlib.Core.List.{List, [], _∷_, map}
 use lib.IntN.{ℤ}
+use lib.Dec.{ltb}
 use lib.ListN.{length, getD, take, drop, length-map, length-take}
-use Rattle.graph.specs.State.{vertexCount, nodeCount}
+use borrow.Author.Tests.{lt-ltb}
+use Rattle.graph.specs.Basic.{all, below}
+use Rattle.graph.specs.State.{vertexCount, edgeCount, sideCount, nodeCount, sidesAt}
+use Rattle.graph.specs.Open.{sidesOf}
 use Rattle.graph.specs.Rows.{offset}
 use Rattle.graph.specs.Layout.{stateOf, stateFrom, rowsOf, row, classFrom, stretches, boundaries, stacks, countOf, nOf}
-use Rattle.graph.specs.Form.{Laid, Formed}
-use Rattle.graph.specs.laws.Shape.{Shape}
+use Rattle.graph.specs.Form.{Laid, Wired, Formed}
+use Rattle.graph.specs.laws.Members.{all-from}
+use Rattle.graph.specs.laws.Shape.{Shape, sides-of-out}
 use Rattle.graph.specs.laws.Row.{rows-length, header-get}
 
 length-stretches : (fs l : List ℕ) → length (stretches fs l) ≡ length fs
@@ -71,3 +77,22 @@ formed-shape b f = laid-shape b (f .laid)
 
 pub formed-vertices : (b : List ℤ) → Formed b → 1 ≤ vertexCount (stateOf b)
 formed-vertices b f = laid-vertices b (f .laid)
+
+-- how many nodes a block may have
+pub laid-nodes : (b : List ℤ) → Laid b → stateOf b .nodeLimit ≤ 1024
+unfolding Laid
+laid-nodes b q = omega (arith, q .counted .node-limit, q .sized .n-max)
+
+-- each side has a growth
+pub formed-growths : (b : List ℤ) → Formed b → length (stateOf b .sides .growth) ≡ 2 * edgeCount (stateOf b)
+formed-growths b f = formed-shape b f .growth ∙ f .pairs
+
+-- the sides at a vertex are sides
+pub formed-sides : (b : List ℤ) → Formed b → (v : ℕ) → all (λ t. ltb t (sideCount (stateOf b))) (sidesAt (stateOf b) v) ≡ true
+unfolding Wired stateOf stateFrom
+formed-sides b f v = rw (f .wired .sides) (each (row (rowsOf b) 5) (below (getD (row (rowsOf b) 0) 0 0)) v)
+  where
+    each : (ends vs : List ℕ) (v : ℕ) → all (λ t. ltb t (length ends)) (getD (map (sidesOf ends) vs) v []) ≡ true
+    each ends [] v = unfold all in refl
+    each ends (u ∷ vs) zero = all-from (λ t. ltb t (length ends)) (sidesOf ends u) (λ t m. lt-ltb t (length ends) (sides-of-out ends u t m .0))
+    each ends (u ∷ vs) (suc v) = each ends vs v

@@ -49,11 +49,14 @@ pub word-other : (b : List ℤ) (i j : ℕ) (z : ℤ) → j ≢ i → wordAt (se
 unfolding wordAt
 word-other b i j z n = rw (getD-set-other b i j z (pos 0) n)
 
+pub numbers-any : (b : List ℤ) (i : ℕ) (z : ℤ) → map toNat (set b i z) ≡ set (map toNat b) i (toNat z)
+numbers-any [] i z = refl
+numbers-any (y ∷ b) zero z = refl
+numbers-any (y ∷ b) (suc i) z = ap (λ r. toNat y ∷ r) (numbers-any b i z)
+
 pub numbers-set : (b : List ℤ) (i x : ℕ) → map toNat (set b i (pos x)) ≡ set (map toNat b) i x
 unfolding toNat
-numbers-set [] i x = refl
-numbers-set (z ∷ b) zero x = refl
-numbers-set (z ∷ b) (suc i) x = ap (λ r. toNat z ∷ r) (numbers-set b i x)
+numbers-set b i x = numbers-any b i (pos x)
 
 pub numbers-get : (b : List ℤ) (i : ℕ) → getD (map toNat b) i 0 ≡ wordAt b i
 unfolding wordAt toNat
@@ -79,11 +82,17 @@ pub record Found (b : List ℤ) (k i p : ℕ) : Type 0 where
 abbrev pub rowsWith : List ℤ → ℕ → ℕ → ℕ → List (List ℕ)
 rowsWith b k i x = set (rowsOf b) k (set (row (rowsOf b) k) i x)
 
-pub rows-put : (b : List ℤ) (k i p x : ℕ) → Stands b k i p → 4 ≤ p → rowsOf (set b p (pos x)) ≡ rowsWith b k i x
+-- any word, behind the four sizes
+pub rows-any : (b : List ℤ) (k i p : ℕ) (z : ℤ) → Stands b k i p → 4 ≤ p → rowsOf (set b p z) ≡ rowsWith b k i (toNat z)
 unfolding rowsOf
-rows-put b k i p x s h =
-    rw (word-other b p 0 (pos x) (omega arith), word-other b p 1 (pos x) (omega arith), word-other b p 2 (pos x) (omega arith), word-other b p 3 (pos x) (omega arith), numbers-set b p x, s .place)
-    (row-set (sizesOf b) (map toNat b) k i x (s .within))
+rows-any b k i p z s h =
+    rw (word-other b p 0 z (omega arith), word-other b p 1 z (omega arith), word-other b p 2 z (omega arith), word-other b p 3 z (omega arith),
+    numbers-any b p z, s .place)
+    (row-set (sizesOf b) (map toNat b) k i (toNat z) (s .within))
+
+pub rows-put : (b : List ℤ) (k i p x : ℕ) → Stands b k i p → 4 ≤ p → rowsOf (set b p (pos x)) ≡ rowsWith b k i x
+unfolding toNat
+rows-put b k i p x = rows-any b k i p (pos x)
 
 pub sized-put : (b : List ℤ) (p x : ℕ) → Sized b → 4 ≤ p → Sized (set b p (pos x))
 sized-put b p x z h =

@@ -22,7 +22,7 @@ use Rattle.pass.specs.Work.{Work, onState, keep, push, callAnother}
 use Rattle.pass.specs.Grow.{takeSide, takeVertex, takeStep}
 use Rattle.pass.specs.laws.Passes.{Keeps, keeps-take-side, keeps-take-step, keeps-on}
 use Rattle.pass.specs.laws.Fits.{OwnSides, own-length, own-snoc, side-holds, side-held, own-take-side, Siding, siding-step, Still, still-take-side}
-use Rattle.graph.specs.laws.Form.{formed-shape}
+use Rattle.graph.specs.laws.Form.{formed-shape, formed-sides}
 use Rattle.grow_pass.specs.Growing.{workIn, Working, Worked, OwnKept}
 use Rattle.grow_pass.specs.laws.Growing.{kept-length, noted-length, over-length, work-push, worked-then, work-keep, work-call, work-block, work-none, Keeping}
 use Rattle.grow_pass.specs.declared.take.GrowProgress.{GrowProgress}
@@ -72,9 +72,6 @@ all-of : (f : ℕ → Bool) (l : List ℕ) → ((i : ℕ) → i < length l → f
 unfolding all
 all-of f [] h = refl
 all-of f (x ∷ l) h = both (f x) (all f l) (h 0 (omega arith)) (all-of f l (λ i k. h (suc i) (omega arith)))
-
-pub formed-sides : (b : List ℤ) → Formed b → (v : ℕ) → all (λ t. ltb t (sideCount (stateOf b))) (sidesAt (stateOf b) v) ≡ true
-formed-sides b f v = all-of (λ t. ltb t (sideCount (stateOf b))) (sidesAt (stateOf b) v) (λ i h. lt-ltb (getD (sidesAt (stateOf b) v) i 0) (sideCount (stateOf b)) (vertex-side-below b v i (f .wired) h))
 
 -- vertex v is held, and its free sides are
 abbrev pub sided : ℕ → ℕ → Work → ℕ → Work

@@ -4,8 +4,14 @@ use borrow.Author.Needs.{needs}
 use Rattle.host.proofs.fb_read_table.Statement.{statement}
 use Rattle.host.proofs.fb_read_table.Tie as tie
 
+refuse-short-requires : tie.Need-refuse-short-requires
+refuse-short-requires c κs = search needs
+
+same-length : tie.Need-same-length
+same-length c = search needs
+
 returns : tie.Need-returns
-returns c = told-short (c .if1 .taken) refl
+returns c = told-short (c .before .before .before .before .if1 .taken) (c .before .before .refuse-short .ensures) refl
 
 read-table-requires : tie.Need-read-table-requires
 read-table-requires c κs = search needs
@@ -13,11 +19,11 @@ read-table-requires c κs = search needs
 tell-requires : tie.Need-tell-requires
 tell-requires c κs = search needs
 
-same-length : tie.Need-same-length
-same-length c = search needs
-
 same-length-2 : tie.Need-same-length-2
 same-length-2 c = search needs
+
+same-length-3 : tie.Need-same-length-3
+same-length-3 c = search needs
 
 returns-2 : tie.Need-returns-2
 returns-2 c = told-all (search needs) _ (c .before .before .before .before .before .read-table .ensures) (c .before .before .tell .ensures)
@@ -25,4 +31,12 @@ returns-2 c = told-all (search needs) _ (c .before .before .before .before .befo
 pub fb-read-table-spec : {M : Type 1} → statement M
 fb-read-table-spec =
     tie.close
-    (tie.spec returns read-table-requires tell-requires same-length same-length-2 returns-2)
+    (tie.spec
+    refuse-short-requires
+    same-length
+    returns
+    read-table-requires
+    tell-requires
+    same-length-2
+    same-length-3
+    returns-2)

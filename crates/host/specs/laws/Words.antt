@@ -9,7 +9,7 @@ use lib.ListN.{length, take, drop, set, getD}
 use lib.Seq.{paste-suc, take-all}
 use Rattle.length.specs.declared.Answer.{Answer}
 use Rattle.length.specs.declared.Answer.the-variants.{NonZeroGrow, Unlimited, Conflicting, TouchingVirtual, BlossomNeedExpand, VertexShrinkStop, VertexShrinkStopPeer, Done, Node, Prepared, Vertex, Refused}
-use Rattle.host.specs.Words.{answerNumbers, Tells, Told}
+use Rattle.host.specs.Words.{answerNumbers, Tells, shortList, shortCount, Told}
 
 -- one number more over the front
 pub front-more : (numbers list : List ℕ) (i : ℕ) → i < length numbers → i < length list → set (take i numbers ++ drop i list) i (getD numbers i 0) ≡ take (i + 1) numbers ++ drop (i + 1) list
@@ -46,8 +46,8 @@ answer-short (Refused k) = omega arith
 
 module _ {A : Type 0} {numbers : A → List ℕ} {list : List ℕ} {Still : Type 0} {Says : A → Type 0} where
   -- no room for an answer
-  pub told-short : length list < 5 → Still → Told numbers list list 0 Still Says
-  told-short h s = record { short = λ q. (refl, refl, s); told = λ q. absurd (not-le-of-lt h q) }
+  pub told-short : {list' : List ℕ} {k : ℕ} → length list < 5 → (k ≡ shortCount list) × (list' ≡ shortList list) → Still → Told numbers list list' k Still Says
+  told-short h e s = record { short = λ q. (e .0, e .1, s); told = λ q. absurd (not-le-of-lt h q) }
 
   -- room, and the answer told
   pub told-all : {list' : List ℕ} {k : ℕ} → 5 ≤ length list → (a : A) → Says a → Tells (numbers a) list list' k → Told numbers list list' k Still Says

@@ -4,7 +4,7 @@ use lib.IntN.{natAbs}
 use mir.Facts.{toZ-ofZ}
 use Rattle.graph.specs.Layout.{stateOf}
 use Rattle.calls.specs.laws.Replies.{along-up}
-use Rattle.lent.specs.laws.Called.{memory-refused-scratch, memory-lendable, lendable-usable, call-same-scratch, call-done-scratch, test-so, test-not, grow-writes, grow-still, grow-refused}
+use Rattle.lent.specs.laws.Called.{lent-refused-scratch, memory-lendable, lendable-usable, call-same-scratch, call-done-scratch, test-so, test-not, grow-writes, grow-still, grow-refused}
 use borrow.Author.Needs.{needs}
 use Rattle.lent.proofs.grow_dual_node.Statement.{statement}
 use Rattle.lent.proofs.grow_dual_node.Tie as tie
@@ -19,7 +19,7 @@ same-length-2 : tie.Need-same-length-2
 same-length-2 c = search needs
 
 returns : tie.Need-returns
-returns c = let s = c .before .before .before .before in memory-refused-scratch (s .args .b .now) (s .args .t .now) (c .before .refusal .ensures) (c .if1 .taken) _ _
+returns c = let s = c .before .before .before .before in lent-refused-scratch (c .before .refusal .ensures) (c .if1 .taken) (s .args .b .now) (s .args .t .now) _ _
 
 magnitude-requires : tie.Need-magnitude-requires
 magnitude-requires c κs = search needs
@@ -34,7 +34,7 @@ same-length-4 : tie.Need-same-length-4
 same-length-4 c = search needs
 
 returns-2 : tie.Need-returns-2
-returns-2 c = let s = c .before .before .before .before .before .before .before .before in let m = c .before .before .before .before .before .refusal .ensures in let z = c .before .before .before .before .if1 .left in call-same-scratch (s .args .b .now) (s .args .t .now) m z (grow-still (stateOf (s .args .b .now)) (s .args .n) (s .args .length) (sym (c .before .before .before .magnitude .ensures .0 ∙ ap natAbs (toZ-ofZ (s .fits .length))) ∙ c .before .before .if2 .taken)) (rw (toZ-ofZ (s .fits .length), along-up (s .args .length)) at (c .grow-none .ensures))
+returns-2 c = let s = c .before .before .before .before .before .before .before .before in let m = c .before .before .before .before .before .refusal .ensures in let z = c .before .before .before .before .if1 .left in call-same-scratch m z (s .args .b .now) (s .args .t .now) (grow-still (stateOf (s .args .b .now)) (s .args .n) (s .args .length) (sym (c .before .before .before .magnitude .ensures .0 ∙ ap natAbs (toZ-ofZ (s .fits .length))) ∙ c .before .before .if2 .taken)) (rw (toZ-ofZ (s .fits .length), along-up (s .args .length)) at (c .grow-none .ensures))
 
 node-refusal-requires : tie.Need-node-refusal-requires
 node-refusal-requires c κs = let s = c .before .before .before .before .before .before .before in let m = c .before .before .before .before .refusal .ensures in let z = c .before .before .before .if1 .left in memory-lendable (s .args .b .now) (s .args .t .now) m z .formed
@@ -46,7 +46,7 @@ same-length-6 : tie.Need-same-length-6
 same-length-6 c = search needs
 
 returns-3 : tie.Need-returns-3
-returns-3 c = let s = c .before .before .before .before .before .before .before .before .before in let m = c .before .before .before .before .before .before .refusal .ensures in let z = c .before .before .before .before .before .if1 .left in let e = c .before .node-refusal .ensures in let q : natAbs (s .args .length) ≢ 0 = (λ q. c .before .before .before .if2 .left (c .before .before .before .before .magnitude .ensures .0 ∙ ap natAbs (toZ-ofZ (s .fits .length)) ∙ q)) in call-same-scratch (s .args .b .now) (s .args .t .now) m z (grow-writes (stateOf (s .args .b .now)) (s .args .n) (s .args .length) q ∙ test-not e (c .if3 .taken)) (grow-refused (memory-lendable (s .args .b .now) (s .args .t .now) m z .formed) (s .args .n) _ e (c .if3 .taken) (s .args .length) q)
+returns-3 c = let s = c .before .before .before .before .before .before .before .before .before in let m = c .before .before .before .before .before .before .refusal .ensures in let z = c .before .before .before .before .before .if1 .left in let e = c .before .node-refusal .ensures in let q : natAbs (s .args .length) ≢ 0 = (λ q. c .before .before .before .if2 .left (c .before .before .before .before .magnitude .ensures .0 ∙ ap natAbs (toZ-ofZ (s .fits .length)) ∙ q)) in call-same-scratch m z (s .args .b .now) (s .args .t .now) (grow-writes (stateOf (s .args .b .now)) (s .args .n) (s .args .length) q ∙ test-not e (c .if3 .taken)) (grow-refused (memory-lendable (s .args .b .now) (s .args .t .now) m z .formed) (s .args .n) _ e (c .if3 .taken) (s .args .length) q)
 
 clear-scratch-requires : tie.Need-clear-scratch-requires
 clear-scratch-requires c κs = search needs
@@ -61,7 +61,7 @@ same-length-8 : tie.Need-same-length-8
 same-length-8 c = search needs
 
 returns-4 : tie.Need-returns-4
-returns-4 c = let s = c .before .before .before .before .before .before .before .before .before .before .before .before .before .before .before .before .before in let m = c .before .before .before .before .before .before .before .before .before .before .before .before .before .before .refusal .ensures in let z = c .before .before .before .before .before .before .before .before .before .before .before .before .before .if1 .left in let p = c .before .before .grow-dual-node .ensures in let q : natAbs (s .args .length) ≢ 0 = (λ q. c .before .before .before .before .before .before .before .before .before .before .before .if2 .left (c .before .before .before .before .before .before .before .before .before .before .before .before .magnitude .ensures .0 ∙ ap natAbs (toZ-ofZ (s .fits .length)) ∙ q)) in call-done-scratch (s .args .b .now) (s .args .t .now) m z (grow-writes (stateOf (s .args .b .now)) (s .args .n) (s .args .length) q ∙ test-so (c .before .before .before .before .before .before .before .before .before .node-refusal .ensures) (c .before .before .before .before .before .before .before .before .if3 .left)) (c .before .before .before .before .before .before .clear-scratch .ensures) (p .1) (rw (toZ-ofZ (s .fits .length)) at (p .0))
+returns-4 c = let s = c .before .before .before .before .before .before .before .before .before .before .before .before .before .before .before .before .before in let m = c .before .before .before .before .before .before .before .before .before .before .before .before .before .before .refusal .ensures in let z = c .before .before .before .before .before .before .before .before .before .before .before .before .before .if1 .left in let p = c .before .before .grow-dual-node .ensures in let q : natAbs (s .args .length) ≢ 0 = (λ q. c .before .before .before .before .before .before .before .before .before .before .before .if2 .left (c .before .before .before .before .before .before .before .before .before .before .before .before .magnitude .ensures .0 ∙ ap natAbs (toZ-ofZ (s .fits .length)) ∙ q)) in call-done-scratch m z (s .args .b .now) (s .args .t .now) (grow-writes (stateOf (s .args .b .now)) (s .args .n) (s .args .length) q ∙ test-so (c .before .before .before .before .before .before .before .before .before .node-refusal .ensures) (c .before .before .before .before .before .before .before .before .if3 .left)) (c .before .before .before .before .before .before .clear-scratch .ensures) (p .1) (rw (toZ-ofZ (s .fits .length)) at (p .0))
 
 pub grow-dual-node-spec : {M : Type 1} → statement M
 grow-dual-node-spec =

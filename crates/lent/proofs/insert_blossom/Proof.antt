@@ -1,7 +1,7 @@
 use mathlib.Core.List.{map}
 use Rattle.graph.specs.Word.{toNat}
 use Rattle.lent.specs.Called.{blossomWrites}
-use Rattle.lent.specs.laws.Called.{memory-refused-scratch, memory-lendable, lendable-usable, insert-same-scratch, insert-done-scratch, test-so, test-not}
+use Rattle.lent.specs.laws.Called.{lent-refused-scratch, memory-lendable, lendable-usable, insert-same-scratch, insert-done-scratch, test-so, test-not}
 use Rattle.blossom.specs.laws.Blossom.{blossom-refused}
 use borrow.Author.Needs.{needs}
 use Rattle.lent.proofs.insert_blossom.Statement.{statement}
@@ -17,7 +17,7 @@ same-length-2 : tie.Need-same-length-2
 same-length-2 c = search needs
 
 returns : tie.Need-returns
-returns c = let s = c .before .before .before .before in memory-refused-scratch (s .args .b .now) (s .args .t .now) (c .before .refusal .ensures) (c .if1 .taken) _ _
+returns c = let s = c .before .before .before .before in lent-refused-scratch (c .before .refusal .ensures) (c .if1 .taken) (s .args .b .now) (s .args .t .now) _ _
 
 blossom-refusal-requires : tie.Need-blossom-refusal-requires
 blossom-refusal-requires c κs = let s = c .before .before .before .before .before in let m = c .before .before .refusal .ensures in let z = c .before .if1 .left in memory-lendable (s .args .b .now) (s .args .t .now) m z .formed
@@ -30,7 +30,7 @@ same-length-4 c = search needs
 
 returns-2 : tie.Need-returns-2
 unfolding blossomWrites
-returns-2 c = let s = c .before .before .before .before .before .before .before in let m = c .before .before .before .before .refusal .ensures in let z = c .before .before .before .if1 .left in let e = c .before .blossom-refusal .ensures in insert-same-scratch (s .args .b .now) (s .args .t .now) m z (test-not e (c .if2 .taken)) (blossom-refused (lendable-usable (memory-lendable (s .args .b .now) (s .args .t .now) m z)) (s .args .x) _ (map toNat (s .args .circle .now)) e (c .if2 .taken))
+returns-2 c = let s = c .before .before .before .before .before .before .before in let m = c .before .before .before .before .refusal .ensures in let z = c .before .before .before .if1 .left in let e = c .before .blossom-refusal .ensures in insert-same-scratch m z (s .args .b .now) (s .args .t .now) (test-not e (c .if2 .taken)) (blossom-refused (lendable-usable (memory-lendable (s .args .b .now) (s .args .t .now) m z)) (s .args .x) _ (map toNat (s .args .circle .now)) e (c .if2 .taken))
 
 clear-scratch-requires : tie.Need-clear-scratch-requires
 clear-scratch-requires c κs = search needs
@@ -46,7 +46,7 @@ same-length-6 c = search needs
 
 returns-3 : tie.Need-returns-3
 unfolding blossomWrites
-returns-3 c = let s = c .before .before .before .before .before .before .before .before .before .before .before .before .before .before .before in let m = c .before .before .before .before .before .before .before .before .before .before .before .before .refusal .ensures in let z = c .before .before .before .before .before .before .before .before .before .before .before .if1 .left in let p = c .before .before .insert-blossom .ensures in insert-done-scratch (s .args .b .now) (s .args .t .now) m z (test-so (c .before .before .before .before .before .before .before .before .before .blossom-refusal .ensures) (c .before .before .before .before .before .before .before .before .if2 .left)) (c .before .before .before .before .before .before .clear-scratch .ensures) (p .1) (p .0)
+returns-3 c = let s = c .before .before .before .before .before .before .before .before .before .before .before .before .before .before .before in let m = c .before .before .before .before .before .before .before .before .before .before .before .before .refusal .ensures in let z = c .before .before .before .before .before .before .before .before .before .before .before .if1 .left in let p = c .before .before .insert-blossom .ensures in insert-done-scratch m z (s .args .b .now) (s .args .t .now) (test-so (c .before .before .before .before .before .before .before .before .before .blossom-refusal .ensures) (c .before .before .before .before .before .before .before .before .if2 .left)) (c .before .before .before .before .before .before .clear-scratch .ensures) (p .1) (p .0)
 
 pub insert-blossom-spec : {M : Type 1} → statement M
 insert-blossom-spec =

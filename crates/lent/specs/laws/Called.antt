@@ -3,7 +3,7 @@ use Prim.Native.Nat.{ℕ, zero, suc, _+_, _*_, _≤_, _<_}
 use native.Mathlib.Omega.{arith}
 use mathlib.Core.Path.{_≡_, refl, sym, ap, _∙_}
 use mathlib.Core.Logic.{_≢_}
-use mathlib.Core.Bool.{Bool, true, false, _||_, not}
+use mathlib.Core.Bool.{Bool, true, false, _&&_, _||_, not}
 use mathlib.Core.List.{List, [], _∷_, _++_, map, append-nil}
 use lib.IntN.{ℤ, pos, negsuc, natAbs}
 use lib.Dec.{ltb, eqb}
@@ -24,7 +24,7 @@ use Rattle.length.specs.Answer.{Reply, says}
 use Rattle.calls.specs.Refuse.{badNode, inBlossom, storeShort, nodeRefusal, unless}
 use Rattle.calls.specs.Calls.{maxUpdateLength, growDualNode, growthTable, representativeVertexOf, representativeVertex, follow, advanceBy, toward, advance}
 use Rattle.calls.specs.Reply.{Usable, Replies, RepliesInsert, placed}
-use Rattle.lent.specs.Called.{lentReply, lentWrites, Called, CalledWithScratch, ListRead, prepareWrites, lengthWrites, growWrites, advanceWrites}
+use Rattle.lent.specs.Called.{lentWrites, Called, CalledWithScratch, ListRead, prepareWrites, lengthWrites, growWrites, advanceWrites}
 use Rattle.calls.specs.laws.Replies.{toward-refused}
 use Rattle.calls.specs.laws.Advance.{advance-refused}
 use Rattle.calls.specs.laws.Read.{placed-none, placed-more}
@@ -61,80 +61,81 @@ zeros-placed (suc n) = ap (λ l. pos 0 ∷ l) (unfold zeroScratch in zeros-place
 pub wipe-all : (t : List ℤ) → wiped t 0 (length t) ≡ zeroScratch (length t)
 wipe-all t = wiped-placed t (length t) (omega arith) ∙ placed-all (replicate (length t) 0) t (length-replicate (length t) 0) ∙ zeros-placed (length t)
 
--- ---- block and scratch refused
+-- ---- what is lent is refused
 
-module _ (b t : List ℤ) {k : ℕ} (e : k ≡ memoryRefusal b t) (h : k ≢ 0) where
-  memory-first : (r : Reply) → lentReply b t r ≡ says (Refused k) (stateOf b)
-  unfolding lentReply unless
-  memory-first r = rw (← e, ne-eqb k 0 h)
+module _ {j k : ℕ} (e : j ≡ k) (h : j ≢ 0) where
+  unless-refused : (c : State) (r : Reply) → unless k c r ≡ says (Refused j) c
+  unfolding unless
+  unless-refused c r = rw (← e, ne-eqb j 0 h)
 
-  memory-still : (w : Bool) → lentWrites b t w ≡ false
-  unfolding lentWrites
-  memory-still w = rw (← e, ne-eqb k 0 h)
+  writes-none : (w : Bool) → lentWrites k w ≡ false
+  writes-none w = rw (← e, ne-eqb j 0 h)
 
-  pub memory-refused : (w : Bool) (r : Reply) → Called b t b (Refused k) w r
+  pub lent-refused : (b : List ℤ) (w : Bool) (r : Reply) → Called k b b (Refused j) w r
   unfolding says
-  memory-refused w r = record {
-    answer = ap (λ (q : Reply). q .answer) (sym (memory-first r));
-    state = ap (λ (q : Reply). q .state) (sym (memory-first r));
+  lent-refused b w r = record {
+    answer = ap (λ (q : Reply). q .answer) (sym (unless-refused (stateOf b) r));
+    state = ap (λ (q : Reply). q .state) (sym (unless-refused (stateOf b) r));
     formed = λ z. absurd (h (e ∙ z));
     unchanged = λ z. refl;
     len = refl;
   }
 
-  pub memory-refused-scratch : (w : Bool) (r : Reply) → CalledWithScratch b t b t (Refused k) w r
-  memory-refused-scratch w r = record { block = memory-refused w r; scratch = rw (memory-still w) }
+  pub lent-refused-scratch : (b t : List ℤ) (w : Bool) (r : Reply) → CalledWithScratch k b t b t (Refused j) w r
+  lent-refused-scratch b t w r = record { block = lent-refused b w r; scratch = rw (writes-none w) }
+
+  pub refusal-answered : (c : State) (r : Reply) → Refused j ≡ unless k c r .answer
+  unfolding says
+  refusal-answered c r = ap (λ (q : Reply). q .answer) (sym (unless-refused c r))
 
 -- ---- the call itself
 
-module _ (b t : List ℤ) {k : ℕ} (e : k ≡ memoryRefusal b t) (h : k ≡ 0) where
-  m : memoryRefusal b t ≡ 0
-  m = sym e ∙ h
+module _ {j k : ℕ} (e : j ≡ k) (h : j ≡ 0) where
+  unless-passed : (c : State) (r : Reply) → unless k c r ≡ r
+  unfolding unless
+  unless-passed c r = rw (sym e ∙ h)
 
-  pub memory-lendable : Lendable b t
-  memory-lendable = memory-accepted b t m
+  writes-as : (w : Bool) → lentWrites k w ≡ w
+  writes-as w = rw (sym e ∙ h)
 
-  memory-passed : (r : Reply) → lentReply b t r ≡ r
-  unfolding lentReply unless
-  memory-passed r = rw m
+  module _ (b : List ℤ) where
+    called-as : {b' : List ℤ} {a : Answer} (w : Bool) (r : Reply) → a ≡ r .answer → stateOf b' ≡ r .state → Formed b' → length b' ≡ length b → (w ≡ false → b' ≡ b) → Called k b b' a w r
+    called-as w r x y f l u = record {
+      answer = x ∙ ap (λ (q : Reply). q .answer) (sym (unless-passed (stateOf b) r));
+      state = y ∙ ap (λ (q : Reply). q .state) (sym (unless-passed (stateOf b) r));
+      formed = λ z. f;
+      unchanged = λ z. u (sym (writes-as w) ∙ z);
+      len = l;
+    }
 
-  writes-as : (w : Bool) → lentWrites b t w ≡ w
-  unfolding lentWrites
-  writes-as w = rw m
+    -- nothing is written
+    pub call-same : {a : Answer} {w : Bool} {r : Reply} → Replies b b a r → Called k b b a w r
+    call-same {a} {w} {r} p = called-as w r (p .answer) (p .block .state) (p .block .formed) refl (λ z. refl)
 
-  called-as : {b' : List ℤ} {a : Answer} (w : Bool) (r : Reply) → a ≡ r .answer → stateOf b' ≡ r .state → Formed b' → length b' ≡ length b → (w ≡ false → b' ≡ b) → Called b t b' a w r
-  called-as w r x y f l u = record {
-    answer = x ∙ ap (λ (q : Reply). q .answer) (sym (memory-passed r));
-    state = y ∙ ap (λ (q : Reply). q .state) (sym (memory-passed r));
-    formed = λ z. f;
-    unchanged = λ z. u (sym (writes-as w) ∙ z);
-    len = l;
-  }
+    pub call-same-scratch : (t : List ℤ) {a : Answer} {w : Bool} {r : Reply} → w ≡ false → Replies b b a r → CalledWithScratch k b t b t a w r
+    call-same-scratch t {a} {w} g p = record { block = call-same p; scratch = rw (writes-as w, g) }
 
-  -- nothing is written
-  pub call-same : {a : Answer} {w : Bool} {r : Reply} → Replies b b a r → Called b t b a w r
-  call-same {a} {w} {r} p = called-as w r (p .answer) (p .block .state) (p .block .formed) refl (λ z. refl)
+    -- an insertion refused
+    pub insert-same-scratch : (t : List ℤ) {a : Answer} {w : Bool} {r : Reply} → w ≡ false → RepliesInsert b b a r → CalledWithScratch k b t b t a w r
+    insert-same-scratch t {a} {w} {r} g p = record { block = called-as w r (p .answer) (p .state) (p .formed) refl (λ z. refl); scratch = rw (writes-as w, g) }
 
-  pub call-same-scratch : {a : Answer} {w : Bool} {r : Reply} → w ≡ false → Replies b b a r → CalledWithScratch b t b t a w r
-  call-same-scratch {a} {w} g p = record { block = call-same p; scratch = rw (writes-as w, g) }
+    -- the core has run
+    pub call-done : {b' : List ℤ} {a : Answer} {w : Bool} {r : Reply} → w ≡ true → Replies b b' a r → Called k b b' a w r
+    call-done {w = w} {r = r} g p = called-as w r (p .answer) (p .block .state) (p .block .formed) (p .block .len) (λ z. clash w g z)
 
-  -- the core has run
-  module _ {b' : List ℤ} {a : Answer} {w : Bool} {r : Reply} (g : w ≡ true) where
-    pub call-done : Replies b b' a r → Called b t b' a w r
-    call-done p = called-as w r (p .answer) (p .block .state) (p .block .formed) (p .block .len) (λ z. clash w g z)
+    module _ (t : List ℤ) {b' t₁ t' : List ℤ} {a : Answer} {w : Bool} {r : Reply} (g : w ≡ true) (c : t₁ ≡ zeroScratch (length t)) (d : t' ≡ t₁) where
+      pub call-done-scratch : Replies b b' a r → CalledWithScratch k b t b' t' a w r
+      call-done-scratch p = record { block = call-done g p; scratch = rw (writes-as w, g) (d ∙ c) }
 
-    pub call-done-scratch : {t₁ t' : List ℤ} → t₁ ≡ zeroScratch (length t) → t' ≡ t₁ → Replies b b' a r → CalledWithScratch b t b' t' a w r
-    call-done-scratch c d p = record { block = call-done p; scratch = rw (writes-as w, g) (d ∙ c) }
+      pub insert-done-scratch : RepliesInsert b b' a r → CalledWithScratch k b t b' t' a w r
+      insert-done-scratch p = record { block = called-as w r (p .answer) (p .state) (p .formed) (p .len) (λ z. clash w g z); scratch = rw (writes-as w, g) (d ∙ c) }
 
-    pub insert-done-scratch : {t₁ t' : List ℤ} → t₁ ≡ zeroScratch (length t) → t' ≡ t₁ → RepliesInsert b b' a r → CalledWithScratch b t b' t' a w r
-    insert-done-scratch c d p = record { block = called-as w r (p .answer) (p .state) (p .formed) (p .len) (λ z. clash w g z); scratch = rw (writes-as w, g) (d ∙ c) }
+    pub call-cleared : {b' : List ℤ} {a : Answer} {r : Reply} → a ≡ r .answer → stateOf b' ≡ r .state → Formed b' → length b' ≡ length b → Called k b b' a true r
+    call-cleared {r = r} x y f l = called-as true r x y f l (λ z. clash true refl z)
 
-  pub call-cleared : {b' : List ℤ} {a : Answer} {r : Reply} → a ≡ r .answer → stateOf b' ≡ r .state → Formed b' → length b' ≡ length b → Called b t b' a true r
-  call-cleared {r = r} x y f l = called-as true r x y f l (λ z. clash true refl z)
-
-  -- an insertion refused
-  pub insert-same-scratch : {a : Answer} {w : Bool} {r : Reply} → w ≡ false → RepliesInsert b b a r → CalledWithScratch b t b t a w r
-  insert-same-scratch {a} {w} {r} g p = record { block = called-as w r (p .answer) (p .state) (p .formed) refl (λ z. refl); scratch = rw (writes-as w, g) }
+-- block and scratch that are not refused
+pub memory-lendable : (b t : List ℤ) {k : ℕ} → k ≡ memoryRefusal b t → k ≡ 0 → Lendable b t
+memory-lendable b t e h = memory-accepted b t (sym e ∙ h)
 
 -- ---- which calls write
 
@@ -214,17 +215,14 @@ module _ {b : List ℤ} (f : Formed b) (n k : ℕ) (e : k ≡ nodeRefusal (state
 
 -- ---- the calls that only read
 
-pub memory-answered : (b t : List ℤ) {k : ℕ} → k ≡ memoryRefusal b t → k ≢ 0 → (r : Reply) → Refused k ≡ lentReply b t r .answer
-memory-answered b t e h r = memory-refused b t e h true r .answer
+module _ {j k : ℕ} (e : j ≡ k) (h : j ≡ 0) (c : State) (n : ℕ) where
+  pub vertex-beyond : nodeCount c ≤ n → Refused 3 ≡ unless k c (representativeVertex c n) .answer
+  unfolding unless representativeVertex says badNode
+  vertex-beyond q = rw (sym e ∙ h, le-leb (nodeCount c) n q)
 
-module _ (b t : List ℤ) {k : ℕ} (e : k ≡ memoryRefusal b t) (h : k ≡ 0) (n : ℕ) where
-  pub vertex-beyond : nodeCount (stateOf b) ≤ n → Refused 3 ≡ lentReply b t (representativeVertex (stateOf b) n) .answer
-  unfolding lentReply unless representativeVertex says badNode
-  vertex-beyond q = rw (sym e ∙ h, le-leb (nodeCount (stateOf b)) n q)
-
-  pub vertex-told : n < nodeCount (stateOf b) → {v : ℕ} → v ≡ representativeVertexOf (stateOf b) n → Vertex v ≡ lentReply b t (representativeVertex (stateOf b) n) .answer
-  unfolding lentReply unless representativeVertex says badNode
-  vertex-told q {v} x = rw (sym e ∙ h, lt-leb (nodeCount (stateOf b)) n q, x)
+  pub vertex-told : n < nodeCount c → {v : ℕ} → v ≡ representativeVertexOf c n → Vertex v ≡ unless k c (representativeVertex c n) .answer
+  unfolding unless representativeVertex says badNode
+  vertex-told q {v} x = rw (sym e ∙ h, lt-leb (nodeCount c) n q, x)
 
 -- the growth of every side in a list of two words for each edge
 pub table-placed : {b t : List ℤ} (list : List ℤ) {list' : List ℤ} → Lendable b t → length list ≡ 2 * edgeCount (stateOf b) → list' ≡ placed (growthTable (stateOf b)) list → list' ≡ map pos (growthTable (stateOf b))

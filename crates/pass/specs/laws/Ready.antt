@@ -25,7 +25,7 @@ use Rattle.pass.specs.Shrink.{belowTops, shrinkPass}
 use Rattle.pass.specs.laws.Passes.{Passed, grow-passed, shrink-passed, shrink-pass-keeps}
 use Rattle.pass.specs.laws.Fits.{Listed, own-length, sound-own-over, shrink-pass-listed, below-tops-le, shrink-over}
 use Rattle.pass.specs.laws.GrowSound.{finish-boundary, finish-overgrown, grow-pass-sound, grow-pass-entries}
-use Rattle.graph.specs.laws.Form.{laid-shape}
+use Rattle.graph.specs.laws.Form.{laid-shape, formed-sides}
 use Rattle.pass.specs.Ready.{Ready, Growable, Shrinkable, AfterPass}
 
 -- ---- the store
@@ -87,16 +87,6 @@ growable-again c z v n b room g =
 none : (p : ℕ → Bool) → all p [] ≡ true
 unfolding all
 none p = refl
-
--- the sides at a vertex of a block in form are sides
-pub formed-sides : (b : List ℤ) → Formed b → (v : ℕ) → all (λ t. ltb t (sideCount (stateOf b))) (sidesAt (stateOf b) v) ≡ true
-unfolding Wired stateOf stateFrom
-formed-sides b f v = rw (f .wired .sides) (each (row (rowsOf b) 5) (below (getD (row (rowsOf b) 0) 0 0)) v)
-  where
-    each : (ends vs : List ℕ) (v : ℕ) → all (λ t. ltb t (length ends)) (getD (map (sidesOf ends) vs) v []) ≡ true
-    each ends [] v = none (λ t. ltb t (length ends))
-    each ends (u ∷ vs) zero = all-from (λ t. ltb t (length ends)) (sidesOf ends u) (λ t m. lt-ltb t (length ends) (sides-of-out ends u t m .0))
-    each ends (u ∷ vs) (suc v) = each ends vs v
 
 -- what is left of a stack is some of it
 tops-inside : (p : Overgrown → Bool) (o : List Overgrown) → all p o ≡ true → all p (belowTops o) ≡ true

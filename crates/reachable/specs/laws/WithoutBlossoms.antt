@@ -106,16 +106,25 @@ module _ (c : State) (g : Invariant c) (outermost : (m : ℕ) → m < nodeCount 
     listed-growth-dual : (t : ℕ) → member t (boundaryOf c n) ≡ true → g .labels .depth (endAt c t) + growthAt c t ≡ dualOf c n
     listed-growth-dual t m = let l : g .labels .depth (endAt c t) + growthAt c t ≡ g .labels .base n + dualOf c n = i .listed-growth t m (g .clusters .boundary-held n b (outermost n b) t m) in omega (arith, defect-node .base)
 
-    -- the far end is not held by the node: the side has grown by what is left, within the weight
-    pub border-side : (t : ℕ) → t < sideCount c → vertexHolderAt c (endAt c t) ≡ n + 1 → vertexHolderAt c (endAt c (opposite t)) ≢ n + 1 → (g .labels .depth (endAt c t) + growthAt c t ≡ dualOf c n) × (growthAt c t + growthAt c (opposite t) ≤ weightOver c t)
-    border-side t q v w =
-        let h : holderAt c t ≡ n + 1 = side-held t q v in
+    -- the far end is not held by the node: the side is listed
+    pub border-listed : (t : ℕ) → t < sideCount c → vertexHolderAt c (endAt c t) ≡ n + 1 → vertexHolderAt c (endAt c (opposite t)) ≢ n + 1
+        → member t (boundaryOf c n) ≡ true
+    border-listed t q v w =
         let o : holderAt c (opposite t) ≢ n + 1 = λ z. w (sym (side-holder (opposite t) (graph-ok .side-graph .across t q)) ∙ z) in
-        let m : member t (boundaryOf c n) ≡ true =
         by-test (member t (boundaryOf c n)) (λ z. z)
-        (λ z. ⊎-elim (λ (k : OutwardEdge (sideGraphOf (c .graph)) (viewOf c (g .labels)) n (nodeViewOf c (g .labels) n) t). absurd (o (k .far))) (λ (k : InwardEdge (sideGraphOf (c .graph)) (viewOf c (g .labels)) n (nodeViewOf c (g .labels) n) t). absurd (o (k .far))) (i .closed t h z)) in (
-          listed-growth-dual t m,
-          ⊎-elim (λ (k : growthAt c t + growthAt c (opposite t) ≤ weightOver c t). k) (λ (k : (holderAt c t ≢ 0) × (holderAt c (opposite t) ≡ holderAt c t)). absurd (o (k .1 ∙ h))) (G .within-weight t q),
+        (λ z.
+        ⊎-elim (λ (k : OutwardEdge (sideGraphOf (c .graph)) (viewOf c (g .labels)) n (nodeViewOf c (g .labels) n) t). absurd (o (k .far)))
+        (λ (k : InwardEdge (sideGraphOf (c .graph)) (viewOf c (g .labels)) n (nodeViewOf c (g .labels) n) t). absurd (o (k .far)))
+        (i .closed t (side-held t q v) z))
+
+    -- and has grown by what is left, within the weight
+    pub border-side : (t : ℕ) → t < sideCount c → vertexHolderAt c (endAt c t) ≡ n + 1 → vertexHolderAt c (endAt c (opposite t)) ≢ n + 1
+        → (g .labels .depth (endAt c t) + growthAt c t ≡ dualOf c n) × (growthAt c t + growthAt c (opposite t) ≤ weightOver c t)
+    border-side t q v w =
+        let o : holderAt c (opposite t) ≢ n + 1 = λ z. w (sym (side-holder (opposite t) (graph-ok .side-graph .across t q)) ∙ z) in (
+          listed-growth-dual t (border-listed t q v w),
+          ⊎-elim (λ (k : growthAt c t + growthAt c (opposite t) ≤ weightOver c t). k)
+              (λ (k : (holderAt c t ≢ 0) × (holderAt c (opposite t) ≡ holderAt c t)). absurd (o (k .1 ∙ side-held t q v))) (G .within-weight t q),
         )
 
     -- both ends are held by the node

@@ -10,12 +10,12 @@ use lib.Dec.{leb}
 use lib.ListN.{length, drop, drop-of-length-le}
 use lib.Seq.{drop-cons}
 use Rattle.graph.specs.Basic.{only, below, fold, all as every}
-use Rattle.graph.specs.State.{State, growthAt, edgeCount, sideCount}
-use Rattle.graph.specs.Layout.{stateOf, stateFrom}
-use Rattle.graph.specs.Form.{Formed, Laid}
+use Rattle.graph.specs.State.{State, growthAt, edgeCount}
+use Rattle.graph.specs.Layout.{stateOf}
+use Rattle.graph.specs.Form.{Formed}
 use Rattle.graph.specs.laws.Members.{by-test, length-below, all-append}
 use Rattle.graph.specs.laws.Opened.{getD-below}
-use Rattle.graph.specs.laws.Table.{side-row}
+use Rattle.graph.specs.laws.Form.{formed-growths}
 use Rattle.graph.specs.laws.State.{fold-append}
 use Rattle.calls.specs.Calls.{growths, touching, growthTable, contacts}
 use Rattle.records.specs.Text.{ascii, spaced}
@@ -25,14 +25,9 @@ use Rattle.records.specs.Write.{page, putLine, putLines, shortLines, Tol
 
 -- ---- counts
 
--- each edge has two sides, and each side a growth
-pub sides-even : (b : List ℤ) → Formed b → sideCount (stateOf b) ≡ 2 * edgeCount (stateOf b)
-unfolding Laid
-sides-even b f = omega (arith, f .laid .counted .sides, f .laid .counted .edges)
-
 pub growths-even : (b : List ℤ) → Formed b → length (growthTable (stateOf b)) ≡ 2 * edgeCount (stateOf b)
-unfolding growthTable stateOf stateFrom
-growths-even b f = side-row b 1 (f .laid) (omega arith) ∙ sides-even b f
+unfolding growthTable
+growths-even b f = formed-growths b f
 
 -- ---- the line of an edge
 

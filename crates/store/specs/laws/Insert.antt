@@ -19,6 +19,8 @@ use Rattle.graph.specs.Layout.{vOf, nOf, countOf, rowsOf, row, classFrom, stack
 use Rattle.graph.specs.Form.{Laid, LaidOut, Listed, Wired, PackedRows, GraphRows, GraphOk, Packed, Formed, Becomes, Rowed, startsFrom, totalFrom}
 use Rattle.graph.specs.Replace.{withLists}
 use Rattle.graph.specs.Opening.{Recounted}
+use Rattle.graph.specs.Node.{newNode}
+use Rattle.graph.specs.declared.dual_node.DualNode.{DualNode}
 use Rattle.graph.specs.Insert.{Inserted, put, headPut, tailPut}
 use Rattle.graph.specs.laws.Row.{header-get, rows-length, formed-of, state-of-rows}
 use Rattle.graph.specs.laws.Sums.{sum-same}
@@ -71,7 +73,7 @@ rewritten-then f p q = record { kept = kept-then (p .kept) (q .kept); rows = q .
 -- ---- the rows of the block
 
 module _ (b₀ b₁ b₂ : List ℤ) (n class x a : ℕ) (f : Formed b₀) (is-count : n ≡ nodeCount (stateOf b₀)) (room : n < stateOf b₀ .nodeLimit)
-    (p : Rewritten b₀ b₁ (tailPut n a (headPut n class x (rowsOf b₀)))) (r : Recounted b₁ b₂ (n + 1)) (is-start : a ≡ totalFrom 0 (take n (row (rowsOf b₀) 16)) (take n (row (rowsOf b₀) 17))) where
+    (p : Rewritten b₀ b₁ (tailPut n a (headPut n (newNode class x) (rowsOf b₀)))) (r : Recounted b₁ b₂ (n + 1)) (is-start : a ≡ totalFrom 0 (take n (row (rowsOf b₀) 16)) (take n (row (rowsOf b₀) 17))) where
   header : List ℕ
   header = row (rowsOf b₀) 0
 
@@ -169,9 +171,9 @@ module _ (b₀ b₁ b₂ : List ℤ) (n class x a : ℕ) (f : Formed b₀) (is-c
 
 -- ---- the limits stay
 
-pub head-limit : {b₀ b : List ℤ} (n class x : ℕ) → Rewritten b₀ b (headPut n class x (rowsOf b₀)) → stateOf b .nodeLimit ≡ stateOf b₀ .nodeLimit
+pub head-limit : {b₀ b : List ℤ} (n : ℕ) (d : DualNode) → Rewritten b₀ b (headPut n d (rowsOf b₀)) → stateOf b .nodeLimit ≡ stateOf b₀ .nodeLimit
 unfolding rowsOf rows stateOf stateFrom
-head-limit n class x p = ap (λ z. getD (row z 0) 2 0) (p .rows)
+head-limit n d p = ap (λ z. getD (row z 0) 2 0) (p .rows)
 
 pub tail-limit : {b₀ b : List ℤ} (n a : ℕ) → Rewritten b₀ b (tailPut n a (rowsOf b₀)) → stateOf b .nodeLimit ≡ stateOf b₀ .nodeLimit
 unfolding rowsOf rows stateOf stateFrom

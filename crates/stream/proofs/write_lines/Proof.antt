@@ -54,7 +54,7 @@ same-length-5 : tie.Need-same-length-5 Inv-loop μ-loop
 same-length-5 c = search needs
 
 returns : tie.Need-returns Inv-loop μ-loop
-returns c = progress-done (c .before .before .before .loop .inv .0) (c .if1 .left)
+returns c = let p = progress-done (c .before .before .before .loop .inv .0) (c .if1 .left) in record { bytes = p .0; count = p .1 }
 
 pub write-lines-spec : {M : Type 1} → statement M
 write-lines-spec =

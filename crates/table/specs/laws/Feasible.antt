@@ -23,33 +23,63 @@ use Rattle.table.specs.laws.Depth.{DefectsOnly, vertex-inside, depth-is,
 use Rattle.table.specs.laws.Table.{Duals, NodeAt, node-at}
 
 module _ (g : Graph) (c : State) (p : DefectsOnly g c) where
+  place-end : (t : ℕ) → endAt c t < g .size
+  place-end t = rw (← p .graph .size-is) (numbers-end c (invariant-numbers (p .good)) t)
+
+  -- ---- where a shortest walk leaves what a node holds
+
+  module _ (n x : ℕ) (b : n < nodeCount c) (at : classOf c n ≡ defectVertex x) (z : ℕ) where
+    pub leaves-at : vertexHolderAt c z ≢ n + 1 → dist g x z < unreachable → Leaving g x z (λ u. vertexHolderAt c u ≡ n + 1)
+    leaves-at q r =
+        dist-leaving g (p .formed) x (vertex-inside g c p n x b at) (λ u. vertexHolderAt c u ≡ n + 1) (λ u. decEq (vertexHolderAt c u) (n + 1))
+        (defect-vertex-held c (p .good) (p .outer) n x b at .0) z q r
+
+    module _ (w : Leaving g x z (λ u. vertexHolderAt c u ≡ n + 1)) where
+      -- the side there stands at a vertex that the node holds, and its far end is not the node's
+      pub left-inside : w .side < sideCount c
+      left-inside = rw (p .graph .sides-are) (w .inside)
+
+      pub left-near : vertexHolderAt c (endAt c (w .side)) ≡ n + 1
+      left-near = rw (p .graph .near-is (w .side)) (w .held)
+
+      pub left-far : vertexHolderAt c (endAt c (opposite (w .side))) ≢ n + 1
+      left-far = rw (p .graph .across-is (w .side)) (w .free)
+
+      pub left-within : growthAt c (w .side) + growthAt c (opposite (w .side)) ≤ weightOver c (w .side)
+      left-within = border-side c (p .good) (p .outer) n x b at (w .side) left-inside left-near left-far .1
+
+      -- with room for l more on that edge, the node's reach stays within the distance of its far end
+      pub leaves : (l : ℕ) → growthAt c (w .side) + growthAt c (opposite (w .side)) + l ≤ weightOver c (w .side)
+          → dualOf c n + growthAt c (opposite (w .side)) + l ≤ dist g x (across g (w .side))
+      leaves l room =
+          let s : ℕ = w .side in
+          let e₁ : endAt c s ≡ near g s = p .graph .near-is s in
+          let e₃ : weightOver c s ≡ weight g s = p .graph .weight-is s in
+          let b₁ : p .good .labels .depth (endAt c s) + growthAt c s ≡ dualOf c n = border-side c (p .good) (p .outer) n x b at s left-inside left-near left-far .0 in
+          let d₁ : dist g x (near g s) ≡ p .good .labels .depth (endAt c s) = ap (dist g x) (sym e₁) ∙ depth-is g c p n x b at (endAt c s) left-near in
+          let ad : dist g x (across g s) ≡ dist g x (near g s) + weight g s = w .adds in
+          omega arith
+
+      -- so it stays within the distance to z
+      pub room-far : (l : ℕ) → growthAt c (w .side) + growthAt c (opposite (w .side)) + l ≤ weightOver c (w .side) → dualOf c n + l ≤ dist g x z
+      room-far l room = let le = leaves l room in omega (arith, w .ahead)
+
+module _ (g : Graph) (c : State) (p : DefectsOnly g c) where
+  -- ---- two nodes
+
   module _ (n x m z : ℕ) (b : n < nodeCount c) (at : classOf c n ≡ defectVertex x) (k : m < nodeCount c) (to : classOf c m ≡ defectVertex z) (ne : n ≢ m) where
-    root-x : vertexHolderAt c x ≡ n + 1
-    root-x = defect-vertex-held c (p .good) (p .outer) n x b at .0
-
-    root-z : vertexHolderAt c z ≡ m + 1
-    root-z = defect-vertex-held c (p .good) (p .outer) m z k to .0
-
-    -- where a shortest walk from x leaves what n holds
-    apart-at : Leaving g x z (λ u. vertexHolderAt c u ≡ n + 1) → dualOf c n + dualOf c m ≤ dist g x z
-    apart-at l =
-        let s : ℕ = l .side in
-        let in-s : s < sideCount c = rw (p .graph .sides-are) (l .inside) in
-        let e₁ : endAt c s ≡ near g s = p .graph .near-is s in
+    -- where a shortest walk from x leaves what n holds, with room for l more on that edge
+    pub room-apart : (w : Leaving g x z (λ u. vertexHolderAt c u ≡ n + 1)) (l : ℕ)
+        → growthAt c (w .side) + growthAt c (opposite (w .side)) + l ≤ weightOver c (w .side) → dualOf c n + l + dualOf c m ≤ dist g x z
+    room-apart w l room =
+        let s : ℕ = w .side in
         let e₂ : endAt c (opposite s) ≡ across g s = p .graph .across-is s in
-        let e₃ : weightOver c s ≡ weight g s = p .graph .weight-is s in
-        let v : vertexHolderAt c (endAt c s) ≡ n + 1 = rw e₁ (l .held) in
-        let w : vertexHolderAt c (endAt c (opposite s)) ≢ n + 1 = rw e₂ (l .free) in
-        let bo = border-side c (p .good) (p .outer) n x b at s in-s v w in
-        let d₁ : dist g x (near g s) ≡ p .good .labels .depth (endAt c s) = ap (dist g x) (sym e₁) ∙ depth-is g c p n x b at (endAt c s) v in
-        let sy : dist g (across g s) z ≡ dist g z (across g s) = dist-sym g (p .formed) (across g s) z (rw e₂ at (place-end (opposite s))) (vertex-inside g c p m z k to) in
-        let ad : dist g x (across g s) ≡ dist g x (near g s) + weight g s = l .adds in
-        let ah : dist g x z ≡ dist g x (across g s) + dist g (across g s) z = l .ahead in
-        let b₁ : p .good .labels .depth (endAt c s) + growthAt c s ≡ dualOf c n = bo .0 in
-        let b₂ : growthAt c s + growthAt c (opposite s) ≤ weightOver c s = bo .1 in
+        let sy : dist g (across g s) z ≡ dist g z (across g s) = dist-sym g (p .formed) (across g s) z (rw e₂ at (place-end g c p (opposite s))) (vertex-inside g c p m z k to) in
+        let ah : dist g x z ≡ dist g x (across g s) + dist g (across g s) z = w .ahead in
+        let le : dualOf c n + growthAt c (opposite s) + l ≤ dist g x (across g s) = leaves g c p n x b at z w l room in
         by-cases (decEq (vertexHolderAt c (endAt c (opposite s))) (m + 1))
         (λ h.
-        let in-o : opposite s < sideCount c = rw (p .graph .sides-are) (opposite-inside g (p .formed) s (l .inside)) in
+        let in-o : opposite s < sideCount c = rw (p .graph .sides-are) (opposite-inside g (p .formed) s (w .inside)) in
         let h' : vertexHolderAt c (endAt c (opposite (opposite s))) ≢ m + 1 = rw (opposite-opposite s) (λ q. ne (same q)) in
         let bz = border-side c (p .good) (p .outer) m z k to (opposite s) in-o h h' in
         let d₂ : dist g z (across g s) ≡ p .good .labels .depth (endAt c (opposite s)) = ap (dist g z) (sym e₂) ∙ depth-is g c p m z k to (endAt c (opposite s)) h in
@@ -59,14 +89,18 @@ module _ (g : Graph) (c : State) (p : DefectsOnly g c) where
         let d₂ : dualOf c m ≤ dist g z (across g s) = rw e₂ at (far-off g c p m z k to (endAt c (opposite s)) h) in
         omega arith)
       where
-        place-end : (t : ℕ) → endAt c t < g .size
-        place-end t = rw (← p .graph .size-is) (numbers-end c (invariant-numbers (p .good)) t)
+        same : vertexHolderAt c (endAt c (w .side)) ≡ m + 1 → n ≡ m
+        same q = let v : vertexHolderAt c (endAt c (w .side)) ≡ n + 1 = rw (p .graph .near-is (w .side)) (w .held) in omega arith
 
-        same : vertexHolderAt c (endAt c (l .side)) ≡ m + 1 → n ≡ m
-        same q = let v : vertexHolderAt c (endAt c (l .side)) ≡ n + 1 = rw (p .graph .near-is (l .side)) (l .held) in omega arith
+    -- such a place on the walk
+    pub leaving : dist g x z < unreachable → Leaving g x z (λ u. vertexHolderAt c u ≡ n + 1)
+    leaving r = leaves-at g c p n x b at z (λ q. ne (omega (arith, defect-vertex-held c (p .good) (p .outer) m z k to .0))) r
 
     pub nodes-apart : dist g x z < unreachable → dualOf c n + dualOf c m ≤ dist g x z
-    nodes-apart r = apart-at (dist-leaving g (p .formed) x (vertex-inside g c p n x b at) (λ u. vertexHolderAt c u ≡ n + 1) (λ u. decEq (vertexHolderAt c u) (n + 1)) root-x z (λ q. ne (omega (arith, root-z))) r)
+    nodes-apart r =
+        let w = leaving r in
+        let z₀ : dualOf c n + 0 + dualOf c m ≤ dist g x z = room-apart w 0 (omega (arith, left-within g c p n x b at z w)) in
+        omega arith
 
 -- ---- feasible
 

@@ -55,7 +55,7 @@ module _ {v : ℕ} {edges : List Edge} {virtuals : List ℕ} (r : Run v edges vi
         let w = weights-positive v edges virtuals positive s (rw (g .sides-are) at b) in
         λ z. omega (arith, g .weight-is s)
 
-    defects-only : DefectsOnly (openedGraph v edges virtuals) (end r)
+    pub defects-only : DefectsOnly (openedGraph v edges virtuals) (end r)
     defects-only = record {
       good = end-good;
       outer = end-matches .outer;

@@ -1,0 +1,6 @@
+-- The laws from which the theorems follow.
+pub mod Long
+pub mod Met
+pub mod Prepared
+pub mod Tight
+pub mod Meaning

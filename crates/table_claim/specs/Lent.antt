@@ -1,0 +1,75 @@
+-- Calls on a lent block, about what the functions of the library promise: a step from a block to the next is the promise of the function
+-- that was called, by its name in crate `lent` (specs/Called). What comes back beside the block may be anything that the promise allows.
+use Prim.Native.Nat.{ℕ}
+use mathlib.Core.Path.{_≡_}
+use mathlib.Core.Logic.{_≢_}
+use mathlib.Core.Bool.{Bool}
+use mathlib.Core.List.{List, [], _∷_}
+use lib.IntN.{ℤ}
+use Rattle.graph.specs.Opening.{OpenCalled}
+use Rattle.length.specs.declared.Answer.{Answer}
+use Rattle.lent.specs.Called.{DefectCalled, BlossomCalled, StateCalled, PrepareCalled, LengthCalled, GrowCalled, AdvanceCalled, ClearCalled}
+use Rattle.lent.specs.Called.{VertexRead, TableRead, ContactsRead, ContactsCounted}
+
+-- a call with all that it is given beside the block: the scratch t first, numbers, and the words of other lent lists
+pub data LentCall : Type 0 where
+  lentOpen : (t : List ℤ) (v e n l : ℕ) (edges virtuals : List ℤ) → LentCall
+  lentDefect : (t : List ℤ) (vertex state : ℕ) → LentCall
+  lentBlossom : (t : List ℤ) (state : ℕ) (circle : List ℤ) → LentCall
+  lentState : (t : List ℤ) (node state : ℕ) → LentCall
+  lentPrepare : (t : List ℤ) (node direction : ℕ) → LentCall
+  lentLength : (t : List ℤ) (node direction : ℕ) (first : Bool) → LentCall
+  lentGrow : (t : List ℤ) (node : ℕ) (by : ℤ) → LentCall
+  lentTable : (t list : List ℤ) → LentCall
+  lentAdvance : (t : List ℤ) (node : ℕ) → LentCall
+  lentContacts : (t list : List ℤ) → LentCall
+  lentVertex : (t : List ℤ) (node : ℕ) → LentCall
+  lentClear : (t : List ℤ) → LentCall
+
+-- what the host gets from a call
+pub data Returned : Type 0 where
+  opening : ℕ → Returned  -- of an opening: 0, or the number of its refusal
+  returns : Answer → Returned
+  returnsList : Answer → List ℤ → Returned  -- and what its lent list holds then
+  returnsCount : Answer → ℕ → List ℤ → Returned  -- and how many of its words were written
+
+-- From the block b a call leads to the block b', and the host gets r. Reading leaves the block. An opening among the calls is one that is
+-- refused: one that is accepted starts a list of calls of its own.
+pub data Step (b : List ℤ) : LentCall → Returned → List ℤ → Type 0 where
+  open-refused : {t edges virtuals b' : List ℤ} {v e n l k : ℕ} → OpenCalled b t v e n l edges virtuals b' k → k ≢ 0
+      → Step b (lentOpen t v e n l edges virtuals) (opening k) b'
+  insert-defect : {t b' t' : List ℤ} {v x : ℕ} {a : Answer} → DefectCalled b t v x b' t' a → Step b (lentDefect t v x) (returns a) b'
+  insert-blossom : {t circle b' t' : List ℤ} {x : ℕ} {a : Answer} → BlossomCalled b t x circle b' t' a
+      → Step b (lentBlossom t x circle) (returns a) b'
+  set-grow-state : {t b' : List ℤ} {n x : ℕ} {a : Answer} → StateCalled b t n x b' a → Step b (lentState t n x) (returns a) b'
+  prepare : {t b' t' : List ℤ} {n d : ℕ} {a : Answer} → PrepareCalled b t n d b' t' a → Step b (lentPrepare t n d) (returns a) b'
+  max-update-length : {t b' t' : List ℤ} {n d : ℕ} {first : Bool} {a : Answer} → LengthCalled b t n d first b' t' a
+      → Step b (lentLength t n d first) (returns a) b'
+  grow : {t b' t' : List ℤ} {n : ℕ} {l : ℤ} {a : Answer} → GrowCalled b t n l b' t' a → Step b (lentGrow t n l) (returns a) b'
+  read-table : {t list list' : List ℤ} {a : Answer} → TableRead b t list list' a → Step b (lentTable t list) (returnsList a list') b
+  advance : {t b' t' : List ℤ} {n : ℕ} {a : Answer} → AdvanceCalled b t n b' t' a → Step b (lentAdvance t n) (returns a) b'
+  contacts : {t list list' : List ℤ} {a : Answer} {k : ℕ} → ContactsRead b t list list' a → ContactsCounted b t list k
+      → Step b (lentContacts t list) (returnsCount a k list') b
+  representative-vertex : {t : List ℤ} {n : ℕ} {a : Answer} → VertexRead b t n a → Step b (lentVertex t n) (returns a) b
+  clear : {t b' : List ℤ} {a : Answer} → ClearCalled b t b' a → Step b (lentClear t) (returns a) b'
+
+-- ---- lists of calls
+
+-- a line of a protocol: a call, and what the host got
+pub record Exchange : Type 0 where
+  pub call : LentCall
+  pub got : Returned
+
+-- a list of calls, each from the block that the one before it left
+pub data Steps : List ℤ → List Exchange → List ℤ → Type 0 where
+  none : {b : List ℤ} → Steps b [] b
+  next : {b b₁ b₂ : List ℤ} {k : LentCall} {r : Returned} {xs : List Exchange} → Step b k r b₁ → Steps b₁ xs b₂
+      → Steps b (record { call = k; got = r } ∷ xs) b₂
+
+-- Calls of every kind from any block, openings that are accepted among them.
+pub data AnySteps : List ℤ → List Exchange → List ℤ → Type 0 where
+  no-call : {b : List ℤ} → AnySteps b [] b
+  one-call : {b b₁ b₂ : List ℤ} {k : LentCall} {r : Returned} {xs : List Exchange} → Step b k r b₁ → AnySteps b₁ xs b₂
+      → AnySteps b (record { call = k; got = r } ∷ xs) b₂
+  one-opening : {b b₁ b₂ t edges virtuals : List ℤ} {v e n l : ℕ} {xs : List Exchange} → OpenCalled b t v e n l edges virtuals b₁ 0
+      → AnySteps b₁ xs b₂ → AnySteps b (record { call = lentOpen t v e n l edges virtuals; got = opening 0 } ∷ xs) b₂

@@ -1,0 +1,178 @@
+-- A run: an accepted opening and a list of calls. What the definitions give for it, by the calls alone: the state, the answers, the history.
+use Prim.Native.Nat.{ℕ, _*_}
+use mathlib.Core.Path.{_≡_}
+use mathlib.Core.Bool.{Bool, true, _&&_}
+use mathlib.Core.List.{List, [], _∷_, _++_, map}
+use lib.IntN.{ℤ, pos}
+use lib.Dec.{eqb}
+use lib.ListN.{length}
+use Rattle.graph.specs.Basic.{if_then_else_}
+use Rattle.graph.specs.State.{State}
+use Rattle.graph.specs.Word.{toNat}
+use Rattle.graph.specs.Layout.{blockLength, scratchLength}
+use Rattle.graph.specs.Open.{Edge, opened, openRefusal}
+use Rattle.graph.specs.Opening.{edgesFrom, virtualsFrom, OpenCalled}
+use Rattle.length.specs.declared.Answer.{Answer}
+use Rattle.length.specs.declared.Answer.the-variants.{Done, Refused}
+use Rattle.calls.specs.Reply.{placed}
+use Rattle.calls.specs.Insert.{insertDefect, insertBlossom}
+use Rattle.calls.specs.Calls.{setGrowState, prepareDualNodeGrowth, maxUpdateLength, growDualNode, advance, growthTable, contacts, representativeVertex, clear}
+use Rattle.calls.specs.Calls.{Call, InsertDefect, InsertBlossom, SetGrowState, Prepare, MaxUpdateLength, Grow, ReadTable, Advance, Contacts, RepresentativeVertex, Clear}
+use Rattle.reachable.specs.Reachable.{after}
+use Rattle.table.specs.Answers.{accepted, isDone}
+use Rattle.table.specs.History.{History, entryAt, withGrowState, withAdded, advanceLength, historyAfter, noBlossoms}
+use Rattle.table_claim.specs.Lent.{LentCall, lentOpen, lentDefect, lentBlossom, lentState, lentPrepare, lentLength, lentGrow, lentTable, lentAdvance, lentContacts, lentVertex, lentClear}
+use Rattle.table_claim.specs.Lent.{Returned, opening, returns, returnsList, returnsCount, Exchange, Steps}
+
+-- ---- lengths
+
+-- V, E, N and L of an opened block
+pub record Sizes : Type 0 where
+  pub vertices : ℕ
+  pub edges : ℕ
+  pub nodes : ℕ
+  pub store : ℕ
+
+-- a scratch for these sizes; both a scratch and a list of m words for each edge
+abbrev pub scratchFits : Sizes → List ℤ → Bool
+scratchFits z t = eqb (length t) (scratchLength (z .edges))
+
+abbrev pub listFits : Sizes → ℕ → List ℤ → List ℤ → Bool
+listFits z m t list = scratchFits z t && eqb (length list) (m * z .edges)
+
+-- ---- what the definitions are asked
+
+abbrev pub callsOf : List Exchange → List LentCall
+callsOf xs = map (λ (x : Exchange). x .call) xs
+
+-- the call k, where what is lent has its lengths; otherwise it is refused (1), and none
+abbrev pub ifFits : Bool → Call → List Call
+ifFits fits k = if fits then k ∷ [] else []
+
+unfoldable pub fedOne : Sizes → LentCall → List Call
+fedOne z (lentOpen t v e n l edges virtuals) = []
+fedOne z (lentDefect t v x) = ifFits (scratchFits z t) (InsertDefect v x)
+fedOne z (lentBlossom t x circle) = ifFits (scratchFits z t) (InsertBlossom x (map toNat circle))
+fedOne z (lentState t n x) = ifFits (scratchFits z t) (SetGrowState n x)
+fedOne z (lentPrepare t n d) = ifFits (scratchFits z t) (Prepare n d)
+fedOne z (lentLength t n d first) = ifFits (scratchFits z t) (MaxUpdateLength n d first)
+fedOne z (lentGrow t n l) = ifFits (scratchFits z t) (Grow n l)
+fedOne z (lentTable t list) = ifFits (listFits z 2 t list) ReadTable
+fedOne z (lentAdvance t n) = ifFits (scratchFits z t) (Advance n)
+fedOne z (lentContacts t list) = ifFits (listFits z 1 t list) Contacts
+fedOne z (lentVertex t n) = ifFits (scratchFits z t) (RepresentativeVertex n)
+fedOne z (lentClear t) = ifFits (scratchFits z t) Clear
+
+unfoldable pub fed : Sizes → List LentCall → List Call
+fed z [] = []
+fed z (k ∷ ks) = fedOne z k ++ fed z ks
+
+-- ---- what the host gets, by the definitions
+
+-- the answer a, or refused 1 for a length
+abbrev pub orRefused : Bool → Answer → Answer
+orRefused fits a = if fits then a else Refused 1
+
+-- of a call in state c
+unfoldable pub returned : Sizes → State → LentCall → Returned
+returned z c (lentOpen t v e n l edges virtuals) =
+    opening (openRefusal v e n l (edgesFrom edges) (virtualsFrom virtuals)
+    (eqb (blockLength (z .vertices) (z .edges) (z .nodes) (z .store)) (blockLength v e n l) && eqb (length t) (scratchLength e)))
+returned z c (lentDefect t v x) = returns (orRefused (scratchFits z t) (insertDefect c v x .answer))
+returned z c (lentBlossom t x circle) = returns (orRefused (scratchFits z t) (insertBlossom c x (map toNat circle) .answer))
+returned z c (lentState t n x) = returns (orRefused (scratchFits z t) (setGrowState c n x .answer))
+returned z c (lentPrepare t n d) = returns (orRefused (scratchFits z t) (prepareDualNodeGrowth c n d .answer))
+returned z c (lentLength t n d first) = returns (orRefused (scratchFits z t) (maxUpdateLength c n d first .answer))
+returned z c (lentGrow t n l) = returns (orRefused (scratchFits z t) (growDualNode c n l .answer))
+returned z c (lentTable t list) = returnsList (orRefused (listFits z 2 t list) Done) (if listFits z 2 t list then map pos (growthTable c) else list)
+returned z c (lentAdvance t n) = returns (orRefused (scratchFits z t) (advance c n .answer))
+returned z c (lentContacts t list) =
+    returnsCount (orRefused (listFits z 1 t list) Done)
+    (if listFits z 1 t list then length (contacts c) else 0) (if listFits z 1 t list then placed (contacts c) list else list)
+returned z c (lentVertex t n) = returns (orRefused (scratchFits z t) (representativeVertex c n .answer))
+returned z c (lentClear t) = returns (orRefused (scratchFits z t) (clear c .answer))
+
+-- of each call in turn, from state c on
+unfoldable pub returnedFrom : Sizes → State → List LentCall → List Returned
+returnedFrom z c [] = []
+returnedFrom z c (k ∷ ks) = returned z c k ∷ returnedFrom z (after c (fedOne z k)) ks
+
+-- ---- the history, by what the host got
+
+-- the answer in it
+unfoldable pub answerIn : Returned → Answer
+answerIn (opening k) = if eqb k 0 then Done else Refused k
+answerIn (returns a) = a
+answerIn (returnsList a list) = a
+answerIn (returnsCount a k list) = a
+
+-- The history h after a call that was answered a in state c. Of the state only an advance is asked for: how far it went is in no answer.
+unfoldable pub recordedBy : State → History → LentCall → Answer → History
+recordedBy c h (lentDefect t v x) a = if accepted a then h ++ (record { vertex = v; growState = x; y = pos 0 } ∷ []) else h
+recordedBy c h (lentState t n x) a = if accepted a then withGrowState h n x else h
+recordedBy c h (lentGrow t n l) a = if isDone a then withAdded h n l else h
+recordedBy c h (lentAdvance t n) a = if isDone a then withAdded h n (advanceLength c n (entryAt h n .growState)) else h
+recordedBy c h (lentClear t) a = if accepted a then [] else h
+recordedBy c h (lentOpen t v e n l edges virtuals) a = h
+recordedBy c h (lentBlossom t x circle) a = h
+recordedBy c h (lentPrepare t n d) a = h
+recordedBy c h (lentLength t n d first) a = h
+recordedBy c h (lentTable t list) a = h
+recordedBy c h (lentContacts t list) a = h
+recordedBy c h (lentVertex t n) a = h
+
+-- line by line, from state c and history h on
+unfoldable pub historyBy : Sizes → State → History → List Exchange → History
+historyBy z c h [] = h
+historyBy z c h (x ∷ xs) = historyBy z (after c (fedOne z (x .call))) (recordedBy c h (x .call) (answerIn (x .got))) xs
+
+-- ---- from an opening on
+
+-- On one graph: an opening that is accepted, of any block and scratch and with any N and L, and a list of calls from the block that it leaves.
+pub record LentRun (v : ℕ) (edges : List Edge) (virtuals : List ℕ) : Type 0 where
+  pub edgeNumber : ℕ  -- E
+  pub nodeLimit : ℕ  -- N
+  pub storeLimit : ℕ  -- L
+  pub before : List ℤ  -- the block that open is lent
+  pub scratch : List ℤ
+  pub edgeWords : List ℤ
+  pub virtualWords : List ℤ
+  pub edges-are : edgesFrom edgeWords ≡ edges
+  pub virtuals-are : virtualsFrom virtualWords ≡ virtuals
+  pub first : List ℤ  -- the opened block
+  pub opening-is : OpenCalled before scratch v edgeNumber nodeLimit storeLimit edgeWords virtualWords first 0
+  pub exchanges : List Exchange
+  pub last : List ℤ  -- the block after the calls
+  pub steps : Steps first exchanges last
+
+module _ {v : ℕ} {edges : List Edge} {virtuals : List ℕ} (r : LentRun v edges virtuals) where
+  abbrev pub runSizes : Sizes
+  runSizes = record { vertices = v; edges = r .edgeNumber; nodes = r .nodeLimit; store = r .storeLimit }
+
+  -- the opened state, and the calls that the definitions are asked
+  abbrev pub runStart : State
+  runStart = opened v (r .nodeLimit) (r .storeLimit) edges virtuals
+
+  abbrev pub runCalls : List Call
+  runCalls = fed runSizes (callsOf (r .exchanges))
+
+  -- the history of the calls: it sees neither block nor table
+  abbrev pub lentHistory : History
+  lentHistory = historyAfter runStart runCalls
+
+  -- no blossom is accepted
+  abbrev pub WithoutBlossoms : Type 0
+  WithoutBlossoms = noBlossoms runStart runCalls ≡ true
+
+-- Of the exchanges xs that led to the block b, those since the last opening that was accepted are a run.
+pub record SinceOpening (xs : List Exchange) (b : List ℤ) : Type 0 where
+  pub v : ℕ
+  pub edges : List Edge
+  pub virtuals : List ℕ
+  pub run : LentRun v edges virtuals
+  pub earlier : List Exchange
+  pub all : xs ≡ earlier ++ (record {
+    call = lentOpen (run .scratch) v (run .edgeNumber) (run .nodeLimit) (run .storeLimit) (run .edgeWords) (run .virtualWords);
+    got = opening 0;
+  } ∷ run .exchanges)
+  pub leads : run .last ≡ b

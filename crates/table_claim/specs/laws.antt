@@ -1,0 +1,12 @@
+-- The laws from which the claim follows.
+pub mod Steps
+pub mod EveryRun
+pub mod Input
+pub mod Reading
+pub mod Fitting
+pub mod Tables
+pub mod Carried
+pub mod Lent
+pub mod Hosted
+pub mod Program
+pub mod Demand3

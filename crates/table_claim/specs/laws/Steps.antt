@@ -1,0 +1,210 @@
+-- What a list of steps leaves and returns: in a block in form the state that the definitions give for the calls that they were asked, and their answers.
+use Prim.Native.Nat.{ℕ}
+use mathlib.Core.Path.{_≡_, refl, sym, ap, subst, _∙_}
+use mathlib.Core.Logic.{_⊎_, inl, inr, ⊎-elim}
+use mathlib.Core.Bool.{Bool, true, false, _&&_}
+use mathlib.Core.List.{List, [], _∷_, _++_, map}
+use lib.IntN.{ℤ, pos}
+use lib.Dec.{eqb}
+use lib.ListN.{length}
+use Rattle.graph.specs.Basic.{if_then_else_}
+use Rattle.graph.specs.State.{State, Graph, edgeCount}
+use Rattle.graph.specs.Word.{toNat}
+use Rattle.graph.specs.Layout.{stateOf, blockLength, memoryRefusal, listRefusal}
+use Rattle.graph.specs.Form.{Formed}
+use Rattle.graph.specs.Opening.{edgesFrom, virtualsFrom, fits}
+use Rattle.graph.specs.laws.Members.{by-test}
+use Rattle.memory.specs.laws.OpenedBlock.{refused-block}
+use Rattle.sound.specs.laws.Whole.{memory-by-length, list-by-length}
+use Rattle.length.specs.declared.Answer.{Answer}
+use Rattle.length.specs.declared.Answer.the-variants.{Done}
+use Rattle.length.specs.Answer.{Reply, says}
+use Rattle.calls.specs.Refuse.{unless}
+use Rattle.calls.specs.Reply.{placed}
+use Rattle.calls.specs.Calls.{Call, InsertDefect, InsertBlossom, SetGrowState, Prepare, MaxUpdateLength, Grow, ReadTable, Advance, Contacts, RepresentativeVertex, Clear}
+use Rattle.calls.specs.Calls.{respond, response, growthTable, contacts as contactsOf, representativeVertex}
+use Rattle.lent.specs.Called.{Called, ListRead}
+use Rattle.reachable.specs.Reachable.{after}
+use Rattle.reachable.specs.Invariant.{Invariant}
+use Rattle.reachable.specs.laws.Calls.{after-invariant}
+use Rattle.table.specs.laws.Kept.{call-graph}
+use Rattle.table.specs.laws.Append.{after-append}
+use Rattle.table_claim.specs.Lent.{LentCall, lentOpen, Step, open-refused, insert-defect, insert-blossom, set-grow-state, prepare, max-update-length, grow, read-table, advance, contacts, representative-vertex, clear}
+use Rattle.table_claim.specs.Lent.{Returned, opening, returns, returnsList, returnsCount, Exchange, Steps, none, next, AnySteps, no-call, one-call, one-opening}
+use Rattle.table_claim.specs.Run.{Sizes, scratchFits, listFits, callsOf, ifFits, fedOne, fed, orRefused, returned, returnedFrom, SinceOpening}
+
+-- ---- lists of calls
+
+after-graph : (c : State) (ks : List Call) → after c ks .graph ≡ c .graph
+unfolding after
+after-graph c [] = refl
+after-graph c (k ∷ ks) = after-graph (respond c k .state) ks ∙ call-graph c k
+
+-- ---- a block between two calls
+
+-- in form, of these sizes, and its state keeps what every call keeps
+pub record Whole (z : Sizes) (b : List ℤ) : Type 0 where
+  pub formed : Formed b
+  pub good : Invariant (stateOf b)
+  pub edges-are : edgeCount (stateOf b) ≡ z .edges
+  pub size : length b ≡ blockLength (z .vertices) (z .edges) (z .nodes) (z .store)
+
+module _ {z : Sizes} {b : List ℤ} (w : Whole z b) where
+  -- what is lent to a call is refused for its length alone
+  pub memory-fits : (t : List ℤ) → memoryRefusal b t ≡ (if scratchFits z t then 0 else 1)
+  memory-fits t = rw (w .edges-are) at (memory-by-length b t (w .formed) (w .good .sounds))
+
+  pub list-fits : (t list : List ℤ) (m : ℕ) → listRefusal b t (length list) m ≡ (if listFits z m t list then 0 else 1)
+  list-fits t list m = rw (w .edges-are) at (list-by-length b t (length list) m (w .formed) (w .good .sounds))
+
+-- ---- one step: the state
+
+-- b' is in form and holds the state that the calls give from that of b
+pub record Follows (b : List ℤ) (ks : List Call) (b' : List ℤ) : Type 0 where
+  pub formed : Formed b'
+  pub state : stateOf b' ≡ after (stateOf b) ks
+  pub len : length b' ≡ length b
+
+unchanged-follows : {z : Sizes} {b b' : List ℤ} → Whole z b → b' ≡ b → Follows b [] b'
+unfolding after
+unchanged-follows w e = record { formed = subst Formed (sym e) (w .formed); state = ap stateOf e; len = ap length e }
+
+-- a call that only reads
+reading-follows : {z : Sizes} {b : List ℤ} → Whole z b → (fits : Bool) (k : Call) → respond (stateOf b) k .state ≡ stateOf b → Follows b (ifFits fits k) b
+unfolding after
+reading-follows w true k e = record { formed = w .formed; state = sym e; len = refl }
+reading-follows w false k e = record { formed = w .formed; state = refl; len = refl }
+
+module _ {b b' : List ℤ} {j : ℕ} {a : Answer} {writes : Bool} {r : Reply} where
+  -- a call whose lent memory is refused for its length alone: it is asked of the definitions where the length is right
+  called-follows : {z : Sizes} → Whole z b → (fits : Bool) → j ≡ (if fits then 0 else 1) → Called j b b' a writes r
+      → (k : Call) → respond (stateOf b) k .state ≡ r .state → Follows b (ifFits fits k) b'
+  unfolding unless after
+  called-follows w true m p k e = record { formed = p .formed m; state = rw m at (p .state) ∙ sym e; len = p .len }
+  called-follows w false m p k e = unchanged-follows w (p .unchanged (rw m refl))
+
+  called-answered : (fits : Bool) → j ≡ (if fits then 0 else 1) → Called j b b' a writes r → a ≡ orRefused fits (r .answer)
+  unfolding unless says
+  called-answered true m p = rw m at (p .answer)
+  called-answered false m p = rw m at (p .answer)
+
+pub step-follows : {z : Sizes} {b b' : List ℤ} {k : LentCall} {r : Returned} → Whole z b → Step b k r b' → Follows b (fedOne z k) b'
+unfolding fedOne respond response representativeVertex says
+step-follows {z} {b} w (open-refused {t} {edges} {virtuals} {b'} {v} {e} {n} {l} p h) =
+    unchanged-follows w (p .1 ∙ refused-block v e n l (edgesFrom edges) (virtualsFrom virtuals) (fits b t v e n l) b (λ q. h (p .0 ∙ q)))
+step-follows {z} w (insert-defect {t} {v = v} {x = x} p) = called-follows w (scratchFits z t) (memory-fits w t) (p .block) (InsertDefect v x) refl
+step-follows {z} w (insert-blossom {t} {circle} {x = x} p) = called-follows w (scratchFits z t) (memory-fits w t) (p .block) (InsertBlossom x (map toNat circle)) refl
+step-follows {z} w (set-grow-state {t} {n = n} {x = x} p) = called-follows w (scratchFits z t) (memory-fits w t) p (SetGrowState n x) refl
+step-follows {z} w (prepare {t} {n = n} {d = d} p) = called-follows w (scratchFits z t) (memory-fits w t) (p .block) (Prepare n d) refl
+step-follows {z} w (max-update-length {t} {n = n} {d = d} {first = first} p) =
+    called-follows w (scratchFits z t) (memory-fits w t) (p .block) (MaxUpdateLength n d first) refl
+step-follows {z} w (grow {t} {n = n} {l = l} p) = called-follows w (scratchFits z t) (memory-fits w t) (p .block) (Grow n l) refl
+step-follows {z} w (read-table {t} {list} p) = reading-follows w (listFits z 2 t list) ReadTable refl
+step-follows {z} w (advance {t} {n = n} p) = called-follows w (scratchFits z t) (memory-fits w t) (p .block) (Advance n) refl
+step-follows {z} w (contacts {t} {list} p q) = reading-follows w (listFits z 1 t list) Contacts refl
+step-follows {z} w (representative-vertex {t} {n} p) = reading-follows w (scratchFits z t) (RepresentativeVertex n) refl
+step-follows {z} w (clear {t} p) = called-follows w (scratchFits z t) (memory-fits w t) p Clear refl
+
+-- ---- one step: what the host gets
+
+read-answered : (fits : Bool) (c : State) {j : ℕ} {a : Answer} (r : Reply) → j ≡ (if fits then 0 else 1) → a ≡ unless j c r .answer → a ≡ orRefused fits (r .answer)
+unfolding unless says
+read-answered true c r m e = rw m at e
+read-answered false c r m e = rw m at e
+
+list-answered : (fits : Bool) {b list list' filled : List ℤ} {j : ℕ} {a : Answer} → j ≡ (if fits then 0 else 1) → ListRead b list list' filled j a
+    → (a ≡ orRefused fits Done) × (list' ≡ (if fits then filled else list))
+unfolding unless says
+list-answered true m p = (rw m at (p .answer), rw m at (p .listed))
+list-answered false m p = (rw m at (p .answer), rw m at (p .listed))
+
+counted-by : (fits : Bool) (n : ℕ) {j k : ℕ} → j ≡ (if fits then 0 else 1) → k ≡ (if eqb j 0 then n else 0) → k ≡ (if fits then n else 0)
+counted-by true n m e = rw m at e
+counted-by false n m e = rw m at e
+
+pub step-returns : {z : Sizes} {b b' : List ℤ} {k : LentCall} {r : Returned} → Whole z b → Step b k r b' → r ≡ returned z (stateOf b) k
+unfolding returned fits
+step-returns {z} w (open-refused p h) = rw (p .0, w .size) refl
+step-returns {z} w (insert-defect {t} p) = ap returns (called-answered (scratchFits z t) (memory-fits w t) (p .block))
+step-returns {z} w (insert-blossom {t} p) = ap returns (called-answered (scratchFits z t) (memory-fits w t) (p .block))
+step-returns {z} w (set-grow-state {t} p) = ap returns (called-answered (scratchFits z t) (memory-fits w t) p)
+step-returns {z} w (prepare {t} p) = ap returns (called-answered (scratchFits z t) (memory-fits w t) (p .block))
+step-returns {z} w (max-update-length {t} p) = ap returns (called-answered (scratchFits z t) (memory-fits w t) (p .block))
+step-returns {z} w (grow {t} p) = ap returns (called-answered (scratchFits z t) (memory-fits w t) (p .block))
+step-returns {z} {b} w (read-table {t} {list} p) =
+    let q = list-answered (listFits z 2 t list) (list-fits w t list 2) p in
+    rw (q .0, q .1) refl
+step-returns {z} w (advance {t} p) = ap returns (called-answered (scratchFits z t) (memory-fits w t) (p .block))
+step-returns {z} {b} w (contacts {t} {list} p k) =
+    let q = list-answered (listFits z 1 t list) (list-fits w t list 1) p in
+    rw (q .0, q .1, counted-by (listFits z 1 t list) (length (contactsOf (stateOf b))) (list-fits w t list 1) k) refl
+step-returns {z} {b} w (representative-vertex {t} {n} p) = ap returns (read-answered (scratchFits z t) (stateOf b) (representativeVertex (stateOf b) n) (memory-fits w t) p)
+step-returns {z} w (clear {t} p) = ap returns (called-answered (scratchFits z t) (memory-fits w t) p)
+
+-- ---- a list of steps
+
+pub follows-whole : {z : Sizes} {b b' : List ℤ} {ks : List Call} → Whole z b → Follows b ks b' → Whole z b'
+follows-whole {z} {b} {b'} {ks} w f = record {
+  formed = f .formed;
+  good = subst Invariant (sym (f .state)) (after-invariant (stateOf b) (w .good) ks);
+  edges-are = ap (λ (c : State). edgeCount c) (f .state) ∙ ap (λ (g : Graph). length (g .weight)) (after-graph (stateOf b) ks) ∙ w .edges-are;
+  size = f .len ∙ w .size;
+}
+
+pub steps-follow : {z : Sizes} {b b' : List ℤ} {xs : List Exchange} → Whole z b → Steps b xs b' → Follows b (fed z (callsOf xs)) b'
+unfolding fed after
+steps-follow w none = record { formed = w .formed; state = refl; len = refl }
+steps-follow {z} {b} w (next {b₁ = b₁} {b₂ = b₂} {k = k} {xs = xs} s ss) =
+    let f : Follows b (fedOne z k) b₁ = step-follows w s in
+    let g : Follows b₁ (fed z (callsOf xs)) b₂ = steps-follow (follows-whole w f) ss in
+    record {
+      formed = g .formed;
+      state = g .state ∙ ap (λ (c : State). after c (fed z (callsOf xs))) (f .state) ∙ sym (after-append (stateOf b) (fedOne z k) (fed z (callsOf xs)));
+      len = g .len ∙ f .len;
+    }
+
+pub steps-return : {z : Sizes} {b b' : List ℤ} {xs : List Exchange} → Whole z b → Steps b xs b' → map (λ (x : Exchange). x .got) xs ≡ returnedFrom z (stateOf b) (callsOf xs)
+unfolding returnedFrom
+steps-return w none = refl
+steps-return {z} {b} w (next {b₁ = b₁} {k = k} {xs = xs} s ss) =
+    let f : Follows b (fedOne z k) b₁ = step-follows w s in
+    let ih : map (λ (x : Exchange). x .got) xs ≡ returnedFrom z (after (stateOf b) (fedOne z k)) (callsOf xs) = rw (f .state) at (steps-return (follows-whole w f) ss) in
+    rw (step-returns w s, ih) refl
+
+-- ---- since the last opening
+
+-- one exchange more in front
+earlier-too : (x : Exchange) {xs : List Exchange} {b : List ℤ} → SinceOpening xs b → SinceOpening (x ∷ xs) b
+earlier-too x c = record { v = c .v; edges = c .edges; virtuals = c .virtuals; run = c .run; earlier = x ∷ c .earlier; all = ap (λ l. x ∷ l) (c .all); leads = c .leads }
+
+pub cut-at-opening : {b b' : List ℤ} {xs : List Exchange} → AnySteps b xs b' → Steps b xs b' ⊎ SinceOpening xs b'
+cut-at-opening no-call = inl none
+cut-at-opening (one-call {k = k} {r = r} s ss) = ⊎-elim (λ q. inl (next s q)) (λ c. inr (earlier-too (record { call = k; got = r }) c)) (cut-at-opening ss)
+cut-at-opening {b} (one-opening {b₁ = b₁} {b₂ = b₂} {t = t} {edges = edges} {virtuals = virtuals} {v = v} {e = e} {n = n} {l = l} {xs = xs} p ss) =
+    ⊎-elim
+    (λ q. inr (record {
+      v = v;
+      edges = edgesFrom edges;
+      virtuals = virtualsFrom virtuals;
+      earlier = [];
+      all = refl;
+      leads = refl;
+      run = record {
+        edgeNumber = e;
+        nodeLimit = n;
+        storeLimit = l;
+        before = b;
+        scratch = t;
+        edgeWords = edges;
+        virtualWords = virtuals;
+        edges-are = refl;
+        virtuals-are = refl;
+        first = b₁;
+        opening-is = p;
+        exchanges = xs;
+        last = b₂;
+        steps = q;
+      };
+    }))
+    (λ c. inr (earlier-too (record { call = lentOpen t v e n l edges virtuals; got = opening 0 }) c))
+    (cut-at-opening ss)

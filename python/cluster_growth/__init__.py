@@ -1,0 +1,70 @@
+"""Cluster growth on decoding graphs, by the proved library of this repository.
+
+    from cluster_growth import DualModule
+
+    module = DualModule(4, [(0, 1, 4), (1, 2, 4), (2, 3, 4)], virtual=[0, 3])
+    one, two = module.insert_syndrome([0, 1, 1, 0])
+    module.max_update_length(one)      # Free(length=2, empty=False)
+    module.grow(one, 2)
+    module.grow(two, 2)
+    module.max_update_length(one)      # Conflict(peer=1, peer_defect=1, node=0, defect=0)
+    module.read_table()[1]             # Growth(left=2, right=2)
+"""
+from .answers import (
+    Answer,
+    Conflict,
+    Done,
+    Free,
+    Length,
+    Moved,
+    NeedExpand,
+    NewNode,
+    Prepared,
+    Refusal,
+    ShrinkStop,
+    ShrinkStopPeer,
+    TouchingVirtual,
+    Unlimited,
+    Vertex,
+)
+from .block import Block, Node
+from .dual_module import Direction, DualModule, Growth, GrowState, Table
+from .library import Library, NoLibrary
+from .matching import Matching, match
+from .refusals import Refused, sentence
+from .sizes import block_words, enough_store, scratch_words
+
+__all__ = [
+    'Answer',
+    'Block',
+    'Conflict',
+    'Direction',
+    'Done',
+    'DualModule',
+    'Free',
+    'Growth',
+    'GrowState',
+    'Length',
+    'Library',
+    'Matching',
+    'Moved',
+    'NeedExpand',
+    'NewNode',
+    'NoLibrary',
+    'Node',
+    'Prepared',
+    'Refusal',
+    'Refused',
+    'ShrinkStop',
+    'ShrinkStopPeer',
+    'Table',
+    'TouchingVirtual',
+    'Unlimited',
+    'Vertex',
+    'block_words',
+    'enough_store',
+    'match',
+    'scratch_words',
+    'sentence',
+]
+__version__ = '0.1.0'

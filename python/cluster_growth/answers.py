@@ -1,0 +1,172 @@
+"""Answers of the calls as small objects. str(answer) is the answer as the program cardrun writes it."""
+from __future__ import annotations
+
+from dataclasses import dataclass
+from typing import Callable, Dict, Sequence, Union
+
+
+@dataclass(frozen=True)
+class Free:
+    """The node may move so far. `empty`: its boundary is empty."""
+
+    length: int
+    empty: bool = False
+
+    def __str__(self) -> str:
+        return f'free {self.length} {int(self.empty)}'
+
+
+@dataclass(frozen=True)
+class Unlimited:
+    """Nothing limits the node."""
+
+    empty: bool = False
+
+    def __str__(self) -> str:
+        return f'free -1 {int(self.empty)}'
+
+
+@dataclass(frozen=True)
+class Conflict:
+    """The gap to a peer, halved downward if the peer grows too, is 0. At a gap of 1 nothing touches yet.
+
+    Each defect is the node of the defect that the growth at the edge came from. A shrinking node at dual variable 0
+    that two growing peers touch answers these two peers.
+    """
+
+    peer: int
+    peer_defect: int
+    node: int
+    defect: int
+
+    def __str__(self) -> str:
+        return f'conflict {self.peer} {self.peer_defect} {self.node} {self.defect}'
+
+
+@dataclass(frozen=True)
+class TouchingVirtual:
+    """The node has reached a virtual vertex."""
+
+    node: int
+    defect: int
+    vertex: int
+
+    def __str__(self) -> str:
+        return f'virtual {self.node} {self.defect} {self.vertex} 0'
+
+
+@dataclass(frozen=True)
+class NeedExpand:
+    """A blossom at dual variable 0 cannot shrink."""
+
+    blossom: int
+
+    def __str__(self) -> str:
+        return f'expand {self.blossom}'
+
+
+@dataclass(frozen=True)
+class ShrinkStop:
+    """A defect at dual variable 0 cannot shrink."""
+
+    node: int
+
+    def __str__(self) -> str:
+        return f'stop {self.node}'
+
+
+@dataclass(frozen=True)
+class ShrinkStopPeer:
+    """A defect at dual variable 0 cannot shrink, and a growing peer touches it."""
+
+    node: int
+    peer: int
+    peer_defect: int
+
+    def __str__(self) -> str:
+        return f'stop {self.node} {self.peer} {self.peer_defect}'
+
+
+@dataclass(frozen=True)
+class Done:
+    """The call was carried out. `count`: how many edges contacts found."""
+
+    count: int = 0
+
+    def __str__(self) -> str:
+        return 'done'
+
+
+@dataclass(frozen=True)
+class NewNode:
+    """The number of the node that was inserted."""
+
+    node: int
+
+    def __str__(self) -> str:
+        return f'node {self.node}'
+
+
+@dataclass(frozen=True)
+class Prepared:
+    """How many passes the preparation took."""
+
+    passes: int
+
+    def __str__(self) -> str:
+        return f'prepared {self.passes}'
+
+
+@dataclass(frozen=True)
+class Vertex:
+    """A vertex."""
+
+    vertex: int
+
+    def __str__(self) -> str:
+        return f'vertex {self.vertex}'
+
+
+@dataclass(frozen=True)
+class Refusal:
+    """The number of the refusal. The methods of DualModule raise it as Refused."""
+
+    number: int
+
+    def __str__(self) -> str:
+        return f'refused {self.number}'
+
+
+@dataclass(frozen=True)
+class Moved:
+    """`advance` moved the node's dual variable by so much: below 0 it shrank, 0 for a node that stays."""
+
+    by: int
+
+    def __str__(self) -> str:
+        return 'done'
+
+
+Length = Union[Free, Unlimited, Conflict, TouchingVirtual, NeedExpand, ShrinkStop, ShrinkStopPeer]
+Answer = Union[Length, Done, NewNode, Prepared, Vertex, Refusal]
+
+# the case that stands first in an answer, as in include/fusion_blossom.h, and what its values make
+CASES: Dict[int, Callable[..., Answer]] = {
+    0: lambda below, length, empty: Free(-length if below else length, bool(empty)),
+    1: lambda empty: Unlimited(bool(empty)),
+    2: Conflict,
+    3: TouchingVirtual,
+    4: NeedExpand,
+    5: ShrinkStop,
+    6: ShrinkStopPeer,
+    7: Done,
+    8: NewNode,
+    9: Prepared,
+    10: Vertex,
+    11: Refusal,
+}
+
+
+def read(numbers: Sequence[int]) -> Answer:
+    """The answer that these numbers tell."""
+    return CASES[numbers[0]](*numbers[1:])

@@ -1,0 +1,98 @@
+"""Reads the words of a block by docs/LAYOUT.md: what no exported call tells.
+
+`node` is the one reading that hosts need; it goes over to an exported call when the library has one.
+"""
+from __future__ import annotations
+
+from dataclasses import dataclass
+from typing import List, Optional
+
+HEADER = 16
+# rows behind the header, in order, and their lengths in V, E, N
+ROWS = [
+    ('flags', 'V'),
+    ('vertex_holder', 'V'),
+    ('vertex_grandson', 'V'),
+    ('first', 'V'),
+    ('end', '2E'),
+    ('growth', '2E'),
+    ('holder', '2E'),
+    ('grandson', '2E'),
+    ('at', '2E'),
+    ('weight', 'E'),
+    ('class', 'N'),
+    ('state', 'N'),
+    ('parent', 'N'),
+    ('dual', 'N'),
+    ('start', 'N'),
+    ('boundary_length', 'N'),
+    ('overgrown_length', 'N'),
+    ('store', 'L'),
+]
+
+
+@dataclass(frozen=True)
+class Node:
+    """A node as it is stored.
+
+    A defect has a vertex, a blossom its first member; `parent` is the blossom that it lies in.
+    """
+
+    number: int
+    vertex: Optional[int]
+    first_member: Optional[int]
+    state: int
+    parent: Optional[int]
+    dual: int
+
+
+class Block:
+    """A view of the words of an opened block."""
+
+    def __init__(self, words: memoryview):
+        self.words = words
+        self.V, self.E, self.N, self.L = words[:4].tolist()
+        lengths = {'V': self.V, 'E': self.E, '2E': 2 * self.E, 'N': self.N, 'L': self.L}
+        self.rows, at = {}, HEADER
+        for name, length in ROWS:
+            self.rows[name] = range(at, at + lengths[length])
+            at += lengths[length]
+
+    def row(self, name: str) -> List[int]:
+        """The words of a row."""
+        r = self.rows[name]
+        return self.words[r.start : r.stop].tolist()
+
+    def count(self) -> int:
+        """How many nodes there are."""
+        return self.words[4]
+
+    def field(self, name: str, n: int) -> int:
+        """The word of node n in a row of nodes."""
+        return self.words[self.rows[name].start + n]
+
+    # ---- what the exported call fb_read_node will tell: these two go over to it when the library has it
+
+    def node(self, n: int) -> Node:
+        """A node, read from the words of the block."""
+        c, parent = self.field('class', n), self.field('parent', n)
+        vertex, first = (c, None) if c < self.V else (None, c - self.V)
+        return Node(n, vertex, first, self.field('state', n), parent - 1 if parent else None, self.dual(n))
+
+    def dual(self, n: int) -> int:
+        """The dual variable of a node, read from the words of the block."""
+        return self.field('dual', n)
+
+    # ---- what no exported call tells
+
+    def boundary(self, n: int) -> List[int]:
+        """The sides in the boundary of a node: edge e has the sides 2 e and 2 e + 1."""
+        start = self.rows['store'].start + self.field('start', n)
+        return self.words[start : start + self.field('boundary_length', n)].tolist()
+
+    def outermost(self, n: int) -> int:
+        """The outermost blossom that a node lies in, or the node itself."""
+        parent = self.rows['parent'].start
+        while self.words[parent + n]:
+            n = self.words[parent + n] - 1
+        return n

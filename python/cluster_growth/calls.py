@@ -1,0 +1,41 @@
+"""The exported calls, one row each. A call that the library gains is a row here and a method of DualModule."""
+from __future__ import annotations
+
+import ctypes
+from typing import Dict, List, NamedTuple, Tuple
+
+# Kinds of parameters, as C types. A stretch of words goes over as its address and its length.
+SIZE = (ctypes.c_size_t,)
+SIGNED = (ctypes.c_int64,)
+FLAG = (ctypes.c_bool,)
+WORDS = (ctypes.c_void_p, ctypes.c_size_t)
+
+
+class Call(NamedTuple):
+    """A call of include/fusion_blossom.h: its parameters between block and scratch, which come first, and the answer,
+    which comes last.
+    """
+
+    symbol: str
+    parameters: Tuple[tuple, ...] = ()
+
+    def types(self) -> List[type]:
+        """The C types of all parameters, in order."""
+        return [t for p in (WORDS, WORDS) + self.parameters + (WORDS,) for t in p]
+
+
+OPEN = Call('fb_open', (WORDS, WORDS, SIZE, SIZE, SIZE, SIZE))  # edges, virtual vertices, V, E, N, L
+
+CALLS: Dict[str, Call] = {
+    'insert_defect': Call('fb_insert_defect', (SIZE, SIZE)),
+    'insert_blossom': Call('fb_insert_blossom', (WORDS, SIZE)),
+    'set_grow_state': Call('fb_set_grow_state', (SIZE, SIZE)),
+    'prepare': Call('fb_prepare', (SIZE, SIZE)),
+    'max_update_length': Call('fb_max_update_length', (SIZE, SIZE, FLAG)),
+    'grow': Call('fb_grow', (SIZE, SIGNED)),
+    'advance': Call('fb_advance', (SIZE,)),
+    'clear': Call('fb_clear'),
+    'representative_vertex': Call('fb_representative_vertex', (SIZE,)),
+    'read_table': Call('fb_read_table', (WORDS,)),
+    'contacts': Call('fb_contacts', (WORDS,)),
+}

@@ -1,0 +1,224 @@
+"""An opened graph with its clusters: a method for each call of the proved library."""
+from __future__ import annotations
+
+import ctypes
+from array import array
+from enum import IntEnum
+from typing import Any, Iterable, List, NamedTuple, Optional, Sequence, Tuple, Union
+
+from . import answers, library, sizes
+from .answers import Answer, Length, Moved, Refusal
+from .block import Block, Node
+from .calls import CALLS, SIGNED, WORDS
+from .refusals import Refused
+
+ROOM = 16  # numbers that an answer may have
+WORD = 8  # bytes
+
+
+class GrowState(IntEnum):
+    """What a node does in a round."""
+
+    STAY = 0
+    GROW = 1
+    SHRINK = 2
+
+
+class Direction(IntEnum):
+    """Which way a node is prepared or asked to move."""
+
+    SHRINK = 0
+    GROW = 1
+
+
+class Growth(NamedTuple):
+    """The growth at the two sides of an edge."""
+
+    left: int
+    right: int
+
+
+class Table(Sequence[Growth]):
+    """The growth table: an edge's number gives its Growth."""
+
+    def __init__(self, growths: array):
+        self.growths = growths  # left and right of edge 0, of edge 1, ..
+
+    def __len__(self) -> int:
+        return len(self.growths) // 2
+
+    def __getitem__(self, edge):
+        if isinstance(edge, slice):
+            return [self[e] for e in range(*edge.indices(len(self)))]
+        if not -len(self) <= edge < len(self):
+            raise IndexError(f'edge {edge} of {len(self)}')
+        edge %= len(self)
+        return Growth(self.growths[2 * edge], self.growths[2 * edge + 1])
+
+    def __eq__(self, other) -> bool:
+        return isinstance(other, Table) and self.growths == other.growths
+
+    def __repr__(self) -> str:
+        return f'Table of {len(self)} edges'
+
+    def to_numpy(self):
+        """A row (left, right) for each edge, as an array of numpy."""
+        import numpy
+
+        return numpy.array(self.growths, dtype=numpy.int64).reshape(-1, 2)
+
+
+def plain(values):
+    """A list of what may be an array of numpy."""
+    return values.tolist() if hasattr(values, 'tolist') else list(values)
+
+
+class DualModule:
+    """A decoding graph, opened in memory of its own, and the clusters that grow on it.
+
+    `edges` are (left, right, weight), or rows of an array of numpy, with whole weights from 0 to 1,000,000; even ones
+    keep all gaps between clusters that grow together even. A call that is turned down raises Refused, with its
+    number.
+    """
+
+    def __init__(
+        self,
+        vertices: int,
+        edges: Iterable[Tuple[int, int, int]],
+        virtual: Iterable[int] = (),
+        nodes: int = sizes.MOST_NODES,
+        store: int = sizes.MOST_STORE,
+        path: Optional[str] = None,
+        edge_count: Optional[int] = None,
+    ):
+        self.vertices = vertices
+        rows = [tuple(e) for e in plain(edges)]
+        for e, row in enumerate(rows):
+            if len(row) != 3:
+                raise ValueError(f'edge {e} has {len(row)} numbers: left, right and weight are three')
+        self.edges: List[Tuple[int, int, int]] = [(a, b, w) for a, b, w in rows]
+        self.virtual: List[int] = sorted(set(plain(virtual)))
+        self.library = library.load(path)
+        # E, which the library compares with the edges that it is given
+        count = len(self.edges) if edge_count is None else edge_count
+        self._lend(vertices, count, nodes, store)
+        flat, ends = array('q', [x for e in self.edges for x in e]), array('q', self.virtual)
+        given = [*stretch(flat), *stretch(ends), size(vertices), size(count), size(nodes), size(store)]
+        told = self.library.open(*self._lent, *given, *self._told)
+        self._accept('open', answers.read(self._answer[:told]))
+        self.words = memoryview(self._block).cast('B').cast('q')
+        self.block = Block(self.words)
+
+    def _lend(self, vertices: int, edges: int, nodes: int, store: int) -> None:
+        """Memory for block, scratch and answer. Sizes are tested first: where they are out of range, a word will do."""
+        fit = sizes.fits(vertices, edges, nodes, store)
+        self._block = (ctypes.c_int64 * (sizes.block_words(vertices, edges, nodes, store) if fit else 1))()
+        self._scratch = (ctypes.c_int64 * (sizes.scratch_words(edges) if fit else 1))()
+        self._answer = (ctypes.c_size_t * ROOM)()
+        lent = (self._block, self._scratch)
+        self._lent = [x for memory in lent for x in (ctypes.addressof(memory), len(memory))]
+        self._told = [ctypes.addressof(self._answer), ROOM]
+
+    def call(self, name: str, *values) -> Answer:
+        """A call by its name in calls.py, with its values in the C order. A refusal comes as the answer Refusal."""
+        given: list = []
+        for kind, value in zip(CALLS[name].parameters, values):
+            if kind is WORDS:
+                given += stretch(value)
+            else:
+                given.append(signed(value) if kind is SIGNED else size(value))
+        count = self.library.calls[name](*self._lent, *given, *self._told)
+        return answers.read(self._answer[:count])
+
+    def _accept(self, name: str, answer: Answer) -> Answer:
+        if isinstance(answer, Refusal):
+            raise Refused(answer.number, name)
+        return answer
+
+    def _made(self, name: str, *values) -> Any:
+        """An accepted answer, of the case that the call has."""
+        return self._accept(name, self.call(name, *values))
+
+    def insert_defect(self, vertex: int, state: int = GrowState.GROW) -> int:
+        """The next node is a defect at a vertex. Its number."""
+        return self._made('insert_defect', vertex, state).node
+
+    def insert_syndrome(self, syndrome: Sequence[int], state: int = GrowState.GROW) -> List[int]:
+        """A defect at each vertex that has a 1. Their nodes. Vertices behind the end of the list have none."""
+        bits = plain(syndrome)
+        if len(bits) > self.vertices or any(b not in (0, 1) for b in bits):
+            raise ValueError(f'a syndrome is a 0 or 1 for each of at most {self.vertices} vertices')
+        return [self.insert_defect(v, state) for v, b in enumerate(bits) if b]
+
+    def insert_blossom(self, circle: Sequence[int], state: int = GrowState.GROW) -> int:
+        """The next node is a blossom of an odd circle of nodes. Its number."""
+        return self._made('insert_blossom', array('q', plain(circle)), state).node
+
+    def set_grow_state(self, node: int, state: int) -> None:
+        """The node grows, shrinks or stays from now on."""
+        self._made('set_grow_state', node, state)
+
+    def prepare(self, node: int, direction: int) -> int:
+        """The node's boundary is made ready to move that way. How many passes it took."""
+        return self._made('prepare', node, direction).passes
+
+    def max_update_length(self, node: int, direction: int = Direction.GROW, prepare: bool = True) -> Length:
+        """How far the node can move that way, or what stops it."""
+        return self._made('max_update_length', node, direction, bool(prepare))
+
+    def grow(self, node: int, length: int) -> None:
+        """The node grows by a length; below 0 it shrinks."""
+        self._made('grow', node, length)
+
+    def advance(self, node: int) -> Union[Moved, Length]:
+        """The node moves along its state as far as it can: Moved, or what stops it."""
+        before = self.block.dual(node) if 0 <= node < self.block.count() else 0
+        answer = self._made('advance', node)
+        return Moved(self.block.dual(node) - before) if isinstance(answer, answers.Done) else answer
+
+    def clear(self) -> None:
+        """All nodes and all growth are removed."""
+        self._made('clear')
+
+    def representative_vertex(self, node: int) -> int:
+        """A defect's vertex; a blossom has that of its first member."""
+        return self._made('representative_vertex', node).vertex
+
+    def read_table(self) -> Table:
+        """The growth at both sides of every edge."""
+        growths = array('q', bytes(2 * WORD * len(self.edges)))
+        self._made('read_table', growths)
+        return Table(growths)
+
+    def contacts(self) -> List[int]:
+        """The edges whose two growths sum to their weight, by rising number."""
+        found = array('q', bytes(WORD * len(self.edges)))
+        return found[: self._made('contacts', found).count].tolist()
+
+    def read_node(self, node: int) -> Node:
+        """A node with its dual variable.
+
+        Read from the block's words (block.py) while the library has no call for it.
+        """
+        if not 0 <= node < self.block.count():
+            raise Refused(3, 'read_node')
+        return self.block.node(node)
+
+    def node_count(self) -> int:
+        """How many nodes there are, blossoms and their members among them."""
+        return self.block.count()
+
+
+def stretch(words: array) -> Tuple[int, int]:
+    """The address and the length of words that are lent."""
+    return words.buffer_info()
+
+
+def size(x: int) -> int:
+    """A number without sign: any number that is none names nothing, as the greatest does."""
+    return x if 0 <= x < 2**64 else 2**64 - 1
+
+
+def signed(x: int) -> int:
+    """A length of 64 bits; a greater one is as far out of every range."""
+    return max(min(x, 2**63 - 1), -(2**63))

@@ -1,0 +1,54 @@
+"""An executable model of the card's calls, written from document 01, without regard to speed or memory. It knows
+nothing of the code.
+
+A state is a State; a call takes it, changes it and answers a tuple: ('free', length, empty, unlimited), ('conflict',
+..), ('refused', k), ..
+"""
+from .calls import (
+    advance,
+    clear,
+    contacts,
+    grow,
+    insert_blossom,
+    insert_defect,
+    length,
+    prepare,
+    representative,
+    scan,
+    set_state,
+    table,
+)
+from .program import Run, lines
+from .soundness import sound
+from .state import DUAL_MAX, GROW, GROWTH_MAX, NONE, SHRINK, STAY, WEIGHT_MAX, Node, State, open_graph, opp
+from .vectors import frames
+
+__all__ = [
+    'DUAL_MAX',
+    'GROW',
+    'GROWTH_MAX',
+    'NONE',
+    'Node',
+    'Run',
+    'SHRINK',
+    'STAY',
+    'State',
+    'WEIGHT_MAX',
+    'advance',
+    'clear',
+    'contacts',
+    'frames',
+    'grow',
+    'insert_blossom',
+    'insert_defect',
+    'length',
+    'lines',
+    'open_graph',
+    'opp',
+    'prepare',
+    'representative',
+    'scan',
+    'set_state',
+    'sound',
+    'table',
+]

@@ -1,0 +1,59 @@
+"""Answers in words."""
+from . import package  # noqa: F401
+from cluster_growth import sentence
+
+from .words import DIRECTIONS
+
+
+def node(n, defect):
+    return f'node {n}' if n == defect else f'node {n} (from defect node {defect})'
+
+
+def conflict(run, item, x):
+    """What a conflict says: a halved gap of 0, which at a gap of 1 is no meeting."""
+    peer, asked = node(x[0], x[1]), node(x[2], x[3])
+    if item.fields and x[2] != item.fields[0]:
+        return f'node {item.fields[0]} is at dual variable 0, and {peer} and {asked} both touch it'
+    edge, gap = run.made.meets.get(item.number, (None, None)) if run.made else (None, None)
+    if gap == 0:
+        return f'{peer} and {asked} touch at edge {edge}'
+    if gap is not None:
+        return f'{peer} and {asked}: the gap of {gap} at edge {edge}, halved, is 0; nothing touches'
+    return f'halved gap 0 between {peer} and {asked}'
+
+
+def moved(run, item):
+    """By how much `advance` moved, where the library tells."""
+    if item.word != 'advance' or run.made is None or item.number not in run.made.moved:
+        return ''
+    by = run.made.moved[item.number]
+    return f'grew by {by}' if by > 0 else f'shrank by {-by}' if by < 0 else 'did not move'
+
+
+def edge(run, name, x):
+    if x[0] >= len(run.graph.edges):
+        return ''
+    left, right, weight = run.graph.edges[x[0]]
+    return f'{left}-{right}: ' + (f'{x[1]} and {x[2]} of {weight}' if name == 'edge' else 'full')
+
+
+def words(run, item, answer):
+    """An answer in words, or nothing where it speaks for itself."""
+    name, *x = answer.split()
+    x = [int(n) for n in x]
+    if name == 'free':
+        way = DIRECTIONS[item.fields[1]] if item.word == 'length' else 'move'
+        return ('no limit' if x[0] < 0 else f'can {way} by {x[0]}') + (', its boundary is empty' if x[1] else '')
+    if name == 'conflict':
+        return conflict(run, item, x)
+    if name == 'virtual':
+        return f'{node(x[0], x[1])} has reached virtual vertex {x[2]}'
+    if name == 'expand':
+        return f'blossom {x[0]} has dual variable 0'
+    if name == 'stop':
+        return f'node {x[0]} has dual variable 0' + (f', and {node(x[1], x[2])} touches it' if x[1:] else '')
+    if name == 'refused':
+        return 'an ill-formed record: ' + item.reason if item.reason else sentence(x[0])
+    if name in ('edge', 'contact'):
+        return edge(run, name, x)
+    return moved(run, item) if name == 'done' else ''
