@@ -1,0 +1,56 @@
+-- What is proved of the small patches, of their list, and of the test of reach. The proofs are in laws/.
+use mathlib.Core.Path.{_≡_, refl}
+use mathlib.Core.Logic.{_≢_, _↔_}
+use mathlib.Core.Bool.{true, not}
+use mathlib.Core.List.{List, []}
+use Prim.Native.Nat.{ℕ, _*_, _≤_}
+use lib.IntN.{ℤ}
+use lib.ListN.{length, take}
+use Rattle.graph.specs.Basic.{only}
+use Rattle.graph.specs.Open.{Edge}
+use Rattle.graph.specs.Opening.{edgesFrom}
+use Rattle.small_patches.specs.SmallPatch.{SmallPatch, openingOf, patches, patchAt, Listed, ListedOnce}
+use Rattle.small_patches.specs.Reach.{EachReaches, allReach}
+use Rattle.small_patches.specs.Words.{EdgesPut}
+use Rattle.small_patches.specs.laws.Listed.{patch-listed, listed-once, listed-patch, listed-some}
+use Rattle.small_patches.specs.laws.Opens.{patch-opens}
+use Rattle.small_patches.specs.laws.Reach.{reach-exactly}
+use Rattle.small_patches.specs.laws.Count.{patches-counted, yes-counted, no-counted}
+use Rattle.small_patches.specs.laws.Words.{edges-read}
+
+-- ---- the list
+
+-- Every small patch with an edge is listed, at one number: no other has the same weights between its vertices.
+pub every-patch-is-listed-once : (es : List Edge) → SmallPatch es → es ≢ [] → ListedOnce es
+every-patch-is-listed-once es p some =
+    let k = patch-listed es p some in
+    record { number = k .0; listed = k .1; only-one = λ j fs l same. listed-once l (k .1) same }
+
+-- Each graph that is listed is a small patch with an edge.
+pub each-listed-is-a-patch : (k : ℕ) (es : List Edge) → Listed k es → SmallPatch es × (es ≢ [])
+each-listed-is-a-patch k es l = (listed-patch l, listed-some l)
+
+-- Each number from 1 to 728 lists a graph.
+pub each-number-lists-a-graph : (k : ℕ) → 1 ≤ k → k ≤ 728 → Listed k (patchAt k)
+each-number-lists-a-graph k h i = record { first = h; last = i; is = refl }
+
+-- Opening a listed graph, with N 4 and L 200, is refused by nothing.
+pub each-listed-opens : (k : ℕ) (es : List Edge) → Listed k es → openingOf es ≡ 0
+each-listed-opens k es l = patch-opens es (listed-patch l) (listed-some l)
+
+-- ---- reach
+
+-- The test says yes exactly where from each vertex a walk leads to vertex 3.
+pub yes-exactly-where-each-reaches : (es : List Edge) → SmallPatch es → es ≢ [] → (allReach es ≡ true) ↔ EachReaches es
+yes-exactly-where-each-reaches = reach-exactly
+
+-- Of the 728 graphs it does so of 624, and not of 104.
+pub counts : (length patches ≡ 728) × (length (only allReach patches) ≡ 624) × (length (only (λ es. not (allReach es)) patches) ≡ 104)
+counts = (patches-counted, yes-counted, no-counted)
+
+-- ---- words
+
+-- The words that `patch` leaves are read by open as the edges of the graph.
+pub words-are-the-edges : (b c : List ℤ) (m : ℕ) (es : List Edge) → EdgesPut b 0 c m es → 3 * length es ≤ length b
+    → edgesFrom (take (3 * m) c) ≡ es
+words-are-the-edges b c m es = edges-read
