@@ -1,9 +1,9 @@
 -- The graphs, and their list.
 use mathlib.Core.Path.{_≡_}
-use mathlib.Core.Bool.{Bool, true, false, _&&_, _||_}
+use mathlib.Core.Bool.{Bool, true, _&&_, _||_, not}
 use mathlib.Core.List.{List, [], _∷_, _++_, map}
 use Prim.Native.Nat.{ℕ, _≤_}
-use lib.Dec.{eqb}
+use lib.Dec.{eqb, ltb}
 use lib.ListN.{length, getD, drop}
 use Rattle.graph.specs.Basic.{if_then_else_}
 use Rattle.graph.specs.Open.{Edge, openRefusal}
@@ -60,7 +60,7 @@ unfoldable pub patchAt : ℕ → List Edge
 patchAt k = getD (patchesOver pairs) k []
 
 -- the graph is listed with number k: the one without edges is skipped, so that k is 1 to 728
-pub record Listed (k : ℕ) (es : List Edge) : Type 0 where
+pub record InList (k : ℕ) (es : List Edge) : Type 0 where
   pub first : 1 ≤ k
   pub last : k ≤ 728
   pub is : patchAt k ≡ es
@@ -84,8 +84,14 @@ weightBetween (e ∷ es) a b = if joins e a b then e .weight else weightBetween 
 abbrev pub SameWeights : List Edge → List Edge → Type 0
 SameWeights es fs = (a b : ℕ) → weightBetween es a b ≡ weightBetween fs a b
 
--- the graph is listed, and it is at no second number
+-- an edge between two of the four vertices, either way round, of weight 2 or of weight 4
+unfoldable pub amongFour : Edge → Bool
+amongFour e = ltb (e .left) 4 && ltb (e .right) 4 && not (eqb (e .left) (e .right)) && (eqb (e .weight) 2 || eqb (e .weight) 4)
+
+-- a listed graph has the weights of these edges, and no other number has one that does
 pub record ListedOnce (es : List Edge) : Type 0 where
   pub number : ℕ
-  pub listed : Listed number es
-  pub only-one : (j : ℕ) (fs : List Edge) → Listed j fs → SameWeights fs es → j ≡ number
+  pub graph : List Edge
+  pub listed : InList number graph
+  pub same : SameWeights graph es
+  pub only-one : (j : ℕ) (fs : List Edge) → InList j fs → SameWeights fs es → j ≡ number

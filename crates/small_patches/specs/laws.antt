@@ -1,6 +1,7 @@
 -- The proofs behind Theorems, and laws for the code.
 pub mod Entries
 pub mod Number
+pub mod Weights
 pub mod Listed
 pub mod Opens
 pub mod Spread

@@ -6,13 +6,13 @@ use lib.ListN.{length, getD}
 use Rattle.graph.specs.Open.{Edge}
 use Rattle.records.specs.Text.{ascii}
 use Rattle.records.specs.Lines.{line}
-use Rattle.small_patches.specs.SmallPatch.{Listed}
+use Rattle.small_patches.specs.SmallPatch.{InList}
 use Rattle.small_patches.specs.Reach.{EachReaches}
 use Rattle.small_patches_list.specs.Listing.{patchLine, listing}
 use Rattle.small_patches_list.specs.laws.Listing.{lines-count, lines-at}
-use Rattle.small_patches_list.specs.laws.Verdict.{says-yes, says-no}
+use Rattle.small_patches_list.specs.laws.Said.{says-yes, says-no}
 
-module _ (k : ℕ) (es : List Edge) (listed : Listed k es) where
+module _ (k : ℕ) (es : List Edge) (listed : InList k es) where
   -- The line of a listed graph is `k yes` where from each vertex a walk leads to vertex 3,
   pub line-says-yes : EachReaches es → patchLine k ≡ line k (ascii "yes")
   line-says-yes = says-yes listed

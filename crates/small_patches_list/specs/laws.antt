@@ -1,3 +1,3 @@
 -- Laws of the lines.
 pub mod Listing
-pub mod Verdict
+pub mod Said

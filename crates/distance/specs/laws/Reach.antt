@@ -5,9 +5,9 @@ use mathlib.Core.List.{List}
 use Prim.Native.Nat.{ℕ, _+_, _<_}
 use native.Mathlib.Omega.{arith}
 use native.Mathlib.Decide.{ℕ-discrete}
-use lib.ListN.{length, set, length-set}
+use lib.ListN.{set, length-set}
 use lib.Seq.{getD-set-same, getD-set-other}
-use Rattle.distance.specs.Graph.{Graph, WellFormed, Virtual, sides, near, across, weight, Walk, trivial, step}
+use Rattle.distance.specs.Graph.{Graph, WellFormed, sides, near, across, weight, Walk, trivial, step}
 use Rattle.distance.specs.Nearest.{ReachesVirtual}
 use Rattle.distance.specs.Reach.{HasMark, ReachMarks, AllSpread}
 use Rattle.distance.specs.laws.Side.{across-placed}

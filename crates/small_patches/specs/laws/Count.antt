@@ -1,11 +1,9 @@
 -- How many small patches there are of which each vertex reaches vertex 3, and of which not.
 use mathlib.Core.Path.{_≡_, refl}
-use mathlib.Core.Bool.{true, false, _&&_, not}
-use mathlib.Core.List.{List, [], _∷_}
-use Prim.Native.Nat.{ℕ}
-use lib.Dec.{ltb}
-use lib.ListN.{length, drop}
-use Rattle.graph.specs.Basic.{if_then_else_, fold, only, allBelow}
+use mathlib.Core.Bool.{not}
+use mathlib.Core.List.{[]}
+use lib.ListN.{length}
+use Rattle.graph.specs.Basic.{fold, only, allBelow}
 use Rattle.small_patches.specs.SmallPatch.{pairs, patchesOver, patches}
 use Rattle.small_patches.specs.Reach.{spreadTo, spreadAlong, spreadOver, marksOf, allReach}
 

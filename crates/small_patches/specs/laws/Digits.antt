@@ -1,13 +1,11 @@
 -- The graphs by the digits of their numbers.
 use mathlib.Core.Path.{_≡_, refl, sym, ap, _∙_}
 use mathlib.Core.Logic.{_≢_}
-use mathlib.Core.Bool.{true, false}
 use mathlib.Core.List.{List, [], _∷_, _++_, map}
-use Prim.Native.Nat.{ℕ, zero, suc, _+_, _*_, _/_, _%_, _≤_, _<_}
+use Prim.Native.Nat.{ℕ, zero, suc, _+_, _≤_, _<_}
 use native.Mathlib.Omega.{arith}
-use lib.Dec.{eqb}
-use lib.ListN.{length, getD, List·getD-eq-default}
-use Rattle.graph.specs.Basic.{if_then_else_, below}
+use lib.ListN.{getD, List·getD-eq-default}
+use Rattle.graph.specs.Basic.{below}
 use Rattle.graph.specs.Open.{Edge}
 use Rattle.graph.specs.laws.Opened.{getD-tabled}
 use Rattle.small_patches.specs.SmallPatch.{Pair, pairs, edgeOver, patchesOver, patchAt}

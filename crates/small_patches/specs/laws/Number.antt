@@ -1,14 +1,13 @@
 -- The number of a patch, read off the weights between its vertices: the digits of base 3 that the pairs have.
 use mathlib.Core.Path.{_≡_, refl, sym, ap, _∙_}
-use mathlib.Core.Bool.{true, false, _&&_, _||_}
 use mathlib.Core.List.{List, [], _∷_, map}
-use Prim.Native.Nat.{ℕ, zero, suc, _+_, _*_, _/_, _<_}
+use Prim.Native.Nat.{ℕ, _+_, _*_, _/_, _<_}
 use lib.ListN.{length, getD, length-map, List·getD-map}
-use Rattle.graph.specs.Basic.{if_then_else_, below}
+use Rattle.graph.specs.Basic.{below}
 use Rattle.graph.specs.Open.{Edge}
 use Rattle.graph.specs.laws.Members.{length-below}
 use Rattle.graph.specs.laws.Opened.{getD-below}
-use Rattle.small_patches.specs.SmallPatch.{Pair, pairs, patchesOver, patchAt, joins, weightBetween, SameWeights}
+use Rattle.small_patches.specs.SmallPatch.{Pair, pairs, patchesOver, patchAt, weightBetween, SameWeights}
 
 -- the digits of the pairs, behind those of n
 unfoldable pub numberFrom : List Edge → List Pair → ℕ → ℕ

@@ -1,14 +1,13 @@
 -- Each small patch with an edge is opened, with N 4 and L 200: so its graph is well-formed.
-use mathlib.Core.Path.{_≡_, refl, ap}
+use mathlib.Core.Path.{_≡_, refl}
 use mathlib.Core.Logic.{_≢_}
-use mathlib.Core.Bool.{Bool, true, false, _&&_, _||_, not}
+use mathlib.Core.Bool.{Bool, true, _||_}
 use mathlib.Core.List.{List, [], _∷_}
-use Prim.Native.Nat.{ℕ}
 use native.Mathlib.Omega.{arith}
 use lib.Dec.{eqb}
 use lib.ListN.{length}
 use borrow.Author.Tests.{eqb-true}
-use Rattle.graph.specs.Basic.{if_then_else_, all}
+use Rattle.graph.specs.Basic.{all}
 use Rattle.graph.specs.Open.{Edge, sizesOk, edgeOk, openRefusal}
 use Rattle.graph.specs.laws.Members.{or-cases}
 use Rattle.distance.specs.Graph.{WellFormed}

@@ -1,14 +1,14 @@
 -- Every vertex has a mark exactly where each reaches vertex 3.
-use mathlib.Core.Path.{_≡_, refl, sym, _∙_}
+use mathlib.Core.Path.{_≡_, refl}
 use mathlib.Core.Logic.{_≢_, _↔_}
-use mathlib.Core.Bool.{Bool, true}
+use mathlib.Core.Bool.{true}
 use mathlib.Core.List.{List, [], _∷_}
 use Prim.Native.Nat.{ℕ, zero, suc, _+_, _-_, _*_, _/_, _%_, _≤_, _<_}
 use native.Mathlib.Omega.{arith}
-use lib.Dec.{eqb, ltb}
-use lib.ListN.{length, getD, set, take}
+use lib.Dec.{ltb}
+use lib.ListN.{length, getD, take}
 use borrow.Author.Tests.{eqb-true, ltb-true, lt-ltb}
-use Rattle.graph.specs.Basic.{if_then_else_, fold, allBelow, member, any, below}
+use Rattle.graph.specs.Basic.{if_then_else_, fold, member, any, below}
 use Rattle.graph.specs.Open.{Edge, endsOf, flagIn}
 use Rattle.graph.specs.laws.State.{if-cases, fold-none, fold-more, fold-done, by-parity}
 use Rattle.graph.specs.laws.Shape.{length-ends}

@@ -1,11 +1,11 @@
 -- Three times along all edges leave no mark to spread.
 use mathlib.Core.Path.{_≡_, refl}
-use mathlib.Core.Bool.{Bool, true, false, _&&_}
-use mathlib.Core.List.{List, [], _∷_}
+use mathlib.Core.Bool.{Bool, true}
+use mathlib.Core.List.{List, []}
 use Prim.Native.Nat.{ℕ}
-use lib.Dec.{eqb, ltb}
-use lib.ListN.{getD, set}
-use Rattle.graph.specs.Basic.{if_then_else_, fold, all}
+use lib.Dec.{eqb}
+use lib.ListN.{getD}
+use Rattle.graph.specs.Basic.{fold, all}
 use Rattle.graph.specs.Open.{Edge}
 use Rattle.small_patches.specs.SmallPatch.{pairs, SmallPatch, patchesOver}
 use Rattle.small_patches.specs.Reach.{spreadTo, spreadAlong, spreadOver, marksOf}

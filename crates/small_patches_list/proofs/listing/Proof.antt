@@ -1,5 +1,4 @@
 use Rattle.small_patches_list.specs.laws.Listing.{listing-told}
-use native.Mathlib.Omega.{arith}
 use borrow.Author.Needs.{needs}
 use Rattle.small_patches_list.proofs.listing.Statement.{statement}
 use Rattle.small_patches_list.proofs.listing.Tie as tie

@@ -1,5 +1,5 @@
 use Rattle.small_patches_list.specs.laws.Listing.{lines-more, lines-end, listing-start}
-use Rattle.small_patches_list.specs.Listing.{linesFrom, listing}
+use Rattle.small_patches_list.specs.Listing.{patchLinesFrom, listing}
 use Rattle.records.specs.laws.Table.{Telling, telling-none, telling-more, telling-all}
 use lib.ListN.{length}
 use native.Mathlib.Omega.{arith}
@@ -13,7 +13,7 @@ use Rattle.small_patches_list.proofs.tell_all.Tie as tie
 abbrev Inv-loop : tie.InvT-loop
 Inv-loop lines₀ o₀ k₀ lines o k =
     (k ≤ 729)
-    × Telling lines₀ 0 false lines (o .at) (o .full) listing (linesFrom k (729 - k))
+    × Telling lines₀ 0 false lines (o .at) (o .full) listing (patchLinesFrom k (729 - k))
     × (length lines ≡ length lines₀)
 
 abbrev μ-loop : tie.MeasureT-loop

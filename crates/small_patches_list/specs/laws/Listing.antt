@@ -1,45 +1,44 @@
 -- Laws of the lines.
-use mathlib.Core.Path.{_≡_, refl, ap, _∙_}
-use mathlib.Core.Bool.{Bool, true, false}
+use mathlib.Core.Path.{_≡_, refl, ap}
+use mathlib.Core.Bool.{Bool, false}
 use mathlib.Core.List.{List, [], _∷_, _++_, append-nil}
-use Prim.Native.Nat.{ℕ, zero, suc, _+_, _-_, _*_, _≤_, _<_}
+use Prim.Native.Nat.{ℕ, zero, suc, _+_, _-_, _≤_, _<_}
 use native.Mathlib.Omega.{arith}
 use lib.ListN.{length, getD, take}
-use Rattle.graph.specs.Basic.{if_then_else_}
-use Rattle.records.specs.Text.{ascii, spaced}
+use Rattle.records.specs.Text.{spaced}
 use Rattle.records.specs.Lines.{line, joined}
 use Rattle.records.specs.Write.{Told}
 use Rattle.records.specs.laws.Write.{told-few}
 use Rattle.small_patches.specs.SmallPatch.{patchAt}
 use Rattle.small_patches.specs.Reach.{allReach}
-use Rattle.small_patches_list.specs.Listing.{verdict, patchLine, linesFrom, listing}
+use Rattle.small_patches_list.specs.Listing.{yesOrNo, patchLine, patchLinesFrom, listing}
 
 -- the line as it is told
-pub line-is : (k : ℕ) (t : Bool) → allReach (patchAt k) ≡ t → line k (verdict t ++ spaced []) ≡ patchLine k
+pub line-is : (k : ℕ) (t : Bool) → allReach (patchAt k) ≡ t → line k (yesOrNo t ++ spaced []) ≡ patchLine k
 unfolding patchLine spaced
-line-is k t e = rw e (ap (line k) (append-nil (verdict t)))
+line-is k t e = rw e (ap (line k) (append-nil (yesOrNo t)))
 
 -- ---- the lines from graph k on
 
-pub lines-more : (k : ℕ) → k < 729 → linesFrom k (729 - k) ≡ (patchLine k ∷ []) ++ linesFrom (k + 1) (729 - (k + 1))
-unfolding linesFrom
+pub lines-more : (k : ℕ) → k < 729 → patchLinesFrom k (729 - k) ≡ (patchLine k ∷ []) ++ patchLinesFrom (k + 1) (729 - (k + 1))
+unfolding patchLinesFrom
 lines-more k h = let z : 729 - k ≡ suc (729 - (k + 1)) = omega arith in rw z
 
-pub lines-end : (k : ℕ) → 729 ≤ k → linesFrom k (729 - k) ≡ []
-unfolding linesFrom
+pub lines-end : (k : ℕ) → 729 ≤ k → patchLinesFrom k (729 - k) ≡ []
+unfolding patchLinesFrom
 lines-end k h = let z : 729 - k ≡ 0 = omega arith in rw z
 
-pub listing-start : linesFrom 1 (729 - 1) ≡ listing
+pub listing-start : patchLinesFrom 1 (729 - 1) ≡ listing
 unfolding listing
 listing-start = refl
 
-pub lines-count : (k n : ℕ) → length (linesFrom k n) ≡ n
-unfolding linesFrom
+pub lines-count : (k n : ℕ) → length (patchLinesFrom k n) ≡ n
+unfolding patchLinesFrom
 lines-count k zero = refl
 lines-count k (suc n) = omega (arith, lines-count (k + 1) n)
 
-line-at : (k n i : ℕ) → i < n → getD (linesFrom k n) i [] ≡ patchLine (k + i)
-unfolding linesFrom
+line-at : (k n i : ℕ) → i < n → getD (patchLinesFrom k n) i [] ≡ patchLine (k + i)
+unfolding patchLinesFrom
 line-at k zero i h = absurd (omega arith)
 line-at k (suc n) zero h = let z : k + 0 ≡ k = omega arith in rw z
 line-at k (suc n) (suc i) h = let z : k + suc i ≡ k + 1 + i = omega arith in rw z (line-at (k + 1) n i (omega arith))

@@ -2,8 +2,7 @@ use Rattle.small_patches.specs.laws.Loops.{over-none, over-more}
 use Rattle.small_patches.specs.Reach.{spreadOver, times}
 use Rattle.graph.specs.Opening.{edgesFrom}
 use lib.ListN.{length}
-use native.Mathlib.Omega.{arith}
-use mathlib.Core.Path.{_≡_, sym, _∙_}
+use mathlib.Core.Path.{_≡_}
 use Prim.Native.Nat.{_-_, _≤_}
 use borrow.Author.Needs.{needs}
 use Rattle.small_patches.proofs.reach.spread.Statement.{statement}

@@ -4,7 +4,6 @@ use Rattle.graph.specs.laws.State.{fold-none}
 use Rattle.graph.specs.Opening.{edgesFrom}
 use Rattle.graph.specs.Basic.{fold}
 use lib.ListN.{length, take}
-use native.Mathlib.Omega.{arith}
 use mathlib.Core.Path.{_≡_, sym, _∙_}
 use Prim.Native.Nat.{_-_, _≤_}
 use borrow.Author.Needs.{needs}

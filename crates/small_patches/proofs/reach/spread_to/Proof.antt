@@ -1,6 +1,4 @@
-use mathlib.Core.Path.{sym}
 use Rattle.small_patches.specs.Reach.{spreadTo}
-use native.Mathlib.Omega.{arith}
 use borrow.Author.Tests.{lt-ltb, le-ltb}
 use borrow.Author.Needs.{needs}
 use Rattle.small_patches.proofs.reach.spread_to.Statement.{statement}

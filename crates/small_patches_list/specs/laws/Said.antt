@@ -1,5 +1,5 @@
 -- What the line of a listed graph says.
-use mathlib.Core.Path.{_≡_, ap}
+use mathlib.Core.Path.{_≡_}
 use mathlib.Core.Bool.{Bool, true, false}
 use mathlib.Core.List.{List}
 use Prim.Native.Nat.{ℕ}
@@ -7,14 +7,14 @@ use Rattle.graph.specs.Open.{Edge}
 use Rattle.graph.specs.laws.Members.{by-test}
 use Rattle.records.specs.Text.{ascii}
 use Rattle.records.specs.Lines.{line}
-use Rattle.small_patches.specs.SmallPatch.{Listed}
+use Rattle.small_patches.specs.SmallPatch.{InList}
 use Rattle.small_patches.specs.Reach.{EachReaches, allReach}
 use Rattle.small_patches.specs.Theorems.{each-listed-is-a-patch, yes-exactly-where-each-reaches}
-use Rattle.small_patches_list.specs.Listing.{verdict, patchLine}
+use Rattle.small_patches_list.specs.Listing.{yesOrNo, patchLine}
 
-module _ {k : ℕ} {es : List Edge} (l : Listed k es) where
+module _ {k : ℕ} {es : List Edge} (l : InList k es) where
   -- the line by the test
-  line-by : (t : Bool) → allReach es ≡ t → patchLine k ≡ line k (verdict t)
+  line-by : (t : Bool) → allReach es ≡ t → patchLine k ≡ line k (yesOrNo t)
   unfolding patchLine
   line-by t e = rw (l .is, e)
 
