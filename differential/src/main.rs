@@ -4,6 +4,7 @@ mod count;
 mod graphs;
 #[cfg(library)]
 mod library;
+mod patches;
 mod port;
 mod random;
 mod records;
@@ -77,6 +78,7 @@ fn main() {
             true
         }
         Some("replay") => sample::replay(a.get(2).expect("a file")),
+        Some("patches") => patches::run(a.get(2).expect("a file")),
         #[cfg(library)]
         Some("library") => library::compare(number(a.get(2), 2000), number(a.get(3), 1)),
         Some("speed") => {
@@ -84,7 +86,7 @@ fn main() {
             true
         }
         _ => {
-            eprintln!("differential compare [RUNS] [SEED] | one SEED | sample FILE [SEED] | replay FILE | speed | library [RUNS] [SEED]");
+            eprintln!("differential compare [RUNS] [SEED] | one SEED | sample FILE [SEED] | replay FILE | patches FILE | speed | library [RUNS] [SEED]");
             false
         }
     };

@@ -5,8 +5,8 @@ use mathlib.Core.Bool.{true, false}
 use mathlib.Core.List.{List, [], _∷_}
 use Prim.Native.Nat.{ℕ, zero, suc, _+_, _≤_, _<_, min}
 use lib.Dec.{leb}
-use lib.ListN.{getD, set, replicate}
-use Rattle.distance.specs.Graph.{Graph, sides, near, across, weight}
+use lib.ListN.{length, getD, set, replicate}
+use Rattle.distance.specs.Graph.{Graph, sides, near, across, weight, Walk}
 
 -- The distance to a vertex that no walk reaches. Document 01 asks that it be above every dual variable; those are at most 1,000,000,000.
 unfoldable pub unreachable : ℕ
@@ -54,6 +54,19 @@ distancesFrom g a = relaxUntilStable g (sumOf (startDistances g a)) (startDistan
 -- the distance from a to u
 unfoldable pub dist : Graph → ℕ → ℕ → ℕ
 dist g a u = distanceAt (distancesFrom g a) u
+
+-- ---- what relaxation keeps, and where it ends
+
+-- a list of distances from a in the making: one for each vertex, 0 at a, and each below `unreachable` is the length of a walk
+pub record Relaxed (g : Graph) (a : ℕ) (d : List ℕ) : Type 0 where
+  pub sized : length d ≡ g .size
+  pub own : distanceAt d a ≡ 0
+  pub capped : (u : ℕ) → distanceAt d u ≤ unreachable
+  pub walked : (u : ℕ) → distanceAt d u < unreachable → Walk g a u (distanceAt d u)
+
+-- no way through a side is shorter
+abbrev pub Stable : Graph → List ℕ → Type 0
+Stable g d = (s : ℕ) → s < sides g → distanceAt d (across g s) ≤ lengthThrough g s d
 
 -- ---- predecessors
 

@@ -2,6 +2,7 @@
 pub mod Graph
 pub mod Distance
 pub mod Nearest
+pub mod Reach
 pub mod Table
 pub mod Feasible
 pub mod Theorems

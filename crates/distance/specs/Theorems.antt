@@ -4,15 +4,19 @@ use mathlib.Core.Logic.{_≢_, _↔_}
 use mathlib.Core.List.{List, [], _∷_}
 use Prim.Native.Nat.{ℕ, _+_, _≤_, _<_}
 use native.Mathlib.Omega.{arith}
+use lib.ListN.{set}
 use Rattle.distance.specs.Graph.{Graph, WellFormed, Positive, Virtual, sides, opposite, near, across, weight, Walk, ShortestLength}
-use Rattle.distance.specs.Distance.{unreachable, dist, Predecessor, DistanceCertificate}
+use Rattle.distance.specs.Distance.{unreachable, distanceAt, dist, Relaxed, Stable, Predecessor, DistanceCertificate}
 use Rattle.distance.specs.Nearest.{ReachesVirtual, VirtualInReach, nearestVirtual, NearestVirtual}
+use Rattle.distance.specs.Reach.{HasMark, ReachMarks, AllSpread}
 use Rattle.distance.specs.Table.{dual, Covers, share, growth, tableFromDistances}
 use Rattle.distance.specs.Feasible.{Feasible}
 use Rattle.distance.specs.Examples.{SameTable, zeroWeight, noVirtual}
 use Rattle.distance.specs.laws.Distance.{unreachable-is, dist-shortest, dist-unreachable, dist-bound, dist-zero-iff, dist-sym, dist-triangle, dist-predecessor}
 use Rattle.distance.specs.laws.Certificate.{certified-distance}
+use Rattle.distance.specs.laws.Settled.{dist-certificate, stable-is-dist}
 use Rattle.distance.specs.laws.Nearest.{nearest-least, nearest-vertex, nearest-in-reach}
+use Rattle.distance.specs.laws.Reach.{spread-mark, marks-are-reach}
 use Rattle.distance.specs.laws.Table.{growth-free}
 use Rattle.distance.specs.laws.Feasible.{one-covers, pair-clear, growth-is}
 use Rattle.distance.specs.laws.Edge.{edge-fits}
@@ -57,6 +61,14 @@ module _ (g : Graph) (ok : WellFormed g) (a : ℕ) (in-a : a < g .size) where
   pub certificate-is-distance : Positive g → (D : ℕ → ℕ) → DistanceCertificate g a D → (u : ℕ) → D u ≡ dist g a u
   certificate-is-distance positive = certified-distance g ok positive a in-a
 
+  -- The distances are such numbers, whatever the weights.
+  pub distance-certificate : DistanceCertificate g a (dist g a)
+  distance-certificate = dist-certificate g ok a in-a
+
+  -- In whatever order sides were relaxed: once none makes an entry shorter, the entries are the distances.
+  pub settled-distance : (d : List ℕ) → Relaxed g a d → Stable g d → (u : ℕ) → distanceAt d u ≡ dist g a u
+  settled-distance = stable-is-dist g ok a in-a
+
   -- ---- the nearest virtual vertex
 
   -- No virtual vertex is nearer,
@@ -70,6 +82,17 @@ module _ (g : Graph) (ok : WellFormed g) (a : ℕ) (in-a : a < g .size) where
   -- and one is in reach exactly where a walk leads to it.
   pub nearest-virtual-in-reach : (nearestVirtual g a < unreachable) ↔ ReachesVirtual g a
   nearest-virtual-in-reach = nearest-in-reach g ok a in-a
+
+-- ---- marks of vertices that reach a virtual one
+
+module _ (g : Graph) (ok : WellFormed g) (m : List ℕ) (marks : ReachMarks g m) where
+  -- A mark may spread along a side, from its vertex to the one across.
+  pub mark-spreads : (s : ℕ) → s < sides g → HasMark m (near g s) → ReachMarks g (set m (across g s) 1)
+  mark-spreads = spread-mark g ok m marks
+
+  -- Once none is left to spread, just those vertices have a mark from which a walk leads to a virtual one.
+  pub marks-tell-reach : AllSpread g m → (u : ℕ) → u < g .size → HasMark m u ↔ ReachesVirtual g u
+  marks-tell-reach = marks-are-reach g ok m marks
 
 -- ---- growth under feasible dual variables
 

@@ -6,7 +6,9 @@ pub mod Relax
 pub mod Distance
 pub mod Leaving
 pub mod Certificate
+pub mod Settled
 pub mod Nearest
+pub mod Reach
 pub mod Table
 pub mod Feasible
 pub mod Injective

@@ -12,8 +12,9 @@ use Rattle.length.specs.declared.Answer.the-variants.{NonZeroGrow, Unlimited, C
 use Rattle.calls.specs.Calls.{Call, InsertDefect, Grow}
 use Rattle.calls.specs.Examples.{edge}
 use Rattle.distance.specs.Distance.{dist}
+use Rattle.opened_graph.specs.OpenedGraph.{PositiveWeights}
 use Rattle.table.specs.History.{noBlossoms}
-use Rattle.table.specs.Runs.{PositiveWeights, Run, end}
+use Rattle.table.specs.Runs.{Run, end}
 use Rattle.table.specs.Opens.{everything}
 use Rattle.length_theorem.specs.Meaning.{runGraph, dualIs, growingLength, DefectAt, ConflictMeans, VirtualMeans, Tight, with-node}
 use Rattle.length_theorem.specs.Theorems.{conflict-is-tight, virtual-is-tight}

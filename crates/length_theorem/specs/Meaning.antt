@@ -14,7 +14,8 @@ use Rattle.length.specs.declared.Answer.the-variants.{Conflicting, TouchingVirt
 use Rattle.calls.specs.Calls.{maxUpdateLength}
 use Rattle.distance.specs.Graph.{Graph, Virtual, Walk}
 use Rattle.distance.specs.Distance.{dist}
-use Rattle.table.specs.Runs.{openedGraph, Run, end}
+use Rattle.opened_graph.specs.OpenedGraph.{openedGraph}
+use Rattle.table.specs.Runs.{Run, end}
 
 -- the answers that name an obstacle of node n: a conflict with a peer, or a virtual vertex
 pub data Obstacle (n : ℕ) : Answer → Type 0 where

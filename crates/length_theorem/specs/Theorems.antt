@@ -7,7 +7,8 @@ use mathlib.Core.List.{List}
 use lib.IntN.{ℤ}
 use Rattle.graph.specs.Open.{Edge}
 use Rattle.length.specs.declared.Answer.the-variants.{NonZeroGrow, Unlimited, Conflicting, TouchingVirtual, Refused}
-use Rattle.table.specs.Runs.{PositiveWeights, Run}
+use Rattle.opened_graph.specs.OpenedGraph.{PositiveWeights}
+use Rattle.table.specs.Runs.{Run}
 use Rattle.length_theorem.specs.Meaning.{Obstacle, growingLength, DefectAt, NoneShrinks, Tight, ConflictMeans, VirtualMeans, Keeps, FreeBy}
 use Rattle.length_theorem.specs.laws.Meaning.{conflict-means, virtual-means, free-keeps, unlimited-keeps, tight-meets}
 

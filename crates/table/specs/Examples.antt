@@ -12,9 +12,10 @@ use Rattle.distance.specs.Graph.{trivial}
 use Rattle.distance.specs.Table.{tableFromDistances}
 use Rattle.distance.specs.laws.Walk.{cross-side}
 use Rattle.distance.specs.Nearest.{ReachesVirtual}
+use Rattle.opened_graph.specs.OpenedGraph.{openedGraph, SameVertices, PositiveWeights}
 use Rattle.table.specs.Opens.{everything}
 use Rattle.table.specs.History.{Entry, History, noBlossoms, dualAt, dualsOf}
-use Rattle.table.specs.Runs.{openedGraph, SameVertices, PositiveWeights, Run, end, history}
+use Rattle.table.specs.Runs.{Run, end, history}
 use Rattle.table.specs.Theorems.{table-is-from-distances, tables-equal-exactly-when-duals-are}
 
 abbrev edges : List Edge

@@ -11,9 +11,10 @@ use Rattle.calls.specs.Calls.{Call, InsertDefect, InsertBlossom, Grow, growthTa
 use Rattle.calls.specs.Examples.{edge}
 use Rattle.reachable.specs.Reachable.{after}
 use Rattle.distance.specs.Table.{tableFromDistances}
+use Rattle.opened_graph.specs.OpenedGraph.{openedGraph}
 use Rattle.table.specs.Opens.{everything}
 use Rattle.table.specs.History.{historyAfter, noBlossoms, dualAt, natural, dualsOf}
-use Rattle.table.specs.Runs.{openedGraph, Run, end, history}
+use Rattle.table.specs.Runs.{Run, end, history}
 
 -- the two lists are not the same: they differ at place i
 differ-at : (i : ℕ) (l k : List ℕ) → (getD l i 0 ≡ getD k i 0 → ⊥) → l ≡ k → ⊥

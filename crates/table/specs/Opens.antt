@@ -4,10 +4,10 @@ use Rattle.calls.specs.Opens as Below
 use Rattle.calls.specs.Examples as Made
 use Rattle.reachable.specs.Reachable
 use Rattle.distance.specs.Opens as Distances
+use Rattle.opened_graph.specs.OpenedGraph
 use Rattle.table.specs.Answers
 use Rattle.table.specs.History
-use Rattle.table.specs.Runs
 
 unfoldable pub everything : ℕ
-unfolding Below.everything Made.edge Reachable.after Distances.everything Answers.accepted Answers.isDone Answers.limitOf History.withGrowState History.withAdded History.advanceLength History.recorded History.historyFrom History.noBlossom History.noBlossoms History.dualAt History.natural History.dualsOf Runs.openedGraph
+unfolding Below.everything Made.edge Reachable.after Distances.everything Answers.accepted Answers.isDone Answers.limitOf History.withGrowState History.withAdded History.advanceLength History.recorded History.historyFrom History.noBlossom History.noBlossoms History.dualAt History.natural History.dualsOf OpenedGraph.openedGraph
 everything = 0

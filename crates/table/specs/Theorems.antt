@@ -9,8 +9,9 @@ use Rattle.calls.specs.Calls.{growthTable}
 use Rattle.distance.specs.Table.{tableFromDistances}
 use Rattle.distance.specs.Feasible.{Feasible}
 use Rattle.distance.specs.Nearest.{ReachesVirtual}
+use Rattle.opened_graph.specs.OpenedGraph.{openedGraph, SameVertices, PositiveWeights}
 use Rattle.table.specs.History.{dualAt, dualsOf}
-use Rattle.table.specs.Runs.{openedGraph, SameVertices, PositiveWeights, Run, end, history, SameNodes}
+use Rattle.table.specs.Runs.{Run, end, history, SameNodes}
 use Rattle.table.specs.laws.Runs.{end-matches, end-table, end-feasible, tables-tell-duals}
 
 -- The growth table is the one worked out from distances and the history's dual variables.

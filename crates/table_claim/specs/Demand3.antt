@@ -38,8 +38,8 @@ use Rattle.distance.specs.Graph.{Graph, near, across, weight, Walk, ShortestLen
 use Rattle.distance.specs.Distance.{dist}
 use Rattle.distance.specs.Table.{dual, Covers, share, tableFromDistances}
 use Rattle.distance.specs.Nearest.{ReachesVirtual}
+use Rattle.opened_graph.specs.OpenedGraph.{openedGraph, SameVertices, PositiveWeights}
 use Rattle.table.specs.History.{History, dualAt, dualsOf}
-use Rattle.table.specs.Runs.{openedGraph, SameVertices, PositiveWeights}
 use Rattle.table_claim.specs.Run.{orRefused, listFits, historyBy, LentRun, runSizes, runStart, lentHistory, WithoutBlossoms}
 use Rattle.table_claim.specs.Hosted.{SaysDone, HostExchange, reportedFrom, HostRun, hostSizes, hostStart, hostHistory, BlossomsRefused}
 use Rattle.table_claim.specs.Carried.{carried}

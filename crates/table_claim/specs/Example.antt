@@ -17,8 +17,8 @@ use Rattle.records.specs.Run.{LinesCalled, linesOf, filled, fittedLines}
 use Rattle.distance.specs.Graph.{trivial}
 use Rattle.distance.specs.laws.Walk.{cross-side}
 use Rattle.distance.specs.Nearest.{ReachesVirtual}
+use Rattle.opened_graph.specs.OpenedGraph.{openedGraph, PositiveWeights}
 use Rattle.table.specs.History.{Entry, History, dualAt}
-use Rattle.table.specs.Runs.{openedGraph, PositiveWeights}
 use Rattle.table_claim.specs.Input.{recordsIn, printed}
 use Rattle.table_claim.specs.Reading.{growthsIn}
 use Rattle.table_claim.specs.Tables.{TableIn, OnGraph, graphAt, historyAt, OpenAt, FitsIn, bytesOf}

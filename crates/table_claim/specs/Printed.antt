@@ -14,8 +14,8 @@ use Rattle.records.specs.Lines.{linesFor, edgeLines, joined}
 use Rattle.records.specs.Run.{LinesCalled, fresh, Turn, toldTurn, linesIn}
 use Rattle.distance.specs.Table.{tableFromDistances}
 use Rattle.distance.specs.Nearest.{ReachesVirtual}
+use Rattle.opened_graph.specs.OpenedGraph.{openedGraph, PositiveWeights}
 use Rattle.table.specs.History.{dualAt, dualsOf}
-use Rattle.table.specs.Runs.{openedGraph, PositiveWeights}
 use Rattle.table_claim.specs.Input.{recordsIn, graphIn, openedFrom, opens, stageFrom, standsBehind, linesBy, In, number, earlier, printed, later, Refuses}
 use Rattle.table_claim.specs.Reading.{behindSpace, growthsIn, textLines}
 use Rattle.table_claim.specs.Tables.{TableIn, OnGraph, historyBehind, OpenAfter, tableLines, graphAt, callsAt, historyAt, OpenAt, fitCount, FitsIn, bytesOf}

@@ -11,8 +11,8 @@ use Rattle.calls.specs.Calls.{Call, ReadTable}
 use Rattle.records.specs.Record.{Record, ask}
 use Rattle.records.specs.Lines.{joined}
 use Rattle.records.specs.Run.{Gathered, fresh, turn, fittedLines, filled}
+use Rattle.opened_graph.specs.OpenedGraph.{SameVertices}
 use Rattle.table.specs.History.{History, historyAfter, noBlossoms}
-use Rattle.table.specs.Runs.{SameVertices}
 use Rattle.table_claim.specs.Input.{callsIn, graphIn, openedFrom, opens, stageFrom, In, earlier, printed}
 
 -- a record of kind 10, of the input b

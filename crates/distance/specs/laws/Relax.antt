@@ -9,13 +9,14 @@ use lib.Dec.{leb, leb→le, nleb→lt}
 use lib.ListN.{length, getD, set, replicate, length-set, length-replicate}
 use lib.Seq.{set-getD, getD-set-same, getD-set-other}
 use Rattle.distance.specs.Graph.{Graph, WellFormed, sides, near, across, Walk, trivial, step}
-use Rattle.distance.specs.Distance.{unreachable, distanceAt, lengthThrough, startDistances, relaxSide, relaxSides, sumOf, relaxUntilStable, distancesFrom}
+use Rattle.distance.specs.Distance.{unreachable, distanceAt, lengthThrough, startDistances, relaxSide, relaxSides, sumOf, relaxUntilStable, distancesFrom, Relaxed, Stable}
 use Rattle.distance.specs.laws.Choice.{choice-by}
 use Rattle.distance.specs.laws.Side.{across-placed}
 
 -- ---- one side
 
-sum-set : (d : List ℕ) (v x : ℕ) → v < length d → sumOf (set d v x) + distanceAt d v ≡ sumOf d + x
+-- what the sum becomes where one entry is set
+pub sum-set : (d : List ℕ) (v x : ℕ) → v < length d → sumOf (set d v x) + distanceAt d v ≡ sumOf d + x
 sum-set [] v x h = omega arith
 sum-set (y ∷ d) zero x h = omega arith
 sum-set (y ∷ d) (suc v) x h = omega (arith, sum-set d v x (omega arith))
@@ -26,7 +27,8 @@ data Relaxing (g : Graph) (s : ℕ) (d : List ℕ) (u : ℕ) : Type 0 where
   nearer : u ≡ across g s → distanceAt (relaxSide g s d) u ≡ lengthThrough g s d → lengthThrough g s d < distanceAt d u → Relaxing g s d u
 
 module _ (g : Graph) (s : ℕ) (d : List ℕ) (h : across g s < length d) where
-  relax-sum : sumOf (relaxSide g s d) ≤ sumOf d
+  -- a side never raises it
+  pub relax-sum : sumOf (relaxSide g s d) ≤ sumOf d
   unfolding relaxSide
   relax-sum = omega (arith, sum-set d (across g s) (min (distanceAt d (across g s)) (lengthThrough g s d)) h)
 
@@ -52,10 +54,6 @@ module _ (g : Graph) (s : ℕ) (d : List ℕ) (h : across g s < length d) where
 -- no way through one of the first k sides is shorter
 abbrev StableBelow : Graph → ℕ → List ℕ → Type 0
 StableBelow g k d = (s : ℕ) → s < k → distanceAt d (across g s) ≤ lengthThrough g s d
-
--- no way through a side is shorter
-abbrev pub Stable : Graph → List ℕ → Type 0
-Stable g d = StableBelow g (sides g) d
 
 module _ (g : Graph) (P : List ℕ → Type 0) (each : (s : ℕ) (d : List ℕ) → s < sides g → P d → P (relaxSide g s d)) where
   -- what each side keeps, all of them keep
@@ -112,12 +110,6 @@ module _ (g : Graph) (ok : WellFormed g) where
       (λ t. rounds-stable f r (sides-sized (sides g) d (omega arith) e) (omega (arith, nleb→lt (sumOf d) (sumOf r) t)))
 
 -- ---- entries are lengths of walks
-
-pub record Relaxed (g : Graph) (a : ℕ) (d : List ℕ) : Type 0 where
-  pub sized : length d ≡ g .size
-  pub own : distanceAt d a ≡ 0
-  pub capped : (u : ℕ) → distanceAt d u ≤ unreachable
-  pub walked : (u : ℕ) → distanceAt d u < unreachable → Walk g a u (distanceAt d u)
 
 pub getD-replicate-default : (n x u : ℕ) → getD (replicate n x) u x ≡ x
 getD-replicate-default zero x u = refl

@@ -18,7 +18,8 @@ use Rattle.reachable.specs.laws.prepare.Preparation.{invariant-numbers}
 use Rattle.distance.specs.Graph.{Virtual, Walk}
 use Rattle.distance.specs.Distance.{unreachable, dist}
 use Rattle.distance.specs.laws.Distance.{unreachable-is, dist-walk}
-use Rattle.table.specs.Runs.{openedGraph, PositiveWeights, Run, end}
+use Rattle.opened_graph.specs.OpenedGraph.{openedGraph, PositiveWeights}
+use Rattle.table.specs.Runs.{Run, end}
 use Rattle.table.specs.laws.Runs.{defects-only}
 use Rattle.table.specs.laws.Depth.{DefectsOnly, holder-below, vertex-inside}
 use Rattle.length_theorem.specs.Meaning.{Obstacle, conflicts, touches, growingLength, DefectAt, NoneShrinks, Tight, with-node, with-virtual, ConflictMeans, VirtualMeans, Keeps, FreeBy}

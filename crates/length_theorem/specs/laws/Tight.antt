@@ -21,7 +21,7 @@ use Rattle.distance.specs.Graph.{Graph, sides, near, across, weight, Virtual, W
 use Rattle.distance.specs.Distance.{unreachable, dist}
 use Rattle.distance.specs.laws.Distance.{unreachable-is, dist-sym, dist-triangle, dist-edge, dist-least, walk-reached}
 use Rattle.distance.specs.laws.Leaving.{Leaving}
-use Rattle.table.specs.laws.Graph.{opposite-inside}
+use Rattle.opened_graph.specs.laws.Graph.{opposite-inside}
 use Rattle.table.specs.laws.Depth.{DefectNode, DefectsOnly, holder-below, vertex-inside, depth-is, far-off}
 use Rattle.table.specs.laws.Feasible.{leaves-at, left-inside, left-near, left-far, room-far, room-apart, leaving, nodes-apart}
 use Rattle.length_theorem.specs.laws.Long.{scanLong, lookLong, scan-long, grow-long}

@@ -16,7 +16,7 @@ use Rattle.distance.specs.Distance.{unreachable, dist}
 use Rattle.distance.specs.Table.{share}
 use Rattle.distance.specs.laws.Distance.{unreachable-is, dist-walk, dist-least}
 use Rattle.distance.specs.laws.Table.{share-outward, share-inward, share-across}
-use Rattle.table.specs.laws.Graph.{SameGraph, opposite-inside, near-of-opposite, across-of-opposite, weight-of-opposite}
+use Rattle.opened_graph.specs.laws.Graph.{SameGraph, opposite-inside, near-of-opposite, across-of-opposite, weight-of-opposite}
 
 -- the vertex of a defect node
 pub record DefectNode (c : State) (n : ℕ) : Type 0 where

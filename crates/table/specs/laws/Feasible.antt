@@ -18,7 +18,7 @@ use Rattle.distance.specs.Table.{dual}
 use Rattle.distance.specs.Feasible.{Feasible}
 use Rattle.distance.specs.laws.Distance.{dist-sym}
 use Rattle.distance.specs.laws.Leaving.{Leaving, dist-leaving}
-use Rattle.table.specs.laws.Graph.{opposite-inside}
+use Rattle.opened_graph.specs.laws.Graph.{opposite-inside}
 use Rattle.table.specs.laws.Depth.{DefectsOnly, vertex-inside, depth-is, far-off}
 use Rattle.table.specs.laws.Table.{Duals, NodeAt, node-at}
 

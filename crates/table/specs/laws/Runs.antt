@@ -16,12 +16,13 @@ use Rattle.distance.specs.Table.{tableFromDistances}
 use Rattle.distance.specs.Feasible.{Feasible}
 use Rattle.distance.specs.laws.Injective.{tableFromDistances-equal}
 use Rattle.distance.specs.Nearest.{ReachesVirtual}
+use Rattle.opened_graph.specs.OpenedGraph.{openedGraph, SameVertices, PositiveWeights}
+use Rattle.opened_graph.specs.laws.Opening.{one-graph, same-graph, weights-positive, well-formed, all-connected}
 use Rattle.table.specs.History.{dualAt, natural, dualsOf}
-use Rattle.table.specs.Runs.{openedGraph, SameVertices, PositiveWeights, Run, start, end, history}
+use Rattle.table.specs.Runs.{Run, start, end, history}
 use Rattle.table.specs.laws.Depth.{DefectsOnly}
 use Rattle.table.specs.laws.Table.{Duals, table-from-distances}
 use Rattle.table.specs.laws.Feasible.{feasible}
-use Rattle.table.specs.laws.Opening.{one-graph, same-graph, weights-positive, well-formed, all-connected}
 use Rattle.table.specs.laws.History.{Matches, blank-matches, calls-match}
 use Rattle.table.specs.laws.Duals.{duals-are, length-duals, dual-is-natural, duals-same, each-dual-same}
 

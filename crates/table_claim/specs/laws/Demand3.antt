@@ -14,8 +14,8 @@ use Rattle.distance.specs.Graph.{sides, WellFormed}
 use Rattle.distance.specs.Feasible.{Feasible}
 use Rattle.distance.specs.Theorems.{distance-is-shortest, unreachable-without-walk, unreachable-above-duals, one-defect-covers, growth-where-covered, growth-where-free}
 use Rattle.distance.specs.laws.Table.{length-tableFromDistances, at-tableFromDistances}
+use Rattle.opened_graph.specs.OpenedGraph.{openedGraph, SameVertices}
 use Rattle.table.specs.History.{History, dualAt, natural, dualsOf, historyAfter, noBlossoms}
-use Rattle.table.specs.Runs.{openedGraph, SameVertices}
 use Rattle.table.specs.laws.Duals.{at-duals}
 use Rattle.table_claim.specs.Run.{fed, LentRun, runCalls, lentHistory, WithoutBlossoms}
 use Rattle.table_claim.specs.Hosted.{HostExchange, reportedFrom, HostRun, hostSizes, hostStart, hostCalls, hostHistory, BlossomsRefused}

@@ -32,9 +32,10 @@ use Rattle.reachable.specs.laws.Calls.{opened-invariant}
 use Rattle.distance.specs.Table.{tableFromDistances}
 use Rattle.distance.specs.Feasible.{Feasible}
 use Rattle.distance.specs.Nearest.{ReachesVirtual}
+use Rattle.opened_graph.specs.OpenedGraph.{openedGraph, SameVertices, PositiveWeights}
 use Rattle.table.specs.Answers.{accepted as isAccepted, isDone}
 use Rattle.table.specs.History.{History, dualAt, dualsOf, recorded, historyFrom}
-use Rattle.table.specs.Runs.{openedGraph, SameVertices, PositiveWeights, Run, end, SameNodes}
+use Rattle.table.specs.Runs.{Run, end, SameNodes}
 use Rattle.table.specs.laws.Append.{history-append}
 use Rattle.table.specs.laws.Runs.{end-matches, end-table, end-feasible, tables-tell-duals}
 use Rattle.table_claim.specs.Lent.{LentCall, lentOpen, lentDefect, lentBlossom, lentState, lentPrepare, lentLength, lentGrow, lentTable, lentAdvance, lentContacts, lentVertex, lentClear}

@@ -13,11 +13,11 @@ use Rattle.distance.specs.Graph.{WellFormed}
 use Rattle.distance.specs.Table.{tableFromDistances}
 use Rattle.distance.specs.Feasible.{Feasible}
 use Rattle.distance.specs.Nearest.{ReachesVirtual}
+use Rattle.opened_graph.specs.OpenedGraph.{openedGraph, SameVertices, PositiveWeights}
+use Rattle.opened_graph.specs.laws.Opening.{one-graph, well-formed}
 use Rattle.table.specs.History.{dualAt, natural, dualsOf}
-use Rattle.table.specs.Runs.{openedGraph, SameVertices, PositiveWeights}
 use Rattle.table_claim.specs.Run.{LentRun, lentHistory, WithoutBlossoms}
 use Rattle.table_claim.specs.laws.EveryRun.{last-nodes, last-feasible, last-table, tables-read-tell}
-use Rattle.table.specs.laws.Opening.{one-graph, well-formed}
 use Rattle.table_claim.specs.Carried.{carried}
 use Rattle.table_claim.specs.laws.Carried.{carried-is}
 

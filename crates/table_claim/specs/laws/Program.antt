@@ -14,8 +14,8 @@ use Rattle.run.specs.Standing.{RecordTold, Memory, Stands, Turned}
 use Rattle.run.specs.laws.Few.{turned-tells}
 use Rattle.distance.specs.Table.{tableFromDistances}
 use Rattle.distance.specs.Nearest.{ReachesVirtual}
+use Rattle.opened_graph.specs.OpenedGraph.{openedGraph, PositiveWeights}
 use Rattle.table.specs.History.{dualAt, dualsOf}
-use Rattle.table.specs.Runs.{openedGraph, PositiveWeights}
 use Rattle.table_claim.specs.Input.{graphIn, stageFrom}
 use Rattle.table_claim.specs.Tables.{OnGraph, historyBehind, OpenAfter, tableLines}
 use Rattle.table_claim.specs.Reading.{growthsIn, textLines}

@@ -25,10 +25,11 @@ use Rattle.distance.specs.Table.{tableFromDistances}
 use Rattle.distance.specs.Feasible.{Feasible}
 use Rattle.distance.specs.Nearest.{ReachesVirtual}
 use Rattle.distance.specs.laws.Table.{length-tableFromDistances}
+use Rattle.opened_graph.specs.OpenedGraph.{openedGraph, PositiveWeights}
+use Rattle.opened_graph.specs.laws.Opening.{one-graph, well-formed}
 use Rattle.table.specs.History.{History, historyAfter, dualAt, natural, dualsOf}
-use Rattle.table.specs.Runs.{openedGraph, PositiveWeights, Run, end, history}
+use Rattle.table.specs.Runs.{Run, end, history}
 use Rattle.table.specs.Theorems.{table-is-from-distances, duals-are-feasible, tables-equal-exactly-when-duals-are}
-use Rattle.table.specs.laws.Opening.{one-graph, well-formed}
 use Rattle.table.specs.laws.Runs.{end-natural}
 use Rattle.table_claim.specs.Input.{callsIn, gatheredWith, graphIn, openedFrom, inOrder, opens, earlier, printed, later}
 use Rattle.table_claim.specs.Reading.{behindSpace, growthsIn, textLines}

@@ -19,8 +19,8 @@ use Rattle.graph.specs.laws.Opened.{getD-tabled, EndsAt, ends-at, accepted}
 use Rattle.distance.specs.Graph.{WellFormed, Positive, near, across, weight}
 use Rattle.distance.specs.Nearest.{VirtualInReach, ReachesVirtual}
 use Rattle.distance.specs.laws.Distance.{walk-reached}
-use Rattle.table.specs.Runs.{openedGraph, SameVertices, PositiveWeights}
-use Rattle.table.specs.laws.Graph.{opposite-same, SameGraph}
+use Rattle.opened_graph.specs.OpenedGraph.{openedGraph, SameVertices, PositiveWeights}
+use Rattle.opened_graph.specs.laws.Graph.{opposite-same, SameGraph}
 
 -- an accepted opening has at most 1,024 vertices
 size-within : (v e n l : ℕ) → sizesOk v e n l ≡ true → v ≤ 1024

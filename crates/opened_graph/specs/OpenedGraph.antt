@@ -1,0 +1,26 @@
+-- The graph of an opening.
+use Prim.Native.Nat.{ℕ, _<_}
+use mathlib.Core.Path.{_≡_}
+use mathlib.Core.Bool.{true}
+use mathlib.Core.List.{List, map}
+use lib.Dec.{ltb}
+use Rattle.graph.specs.Basic.{all, member, below}
+use Rattle.graph.specs.Open.{Edge, endsOf, flagIn}
+use Rattle.distance.specs.Graph.{Graph}
+
+-- V vertices, the edges in order with their weights, and the virtual vertices, as distances are defined on them
+unfoldable pub openedGraph : ℕ → List Edge → List ℕ → Graph
+openedGraph v edges virtuals = record {
+  size = v;
+  ends = endsOf edges;
+  weights = map (λ (e : Edge). e .weight) edges;
+  virtual = map (flagIn virtuals) (below v);
+}
+
+-- two lists name the same of the v vertices, in whatever order and however often
+abbrev pub SameVertices : ℕ → List ℕ → List ℕ → Type 0
+SameVertices v l k = (a : ℕ) → a < v → member a l ≡ member a k
+
+-- every weight is above 0
+abbrev pub PositiveWeights : List Edge → Type 0
+PositiveWeights edges = all (λ (e : Edge). ltb 0 (e .weight)) edges ≡ true

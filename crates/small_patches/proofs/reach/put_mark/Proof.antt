@@ -1,0 +1,24 @@
+use native.Mathlib.Omega.{arith}
+use lib.Seq.{set-out}
+use mathlib.Core.Path.{sym}
+use borrow.Author.Needs.{needs}
+use Rattle.small_patches.proofs.reach.put_mark.Statement.{statement}
+use Rattle.small_patches.proofs.reach.put_mark.Tie as tie
+
+mul-m : tie.Need-mul-m
+mul-m c = search needs
+
+slice-write-m : tie.Need-slice-write-m
+slice-write-m c = search needs
+
+same-length : tie.Need-same-length
+same-length c = search needs
+
+returns : tie.Need-returns
+returns c = search needs
+
+returns-2 : tie.Need-returns-2
+returns-2 c = sym (set-out (c .before .args .m .now) (c .before .args .b) 1 (omega arith))
+
+pub put-mark-spec : {M : Type 1} → statement M
+put-mark-spec = tie.close (tie.spec mul-m slice-write-m same-length returns returns-2)
