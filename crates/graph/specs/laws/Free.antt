@@ -65,12 +65,28 @@ state-alike r q a =
     let f = a .fixed in
     let n = a .nodes in
     rw (
-      h 4 (omega arith), h 0 (omega arith), h 2 (omega arith), h 3 (omega arith),
-      f 1 (omega arith) (omega arith), f 2 (omega arith) (omega arith), f 3 (omega arith) (omega arith), f 4 (omega arith) (omega arith),
-      f 5 (omega arith) (omega arith), f 6 (omega arith) (omega arith), f 7 (omega arith) (omega arith), f 8 (omega arith) (omega arith),
-      f 9 (omega arith) (omega arith), f 10 (omega arith) (omega arith),
-      n 11 (omega arith) (omega arith), n 12 (omega arith) (omega arith), n 13 (omega arith) (omega arith), n 14 (omega arith) (omega arith),
-      n 16 (omega arith) (omega arith), n 17 (omega arith) (omega arith), a .boundary _ _ refl refl, a .overgrown _ _ refl refl,
+      h 4 (omega arith),
+      h 0 (omega arith),
+      h 2 (omega arith),
+      h 3 (omega arith),
+      f 1 (omega arith) (omega arith),
+      f 2 (omega arith) (omega arith),
+      f 3 (omega arith) (omega arith),
+      f 4 (omega arith) (omega arith),
+      f 5 (omega arith) (omega arith),
+      f 6 (omega arith) (omega arith),
+      f 7 (omega arith) (omega arith),
+      f 8 (omega arith) (omega arith),
+      f 9 (omega arith) (omega arith),
+      f 10 (omega arith) (omega arith),
+      n 11 (omega arith) (omega arith),
+      n 12 (omega arith) (omega arith),
+      n 13 (omega arith) (omega arith),
+      n 14 (omega arith) (omega arith),
+      n 16 (omega arith) (omega arith),
+      n 17 (omega arith) (omega arith),
+      a .boundary _ _ refl refl,
+      a .overgrown _ _ refl refl,
     )
     refl
 

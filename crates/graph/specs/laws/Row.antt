@@ -86,8 +86,14 @@ rowsWith b k i x = set (rowsOf b) k (set (row (rowsOf b) k) i x)
 pub rows-any : (b : List ℤ) (k i p : ℕ) (z : ℤ) → Stands b k i p → 4 ≤ p → rowsOf (set b p z) ≡ rowsWith b k i (toNat z)
 unfolding rowsOf
 rows-any b k i p z s h =
-    rw (word-other b p 0 z (omega arith), word-other b p 1 z (omega arith), word-other b p 2 z (omega arith), word-other b p 3 z (omega arith),
-    numbers-any b p z, s .place)
+    rw (
+      word-other b p 0 z (omega arith),
+      word-other b p 1 z (omega arith),
+      word-other b p 2 z (omega arith),
+      word-other b p 3 z (omega arith),
+      numbers-any b p z,
+      s .place,
+    )
     (row-set (sizesOf b) (map toNat b) k i (toNat z) (s .within))
 
 pub rows-put : (b : List ℤ) (k i p x : ℕ) → Stands b k i p → 4 ≤ p → rowsOf (set b p (pos x)) ≡ rowsWith b k i x

@@ -27,9 +27,11 @@ put-tail-requires : tie.Need-put-tail-requires
 unfolding Laid
 put-tail-requires c κs =
     let p = c .before .before .put-head .ensures in
-    let s = c .before .before .before .before .before .before .before .before .before in
-    (p .kept .laid, omega (arith, head-limit (c .before .before .before .before .before .before .before .node-count .result) (c .before .before .before .before .new-node .result) p, s .pre .1, c .before .before .before .before .before .before .before .node-count .ensures .0),
-    omega (arith, s .pre .0 .laid .sized, s .pre .0 .laid .counted, c .before .before .before .before .before .entry-count .ensures .1))
+    let s = c .before .before .before .before .before .before .before .before .before in (
+      p .kept .laid,
+      omega (arith, head-limit (c .before .before .before .before .before .before .before .node-count .result) (c .before .before .before .before .new-node .result) p, s .pre .1, c .before .before .before .before .before .before .before .node-count .ensures .0),
+      omega (arith, s .pre .0 .laid .sized, s .pre .0 .laid .counted, c .before .before .before .before .before .entry-count .ensures .1),
+    )
 
 add-put-node-count : tie.Need-add-put-node-count
 add-put-node-count c = search needs
