@@ -17,7 +17,8 @@ fn tell_sheet(list: &mut [usize], a: SheetOpened) -> usize
     }
 }
 
-// A graph is opened in the block with the weights of the sheet, which are written into the third words of the edges; the scratch is only measured.
+// A graph is opened in the block with the weights of the sheet, which are written into the third words of the edges; the scratch is only
+// measured.
 #[no_mangle]
 pub extern "C" fn fb_open_sheet(
     block: &mut [i64],
@@ -31,8 +32,9 @@ pub extern "C" fn fb_open_sheet(
     l: usize,
     answer: &mut [usize],
 ) -> usize
-    ensures { λ r. ⌜ SheetTold (now (block .entry)) (now (scratch .entry)) v e n l (now (edges .entry)) (now (sheet .entry)) (now (virtuals .entry))
-        (now (edges .exit)) (now (block .exit)) (now (answer .entry)) (now (answer .exit)) r ⌝ }
+    ensures { λ r. ⌜ SheetTold (now (block .entry)) (now (scratch .entry)) v e n l
+        (now (edges .entry)) (now (sheet .entry)) (now (virtuals .entry)) (now (edges .exit)) (now (block .exit))
+        (now (answer .entry)) (now (answer .exit)) r ⌝ }
 {
     if answer.len() < 5 {
         return host::answer::refuse_short(answer);

@@ -32,11 +32,14 @@ sheetRefusal v e n l edges sheet virtuals fit =
 unfoldable pub sheetAnswer : ℕ → List ℕ → SheetOpened
 sheetAnswer k values = if eqb k 0 then Opened (vanished values) else Refused k
 
--- Where k is 0 or the refusal: the answer; the edges with their weights, or as they were; every word of the block that open makes of these
--- edges, or the block as it was.
+-- the edges with their weights, or as they were
+unfoldable pub sheetEdges : ℕ → List ℕ → List ℤ → List ℤ
+sheetEdges k values edges = if eqb k 0 then weighed values edges else edges
+
+-- Where k is 0 or the refusal: the answer; the edges; every word of the block that open makes of these edges, or the block as it was.
 pub record Leaves (k : ℕ) (v e n l : ℕ) (b edges sheet virtuals edges' b' : List ℤ) (a : SheetOpened) : Type 0 where
   pub answer : a ≡ sheetAnswer k (valuesFrom sheet)
-  pub edges-are : edges' ≡ (if eqb k 0 then weighed (valuesFrom sheet) edges else edges)
+  pub edges-are : edges' ≡ sheetEdges k (valuesFrom sheet) edges
   pub block : b' ≡ (if eqb k 0 then map pos (openedWords v e n l (edgesFrom edges') (virtualsFrom virtuals)) else b)
 
 -- what open_sheet promises: from the block b and the edges to b' and edges', with the answer a

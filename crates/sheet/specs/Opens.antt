@@ -18,5 +18,5 @@ unfolding Weight.halfWeight Weight.scaled Sheet.valuesFrom Sheet.largest Sheet.s
 weights = 0
 
 unfoldable pub everything : ℕ
-unfolding given weights Called.endsOk Called.sheetRefusal Called.sheetAnswer
+unfolding given weights Called.endsOk Called.sheetRefusal Called.sheetAnswer Called.sheetEdges
 everything = 0

@@ -29,14 +29,16 @@ same-length c = search needs
 
 returns : tie.Need-returns
 unfolding sheetNumbers
-returns c = tells-as (c .before .before .front .ensures) (ap sheetNumbers (sym (c .before .before .before .before .before .before .a .given .1)))
+returns c =
+    tells-as (c .before .before .front .ensures) (ap sheetNumbers (sym (c .before .before .before .before .before .before .a .given .1)))
 
 same-length-2 : tie.Need-same-length-2
 same-length-2 c = search needs
 
 returns-2 : tie.Need-returns-2
 unfolding sheetNumbers answerNumbers
-returns-2 c = tells-as (c .before .before .front2 .ensures) (ap sheetNumbers (sym (c .before .before .before .before .before .before .a2 .given .1)))
+returns-2 c =
+    tells-as (c .before .before .front2 .ensures) (ap sheetNumbers (sym (c .before .before .before .before .before .before .a2 .given .1)))
 
 pub tell-sheet-spec : {M : Type 1} → statement M
 tell-sheet-spec =

@@ -22,7 +22,7 @@ use Rattle.memory.specs.laws.OpenedBlock.{opened-block}
 use Rattle.sheet.specs.Weight.{scaled}
 use Rattle.sheet.specs.declared.SheetOpened.the-variants.{Opened, Refused}
 use Rattle.sheet.specs.Sheet.{valuesFrom, largest, sheetOk, vanished, weighed}
-use Rattle.sheet.specs.Called.{endsOk, sheetRefusal, sheetAnswer, SheetCalled}
+use Rattle.sheet.specs.Called.{endsOk, sheetRefusal, sheetAnswer, sheetEdges, SheetCalled}
 use Rattle.sheet.specs.laws.Count.{same-test}
 use Rattle.sheet.specs.laws.Weight.{at-most}
 use Rattle.sheet.specs.laws.Sheet.{Valued, valued, values-count, weighed-length, weighed-end, weighed-edge}
@@ -175,7 +175,7 @@ module _ (b t : List ℤ) (v e n l : ℕ) (edges sheet virtuals : List ℤ) wher
   refused = sheetRefusal v e n l edges sheet virtuals (fits b t v e n l)
 
   pub refused-done : (k : ℕ) → k ≡ refused → k ≢ 0 → SheetCalled b t v e n l edges sheet virtuals edges b (Refused k)
-  unfolding sheetAnswer
+  unfolding sheetAnswer sheetEdges
   refused-done k p h =
       let z : eqb refused 0 ≡ false = ne-eqb _ _ (λ q. h (p ∙ q)) in
       record { leaves = record { answer = rw z (ap Refused p); edges-are = rw z refl; block = rw z refl } }
@@ -185,7 +185,7 @@ module _ (b t : List ℤ) (v e n l : ℕ) (edges sheet virtuals : List ℤ) wher
     pub opened-done : (j k : ℕ) → refused ≡ 0 → edges' ≡ weighed (valuesFrom sheet) edges
         → OpenCalled b t v e n l edges' virtuals b' j → k ≡ vanished (valuesFrom sheet)
         → SheetCalled b t v e n l edges sheet virtuals edges' b' (Opened k)
-    unfolding sheetAnswer
+    unfolding sheetAnswer sheetEdges
     opened-done j k z w o q =
         let y : eqb refused 0 ≡ true = eq-eqb _ _ z in
         let a : openRefusal v e n l (edgesFrom edges') (virtualsFrom virtuals) (fits b t v e n l) ≡ 0 =

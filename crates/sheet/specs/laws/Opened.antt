@@ -21,7 +21,7 @@ use Rattle.sheet.specs.declared.SheetOpened.{SheetOpened}
 use Rattle.sheet.specs.declared.SheetOpened.the-variants.{Opened, Refused}
 use Rattle.sheet.specs.Weight.{scaled}
 use Rattle.sheet.specs.Sheet.{valuesFrom, largest, vanishes, vanished, sheetWeight, weighed, withWeight}
-use Rattle.sheet.specs.Called.{sheetRefusal, sheetAnswer, Leaves, SheetCalled}
+use Rattle.sheet.specs.Called.{sheetRefusal, sheetAnswer, sheetEdges, Leaves, SheetCalled}
 use Rattle.sheet.specs.laws.Weight.{zero-exactly}
 use Rattle.sheet.specs.laws.Sheet.{Valued, valued, values-count, weighed-length, weighed-edge}
 use Rattle.sheet.specs.laws.Count.{none-passes, all-fail}
@@ -52,6 +52,7 @@ module _ {r v e n l : ℕ} {b edges sheet virtuals edges' b' : List ℤ} {k : �
 
   -- a refused one leaves edges and block
   pub refused-keeps : Leaves r v e n l b edges sheet virtuals edges' b' (Refused k) → (edges' ≡ edges) × (b' ≡ b)
+  unfolding sheetEdges
   refused-keeps p = let z = refused-number p .1 in (rw z at (p .edges-are), rw z at (p .block))
 
 -- ---- an accepted one
@@ -71,6 +72,7 @@ module _ {b t : List ℤ} {v e n l : ℕ} {edges sheet virtuals edges' b' : List
   passed = sheet-accepted v e n l edges sheet virtuals fit none-refused
 
   edges-weighed : edges' ≡ weighed values edges
+  unfolding sheetEdges
   edges-weighed = rw (eq-eqb _ _ none-refused) at (p .leaves .edges-are)
 
   -- it is an opening on the words that it leaves
