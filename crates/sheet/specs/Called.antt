@@ -37,11 +37,11 @@ unfoldable pub sheetEdges : ℕ → List ℕ → List ℤ → List ℤ
 sheetEdges k values edges = if eqb k 0 then weighed values edges else edges
 
 -- Where k is 0 or the refusal: the answer; the edges; every word of the block that open makes of these edges, or the block as it was.
-pub record Leaves (k : ℕ) (v e n l : ℕ) (b edges sheet virtuals edges' b' : List ℤ) (a : SheetOpened) : Type 0 where
+pub record SheetLeaves (k : ℕ) (v e n l : ℕ) (b edges sheet virtuals edges' b' : List ℤ) (a : SheetOpened) : Type 0 where
   pub answer : a ≡ sheetAnswer k (valuesFrom sheet)
   pub edges-are : edges' ≡ sheetEdges k (valuesFrom sheet) edges
   pub block : b' ≡ (if eqb k 0 then map pos (openedWords v e n l (edgesFrom edges') (virtualsFrom virtuals)) else b)
 
 -- what open_sheet promises: from the block b and the edges to b' and edges', with the answer a
 pub record SheetCalled (b t : List ℤ) (v e n l : ℕ) (edges sheet virtuals edges' b' : List ℤ) (a : SheetOpened) : Type 0 where
-  pub leaves : Leaves (sheetRefusal v e n l edges sheet virtuals (fits b t v e n l)) v e n l b edges sheet virtuals edges' b' a
+  pub leaves : SheetLeaves (sheetRefusal v e n l edges sheet virtuals (fits b t v e n l)) v e n l b edges sheet virtuals edges' b' a

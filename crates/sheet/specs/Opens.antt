@@ -8,15 +8,15 @@ use Rattle.sheet.specs.Sheet
 use Rattle.sheet.specs.Called
 
 -- those of the words that the host gives
-unfoldable pub given : ℕ
+unfoldable pub everythingGiven : ℕ
 unfolding Graph.everything Word.toNat Opening.givenAt Opening.edgeAt Opening.edgesFrom Opening.virtualsFrom
-given = 0
+everythingGiven = 0
 
 -- those of weights and sheets
-unfoldable pub weights : ℕ
+unfoldable pub everythingWeighed : ℕ
 unfolding Weight.halfWeight Weight.scaled Sheet.valuesFrom Sheet.largest Sheet.sheetOk Sheet.vanishes Sheet.vanished Sheet.weighAt Sheet.weighed
-weights = 0
+everythingWeighed = 0
 
 unfoldable pub everything : ℕ
-unfolding given weights Called.endsOk Called.sheetRefusal Called.sheetAnswer Called.sheetEdges
+unfolding everythingGiven everythingWeighed Called.endsOk Called.sheetRefusal Called.sheetAnswer Called.sheetEdges
 everything = 0

@@ -15,7 +15,7 @@ use Rattle.sheet.specs.Weight.{scaled}
 use Rattle.sheet.specs.Nearest.{NearestUpward}
 use Rattle.sheet.specs.Sheet.{valuesFrom, largest, sheetOk, vanished, sheetWeight, weighed, withWeight}
 use Rattle.sheet.specs.Called.{sheetRefusal, SheetCalled}
-use Rattle.sheet.specs.laws.Weight.{twice-nearest, near, rises, of-largest, at-most, zero-exactly}
+use Rattle.sheet.specs.laws.Weight.{twice-nearest, between, near, rises, of-largest, at-most, zero-exactly}
 use Rattle.sheet.specs.laws.Sheet.{largest-is-value, largest-above, vanishes-rule}
 use Rattle.sheet.specs.laws.Called.{refused-as-open}
 use Rattle.sheet.specs.laws.Opened.{refused-keeps, opens, counts, edge-weighed, positive}
@@ -26,6 +26,10 @@ module _ (m : ℕ) (some : 0 < m) where
   -- It is twice the whole number nearest to 500,000 t / m, halves upward: that number, and no other.
   pub weight-is-nearest : (t k : ℕ) → (scaled m t ≡ 2 * k) ↔ NearestUpward (500_000 * t) m k
   weight-is-nearest = twice-nearest m some
+
+  -- Where that number is k, 500,000 t / m lies from k - 1/2, which counts, up to k + 1/2, which doesn't: times 2 m.
+  pub weight-is-between : (t k : ℕ) → scaled m t ≡ 2 * k → (2 * (m * k) ≤ 1_000_000 * t + m) × (1_000_000 * t < 2 * (m * k) + m)
+  weight-is-between = between m some
 
   -- It differs from 1,000,000 t / m by at most 1, times m: from above, and from below.
   pub weight-is-near : (t : ℕ) → (m * scaled m t ≤ 1_000_000 * t + m) × (1_000_000 * t ≤ m * scaled m t + m)

@@ -20,7 +20,7 @@ use Rattle.table.specs.Runs.{PositiveWeights}
 use Rattle.table_claim.specs.Lent.{Exchange, Steps}
 use Rattle.table_claim.specs.Run.{LentRun, runFrom, WithoutBlossoms}
 use Rattle.table_claim.specs.Hosted.{SaysOpened, HostExchange, HostSteps, HostRun, BlossomsRefused}
-use Rattle.table_claim.specs.Demand3.{theGraph, Suitable, Demand3, AfterCalls, AfterExported}
+use Rattle.table_claim.specs.Demand3.{theGraph, Suitable, AfterCalls, AfterExported}
 use Rattle.table_claim.specs.Theorem.{demand-3}
 use Rattle.table_claim.specs.laws.FromSheet.{sheet-said, host-run-from}
 

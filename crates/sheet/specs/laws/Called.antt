@@ -5,21 +5,20 @@ use native.Mathlib.Decide.{decLt}
 use mathlib.Core.Path.{_≡_, refl, sym, ap, _∙_}
 use mathlib.Core.Logic.{_≢_}
 use mathlib.Core.Bool.{Bool, true, false, _&&_, not, and-true}
-use mathlib.Core.List.{List, map}
-use lib.IntN.{ℤ, pos, negsuc}
+use mathlib.Core.List.{List}
+use lib.IntN.{ℤ, negsuc}
 use lib.Dec.{leb, ltb, eqb}
 use lib.ListN.{length, getD}
 use borrow.Author.Tests.{eqb-true, eq-eqb, ne-eqb, le-leb, leb-true, not-false}
-use Rattle.graph.specs.Basic.{if_then_else_, all}
+use Rattle.graph.specs.Basic.{all}
 use Rattle.graph.specs.Word.{toNat}
 use Rattle.graph.specs.Open.{Edge, weightLimit, sizesOk, edgeOk, openRefusal}
-use Rattle.graph.specs.Opening.{givenAt, edgeAt, edgesIn, edgesFrom, virtualsFrom, fits, openedWords, OpenCalled}
+use Rattle.graph.specs.Opening.{givenAt, edgeAt, edgesIn, edgesFrom, virtualsFrom, fits, OpenCalled}
 use Rattle.graph.specs.laws.State.{passed, and-left, and-right}
 use Rattle.graph.specs.laws.Members.{both, by-test}
 use Rattle.graph.specs.laws.Scan.{list-at, list-from}
 use Rattle.memory.specs.laws.Open.{given-none, edges-count, edges-get}
 use Rattle.memory.specs.laws.OpenedBlock.{opened-block}
-use Rattle.sheet.specs.Weight.{scaled}
 use Rattle.sheet.specs.declared.SheetOpened.the-variants.{Opened, Refused}
 use Rattle.sheet.specs.Sheet.{valuesFrom, largest, sheetOk, vanished, weighed}
 use Rattle.sheet.specs.Called.{endsOk, sheetRefusal, sheetAnswer, sheetEdges, SheetCalled}

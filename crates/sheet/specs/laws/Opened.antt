@@ -1,36 +1,35 @@
 -- An opening from a sheet that was accepted: it is an opening, and its weights are those of the sheet.
-use Prim.Native.Nat.{ℕ, _+_, _*_, _≤_, _<_}
+use Prim.Native.Nat.{ℕ, _<_}
 use native.Mathlib.Omega.{arith}
 use native.Mathlib.Decide.{decLt}
-use mathlib.Core.Path.{_≡_, refl, sym, ap, _∙_}
+use mathlib.Core.Path.{_≡_, sym, ap, _∙_}
 use mathlib.Core.Logic.{_↔_}
-use mathlib.Core.Bool.{Bool, true, false, _&&_}
-use mathlib.Core.List.{List, map}
-use lib.IntN.{ℤ, pos}
+use mathlib.Core.Bool.{Bool, true, false}
+use mathlib.Core.List.{List}
+use lib.IntN.{ℤ}
 use lib.Dec.{ltb, eqb}
 use lib.ListN.{length, getD}
-use borrow.Author.Tests.{eqb-true, eqb-false, eq-eqb, ne-eqb, ltb-true, lt-ltb, le-ltb}
-use Rattle.graph.specs.Basic.{if_then_else_, all, only}
+use borrow.Author.Tests.{eqb-true, eqb-false, eq-eqb, ne-eqb, ltb-true, lt-ltb}
+use Rattle.graph.specs.Basic.{all, only}
 use Rattle.graph.specs.Open.{Edge, openRefusal}
 use Rattle.graph.specs.Opening.{edgeAt, edgesIn, edgesFrom, virtualsFrom, fits, OpenCalled}
 use Rattle.graph.specs.laws.Members.{by-test}
 use Rattle.graph.specs.laws.Scan.{and-false, list-at, list-from}
 use Rattle.memory.specs.laws.Open.{edges-count, edges-get}
 use Rattle.memory.specs.laws.OpenedBlock.{opened-block}
-use Rattle.sheet.specs.declared.SheetOpened.{SheetOpened}
 use Rattle.sheet.specs.declared.SheetOpened.the-variants.{Opened, Refused}
 use Rattle.sheet.specs.Weight.{scaled}
 use Rattle.sheet.specs.Sheet.{valuesFrom, largest, vanishes, vanished, sheetWeight, weighed, withWeight}
-use Rattle.sheet.specs.Called.{sheetRefusal, sheetAnswer, sheetEdges, Leaves, SheetCalled}
+use Rattle.sheet.specs.Called.{sheetRefusal, sheetAnswer, sheetEdges, SheetLeaves, SheetCalled}
 use Rattle.sheet.specs.laws.Weight.{zero-exactly}
-use Rattle.sheet.specs.laws.Sheet.{Valued, valued, values-count, weighed-length, weighed-edge}
+use Rattle.sheet.specs.laws.Sheet.{valued, values-count, weighed-length, weighed-edge}
 use Rattle.sheet.specs.laws.Count.{none-passes, all-fail}
 use Rattle.sheet.specs.laws.Called.{SheetAccepted, sheet-accepted, accepted-by-open}
 
 -- ---- the refusal, by the answer
 
 module _ {r v e n l : ℕ} {b edges sheet virtuals edges' b' : List ℤ} {k : ℕ} where
-  pub opened-zero : Leaves r v e n l b edges sheet virtuals edges' b' (Opened k) → (r ≡ 0) × (k ≡ vanished (valuesFrom sheet))
+  pub opened-zero : SheetLeaves r v e n l b edges sheet virtuals edges' b' (Opened k) → (r ≡ 0) × (k ≡ vanished (valuesFrom sheet))
   unfolding sheetAnswer
   opened-zero p =
       by-test (eqb r 0)
@@ -40,7 +39,7 @@ module _ {r v e n l : ℕ} {b edges sheet virtuals edges' b' : List ℤ} {k : �
       let y : _≡_ {A = ℕ} 0 1 = cc in
       absurd (omega arith))
 
-  pub refused-number : Leaves r v e n l b edges sheet virtuals edges' b' (Refused k) → (k ≡ r) × (eqb r 0 ≡ false)
+  pub refused-number : SheetLeaves r v e n l b edges sheet virtuals edges' b' (Refused k) → (k ≡ r) × (eqb r 0 ≡ false)
   unfolding sheetAnswer
   refused-number p =
       by-test (eqb r 0)
@@ -51,7 +50,7 @@ module _ {r v e n l : ℕ} {b edges sheet virtuals edges' b' : List ℤ} {k : �
       (λ t. let z : Refused k ≡ Refused r = rw t at (p .answer) in (cc, t))
 
   -- a refused one leaves edges and block
-  pub refused-keeps : Leaves r v e n l b edges sheet virtuals edges' b' (Refused k) → (edges' ≡ edges) × (b' ≡ b)
+  pub refused-keeps : SheetLeaves r v e n l b edges sheet virtuals edges' b' (Refused k) → (edges' ≡ edges) × (b' ≡ b)
   unfolding sheetEdges
   refused-keeps p = let z = refused-number p .1 in (rw z at (p .edges-are), rw z at (p .block))
 

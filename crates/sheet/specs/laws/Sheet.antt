@@ -5,16 +5,15 @@ use native.Mathlib.Numerals.{add-one}
 use native.Mathlib.Decide.{ℕ-discrete as decEq, decLt}
 use mathlib.Core.Path.{_≡_, refl, sym, ap, _∙_}
 use mathlib.Core.Logic.{_≢_, _⊎_, inl, inr, ⊎-elim}
-use mathlib.Core.Bool.{Bool, true, false, _&&_}
-use mathlib.Core.List.{List, [], _∷_, _++_}
+use mathlib.Core.Bool.{true, _&&_}
+use mathlib.Core.List.{List, [], _∷_}
 use lib.IntN.{ℤ, pos, negsuc}
-use lib.Dec.{leb, ltb, eqb}
-use lib.ListN.{length, getD, set, drop, length-map, length-set, drop-of-length-le}
-use lib.Seq.{drop-cons, getD-set-same, getD-set-other}
+use lib.Dec.{ltb, eqb}
+use lib.ListN.{length, getD, set, length-map, length-set}
+use lib.Seq.{getD-set-same, getD-set-other}
 use borrow.Author.Tests.{leb-true, ltb-true, lt-ltb, eqb-true, eq-eqb}
 use Rattle.graph.specs.Basic.{fold, all, only, member, below}
 use Rattle.graph.specs.Word.{toNat, wordAt}
-use Rattle.graph.specs.Open.{Edge}
 use Rattle.graph.specs.Opening.{givenAt, edgeAt}
 use Rattle.graph.specs.laws.State.{fold-snoc, fold-keeps, and-left, and-right}
 use Rattle.graph.specs.laws.Members.{member-head, member-tail}

@@ -33,6 +33,10 @@ module _ (m : ℕ) (some : 0 < m) where
     λ n. ap (λ i. 2 * i) (nearest-one (half-nearest t) n),
   )
 
+  pub between : (t k : ℕ) → scaled m t ≡ 2 * k → (2 * (m * k) ≤ 1_000_000 * t + m) × (1_000_000 * t < 2 * (m * k) + m)
+  unfolding scaled
+  between t k e = let z : halfWeight m t ≡ k = omega (arith, e) in rw (← z) (half-between t)
+
   scaled-times : (t : ℕ) → m * scaled m t ≡ 2 * (m * halfWeight m t)
   unfolding scaled
   scaled-times t = sym (mul-assoc m 2 (halfWeight m t)) ∙ rw (mul-comm m 2) (mul-assoc 2 m (halfWeight m t))
