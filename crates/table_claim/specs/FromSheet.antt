@@ -18,7 +18,7 @@ use Rattle.host_sheet.specs.Told.{SheetTold}
 use Rattle.distance.specs.Nearest.{ReachesVirtual}
 use Rattle.table.specs.Runs.{PositiveWeights}
 use Rattle.table_claim.specs.Lent.{Exchange, Steps}
-use Rattle.table_claim.specs.Run.{LentRun, runFrom, WithoutBlossoms}
+use Rattle.table_claim.specs.Run.{LentRun, lentRunFrom, WithoutBlossoms}
 use Rattle.table_claim.specs.Hosted.{SaysOpened, HostExchange, HostSteps, HostRun, BlossomsRefused}
 use Rattle.table_claim.specs.Demand3.{theGraph, Suitable, AfterCalls, AfterExported}
 use Rattle.table_claim.specs.Theorem.{demand-3}
@@ -36,7 +36,7 @@ module _ {b t : List ℤ} {v e n l : ℕ} {edges sheet virtuals edges' b' : List
     (p : SheetCalled b t v e n l edges sheet virtuals edges' b' (Opened k)) where
   -- the run of the steps behind it
   abbrev pub sheetRun : {xs : List Exchange} {last : List ℤ} → Steps b' xs last → LentRun v (edgesFrom edges') (virtualsFrom virtuals)
-  sheetRun s = runFrom b t v e n l edges' virtuals (sheet-opens p) s
+  sheetRun s = lentRunFrom b t v e n l edges' virtuals (sheet-opens p) s
 
   -- Its weights are positive exactly when every value is and none vanished.
   pub sheet-weights-positive : PositiveWeights (edgesFrom edges') ↔ ((k ≡ 0) × PositiveValues sheet)

@@ -180,9 +180,9 @@ module _ {v : ℕ} {edges : List Edge} {virtuals : List ℕ} (r : LentRun v edge
   WithoutBlossoms = noBlossoms runStart runCalls ≡ true
 
 -- The run of an opening that was accepted and of the steps behind it.
-abbrev pub runFrom : (b t : List ℤ) (v e n l : ℕ) (edges virtuals : List ℤ) {b₁ b₂ : List ℤ} {xs : List Exchange}
+abbrev pub lentRunFrom : (b t : List ℤ) (v e n l : ℕ) (edges virtuals : List ℤ) {b₁ b₂ : List ℤ} {xs : List Exchange}
     → OpenCalled b t v e n l edges virtuals b₁ 0 → Steps b₁ xs b₂ → LentRun v (edgesFrom edges) (virtualsFrom virtuals)
-runFrom b t v e n l edges virtuals {b₁} {b₂} {xs} p q = record {
+lentRunFrom b t v e n l edges virtuals {b₁} {b₂} {xs} p q = record {
   edgeNumber = e;
   nodeLimit = n;
   storeLimit = l;

@@ -32,7 +32,7 @@ use Rattle.table.specs.laws.Append.{after-append}
 use Rattle.table_claim.specs.Lent.{LentCall, lentOpen, Step, open-refused, insert-defect, insert-blossom, set-grow-state, prepare, max-update-length, grow, read-table, advance, contacts, representative-vertex, clear}
 use Rattle.table_claim.specs.Lent.{Returned, opening, returns, returnsList, returnsCount, Exchange, Steps, none, next, AnySteps, no-call, one-call, one-opening}
 use Rattle.table_claim.specs.Run.{Sizes, scratchFits, listFits, callsOf, ifFits, fedOne, fed, orRefused, returned, returnedFrom, SinceOpening}
-use Rattle.table_claim.specs.Run.{runFrom, Begins, with-open, with-sheet}
+use Rattle.table_claim.specs.Run.{lentRunFrom, Begins, with-open, with-sheet}
 use Rattle.table_claim.specs.Lent.{lentSheet, sheet-refused, openingSheet, one-sheet}
 use Rattle.sheet.specs.declared.SheetOpened.the-variants.{Opened}
 use Rattle.sheet.specs.Theorems.{refused-leaves-all, sheet-opens}
@@ -183,12 +183,12 @@ steps-return {z} {b} w (next {b₁ = b₁} {k = k} {xs = xs} s ss) =
 -- the run that an accepted opening begins, as the last of the exchanges
 since-it : (b t : List ℤ) (v e n l : ℕ) (edges virtuals : List ℤ) {b₁ b₂ : List ℤ} {xs : List Exchange}
     (p : OpenCalled b t v e n l edges virtuals b₁ 0) (q : Steps b₁ xs b₂)
-    (x : Exchange) → Begins (runFrom b t v e n l edges virtuals p q) x → SinceOpening (x ∷ xs) b₂
+    (x : Exchange) → Begins (lentRunFrom b t v e n l edges virtuals p q) x → SinceOpening (x ∷ xs) b₂
 since-it b t v e n l edges virtuals p q x h = record {
   v = v;
   edges = edgesFrom edges;
   virtuals = virtualsFrom virtuals;
-  run = runFrom b t v e n l edges virtuals p q;
+  run = lentRunFrom b t v e n l edges virtuals p q;
   earlier = [];
   begin = x;
   begins = h;
