@@ -9,7 +9,7 @@
  * Every call writes its answer to the front of `answer`, a list of at least 5 numbers, and gives back how many numbers
  * that are: first the case, then its values. A list of 2 to 4 numbers is refused 1; in a list of 0 or 1 numbers nothing
  * can be told: then nothing happens, and 0 is given back. A refusal, FB_REFUSED and its number, leaves all memory
- * unchanged for 1 to 9; 10 to 12, and 13 after preparing, leave what preparation leaves.
+ * unchanged for 1 to 9 and 17; 10 to 12, and 13 after preparing, leave what preparation leaves.
  *
  * hosts/decode.c and hosts/decode.rs are hosts that work, hosts/lines.c is one for records.
  */
@@ -33,6 +33,7 @@ extern "C" {
 #define FB_MOST_WEIGHT 1000000       /* weights, from 0 */
 #define FB_MOST_DUAL 1000000000      /* dual variables and overgrown amounts */
 #define FB_MOST_GROWTH 1100000000000 /* growth of a side */
+#define FB_MOST_VALUE 999999999      /* values of a sheet, from 0: ten-thousandths; beyond them refused 17 */
 
 /* Words to lend. */
 #define FB_BLOCK(v, e, n, l) (16 + 4 * (v) + 11 * (e) + 7 * (n) + (l))
@@ -67,6 +68,7 @@ enum {
     FB_PREPARED = 9,  /* how many passes */
     FB_VERTEX = 10,   /* a vertex */
     FB_REFUSED = 11,  /* the number of the refusal */
+    FB_OPENED = 12,   /* fb_open_sheet: how many positive values became 0 */
 };
 
 /* What a refusal's number means. */
@@ -86,6 +88,10 @@ static inline const char *fb_refusal_sentence(size_t number) {
         "shrinking by more than the dual variable, the top overgrown amount or the growth of a side",
         "a dual variable, overgrown amount or growth would pass its limit",
         "a full edge to a free vertex, or a side of growth 0: prepare first",
+        "no such refusal",
+        "no such refusal",
+        "no such refusal",
+        "no value of the sheet is positive, or one is out of range",
     };
     return number < sizeof sentences / sizeof *sentences ? sentences[number] : sentences[0];
 }
@@ -96,6 +102,17 @@ static inline const char *fb_refusal_sentence(size_t number) {
 size_t fb_open(int64_t *block, size_t block_length, const int64_t *scratch, size_t scratch_length, const int64_t *edges,
                size_t edges_length, const int64_t *virtuals, size_t virtuals_length, size_t v, size_t e, size_t n,
                size_t l, size_t *answer, size_t answer_length);
+
+/* The same with weights in decimals: a sheet of E values, whole ten-thousandths from 0 to FB_MOST_VALUE. With m the
+   largest, the value t becomes twice the whole number nearest to 500,000 t / m, halves upward, so that m becomes
+   1,000,000; it is written into the third word of its edge, which may hold anything before. FB_OPENED and how many
+   positive values became 0: a graph with a weight of 0 lies outside the table equality until it is reweighted. Tested
+   in this order: 4 for the sizes, 1, also for a sheet that is not E long, 3 for virtual vertices, 4 for ends, 17 for the
+   sheet. Then it is an fb_open with the edges as they are now. */
+size_t fb_open_sheet(int64_t *block, size_t block_length, const int64_t *scratch, size_t scratch_length, int64_t *edges,
+                     size_t edges_length, const int64_t *sheet, size_t sheet_length, const int64_t *virtuals,
+                     size_t virtuals_length, size_t v, size_t e, size_t n, size_t l, size_t *answer,
+                     size_t answer_length);
 
 /* The next node is a defect at a vertex, in a grow state: FB_NODE. */
 size_t fb_insert_defect(int64_t *block, size_t block_length, int64_t *scratch, size_t scratch_length, size_t vertex,

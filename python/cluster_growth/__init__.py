@@ -19,6 +19,7 @@ from .answers import (
     Moved,
     NeedExpand,
     NewNode,
+    Opened,
     Prepared,
     Refusal,
     ShrinkStop,
@@ -32,6 +33,7 @@ from .dual_module import Direction, DualModule, Growth, GrowState, Table
 from .library import Library, NoLibrary
 from .matching import Matching, match
 from .refusals import Refused, sentence
+from .sheet import decimal, ten_thousandths
 from .sizes import block_words, enough_store, scratch_words
 
 __all__ = [
@@ -52,6 +54,7 @@ __all__ = [
     'NewNode',
     'NoLibrary',
     'Node',
+    'Opened',
     'Prepared',
     'Refusal',
     'Refused',
@@ -62,9 +65,11 @@ __all__ = [
     'Unlimited',
     'Vertex',
     'block_words',
+    'decimal',
     'enough_store',
     'match',
     'scratch_words',
     'sentence',
+    'ten_thousandths',
 ]
 __version__ = '0.1.0'

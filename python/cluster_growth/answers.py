@@ -138,6 +138,16 @@ class Refusal:
 
 
 @dataclass(frozen=True)
+class Opened:
+    """A graph was opened from a sheet: how many positive values became weight 0."""
+
+    vanished: int
+
+    def __str__(self) -> str:
+        return f'opened {self.vanished}'
+
+
+@dataclass(frozen=True)
 class Moved:
     """`advance` moved the node's dual variable by so much: below 0 it shrank, 0 for a node that stays."""
 
@@ -148,7 +158,7 @@ class Moved:
 
 
 Length = Union[Free, Unlimited, Conflict, TouchingVirtual, NeedExpand, ShrinkStop, ShrinkStopPeer]
-Answer = Union[Length, Done, NewNode, Prepared, Vertex, Refusal]
+Answer = Union[Length, Done, NewNode, Prepared, Vertex, Refusal, Opened]
 
 # the case that stands first in an answer, as in include/fusion_blossom.h, and what its values make
 CASES: Dict[int, Callable[..., Answer]] = {
@@ -164,6 +174,7 @@ CASES: Dict[int, Callable[..., Answer]] = {
     9: Prepared,
     10: Vertex,
     11: Refusal,
+    12: Opened,
 }
 
 

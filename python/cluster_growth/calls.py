@@ -25,6 +25,8 @@ class Call(NamedTuple):
 
 
 OPEN = Call('fb_open', (WORDS, WORDS, SIZE, SIZE, SIZE, SIZE))  # edges, virtual vertices, V, E, N, L
+# edges, whose third words are written, sheet, virtual vertices, V, E, N, L
+OPEN_SHEET = Call('fb_open_sheet', (WORDS, WORDS, WORDS, SIZE, SIZE, SIZE, SIZE))
 
 CALLS: Dict[str, Call] = {
     'insert_defect': Call('fb_insert_defect', (SIZE, SIZE)),

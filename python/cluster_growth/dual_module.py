@@ -77,8 +77,10 @@ class DualModule:
     """A decoding graph, opened in memory of its own, and the clusters that grow on it.
 
     `edges` are (left, right, weight), or rows of an array of numpy, with whole weights from 0 to 1,000,000; even ones
-    keep all gaps between clusters that grow together even. A call that is turned down raises Refused, with its
-    number.
+    keep all gaps between clusters that grow together even. With a `sheet`, a value for each edge in whole
+    ten-thousandths, the library makes the weights, and `edges` may be (left, right): the largest value becomes
+    1,000,000, the others even numbers in proportion. `vanished` is how many positive values became 0. A call that is
+    turned down raises Refused, with its number.
     """
 
     def __init__(
@@ -90,22 +92,31 @@ class DualModule:
         store: int = sizes.MOST_STORE,
         path: Optional[str] = None,
         edge_count: Optional[int] = None,
+        sheet: Optional[Iterable[int]] = None,
     ):
         self.vertices = vertices
-        rows = [tuple(e) for e in plain(edges)]
+        rows = [tuple(e) + (0,) * (sheet is not None and len(e) == 2) for e in plain(edges)]
         for e, row in enumerate(rows):
             if len(row) != 3:
                 raise ValueError(f'edge {e} has {len(row)} numbers: left, right and weight are three')
         self.edges: List[Tuple[int, int, int]] = [(a, b, w) for a, b, w in rows]
+        self.vanished = 0
         self.virtual: List[int] = sorted(set(plain(virtual)))
         self.library = library.load(path)
         # E, which the library compares with the edges that it is given
         count = len(self.edges) if edge_count is None else edge_count
         self._lend(vertices, count, nodes, store)
         flat, ends = array('q', [x for e in self.edges for x in e]), array('q', self.virtual)
-        given = [*stretch(flat), *stretch(ends), size(vertices), size(count), size(nodes), size(store)]
-        told = self.library.open(*self._lent, *given, *self._told)
-        self._accept('open', answers.read(self._answer[:told]))
+        given = [*stretch(ends), size(vertices), size(count), size(nodes), size(store)]
+        if sheet is None:
+            told = self.library.open(*self._lent, *stretch(flat), *given, *self._told)
+            self._accept('open', answers.read(self._answer[:told]))
+        else:
+            values = array('q', [signed(t) for t in plain(sheet)])
+            told = self.library.open_sheet(*self._lent, *stretch(flat), *stretch(values), *given, *self._told)
+            opened: Any = self._accept('open_sheet', answers.read(self._answer[:told]))
+            self.vanished = opened.vanished
+            self.edges = [(a, b, flat[3 * e + 2]) for e, (a, b, _) in enumerate(self.edges)]
         self.words = memoryview(self._block).cast('B').cast('q')
         self.block = Block(self.words)
 

@@ -5,7 +5,7 @@ import ctypes
 import os
 from typing import Callable, Dict, Iterator, Optional
 
-from .calls import CALLS, OPEN
+from .calls import CALLS, OPEN, OPEN_SHEET
 
 NAME = 'libfusion_blossom.so'
 VARIABLE = 'FUSION_BLOSSOM_LIBRARY'
@@ -45,6 +45,7 @@ class Library:
             raise NoLibrary(f'{found} cannot be loaded: {e}') from None
         self.path = found
         self.open = self.declare(shared, OPEN)
+        self.open_sheet = self.declare(shared, OPEN_SHEET)
         self.calls: Dict[str, Callable[..., int]] = {name: self.declare(shared, call) for name, call in CALLS.items()}
 
     def declare(self, shared: ctypes.CDLL, call) -> Callable[..., int]:

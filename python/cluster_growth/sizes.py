@@ -7,6 +7,7 @@ MOST_NODES = 1024
 MOST_STORE = 65536
 MOST_WEIGHT = 1_000_000
 MOST_DUAL = 1_000_000_000
+MOST_VALUE = 999_999_999  # of a sheet, in ten-thousandths
 
 # the number that `graph` and `fb_open` call it by: (name, least, greatest)
 SIZES = {

@@ -57,7 +57,7 @@ class Header(unittest.TestCase):
         code = 'int main(void) { printf("%d %d %d %d %d\\n", FB_BLOCK(5, 7, 9, 11), FB_SCRATCH(7), FB_STORE(5, 7),\n'
         code += 'FB_STORE_BLOSSOMS(5, 7, 2, 3), FB_MOST_WEIGHT);\n'
         code += (
-            'for (size_t k = 1; k < 14; k++) puts(fb_refusal_sentence(k));\nputs(fb_refusal_sentence(99));\nreturn 0; }'
+            'for (size_t k = 1; k < 18; k++) puts(fb_refusal_sentence(k));\nputs(fb_refusal_sentence(99));\nreturn 0; }'
         )
         said = self.compiled('cc', 'c99', code).splitlines()
         self.assertEqual(
@@ -65,17 +65,17 @@ class Header(unittest.TestCase):
             f'{sizes.block_words(5, 7, 9, 11)} {sizes.scratch_words(7)} {sizes.enough_store(5, 7)} '
             f'{sizes.enough_store(5, 7, 2, 3)} {sizes.MOST_WEIGHT}',
         )
-        self.assertEqual(said[1:14], [refusals.SENTENCES[k] for k in range(1, 14)])
-        self.assertEqual(said[14], 'no such refusal')
+        self.assertEqual(said[1:18], [refusals.SENTENCES.get(k, 'no such refusal') for k in range(1, 18)])
+        self.assertEqual(said[18], 'no such refusal')
         limits = {name: int(x) for name, x in re.findall(r'#define (FB_MOST_\w+) (\d+)', header())}
-        for name in ('VERTICES', 'EDGES', 'NODES', 'STORE', 'WEIGHT', 'DUAL'):
+        for name in ('VERTICES', 'EDGES', 'NODES', 'STORE', 'WEIGHT', 'DUAL', 'VALUE'):
             self.assertEqual(limits['FB_MOST_' + name], getattr(sizes, 'MOST_' + name))
 
     def test_cases_and_calls_are_those_of_the_package(self):
         cases = dict(re.findall(r'(FB_\w+) = (\d+)', header()[header().index('/* Cases of an answer') :]))
         self.assertEqual(sorted(map(int, cases.values())), sorted(answers.CASES))
         declared = {name: text for name, text in re.findall(r'size_t (fb_\w+)\(([^)]*)\)', header())}
-        rows = {c.symbol: c for c in [calls.OPEN, *calls.CALLS.values()]}
+        rows = {c.symbol: c for c in [calls.OPEN, calls.OPEN_SHEET, *calls.CALLS.values()]}
         self.assertEqual(set(declared), set(rows))
         for symbol, row in rows.items():
             self.assertEqual(len(row.types()), declared[symbol].count(',') + 1, symbol)

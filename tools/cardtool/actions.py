@@ -3,18 +3,22 @@ import json
 import sys
 
 from . import check, dem, dem_graph, json_form, match, page, picture, records, shots, show, tables
-from .faults import BadInput
-from .files import judge, placed, read, script_from, write, write_script
+from .faults import BadInput, NoAnswer
+from .files import judge, placed, read, script_in, write, write_script
 from .plain import complain, say
 from .run import Run
+from .script import LIBRARY_SIZES
 from .standing import of_run as standing_of
 from .words import Item
 
 
 def do_encode(args, name):
-    script = script_from(read(args.file))
+    script = script_in(args.file)
     if script.form == 'records':
         raise BadInput('these are records already')
+    if script.sheet is not None and script.graph.vanished is None:
+        number, at, what = script.graph.fault(LIBRARY_SIZES)
+        raise NoAnswer(f'no weights for the records: refused {number}: {what}', at)
     data = script.records()
     if args.out:
         with open(args.out, 'wb') as f:
@@ -39,7 +43,7 @@ def do_decode(args, name):
 
 
 def do_run(args, name):
-    run = Run(script_from(read(args.file)))
+    run = Run(script_in(args.file))
     if args.json:
         write(args.out, json.dumps(json_form.run_of(run), indent=1) + '\n')
     else:
@@ -49,7 +53,7 @@ def do_run(args, name):
 
 
 def do_table(args, name):
-    run = Run(script_from(read(args.file)))
+    run = Run(script_in(args.file))
     table = run.table()
     rows = [[e, left, right] for e, (left, right) in enumerate(table)]
     write(args.out, json.dumps({'table': rows}) + '\n' if args.json else tables.as_csv(table))
@@ -57,7 +61,7 @@ def do_table(args, name):
 
 
 def do_check(args, name):
-    script = script_from(read(args.file))
+    script = script_in(args.file)
     table, duals = None, None
     for path, reader in ((args.table, tables.captured), (args.duals, tables.captured_duals)):
         if path:
@@ -79,7 +83,7 @@ def do_check(args, name):
 
 
 def do_explain(args, name):
-    checked = check.Checked(script_from(read(args.file)))
+    checked = check.Checked(script_in(args.file))
     if not 0 <= args.edge < len(checked.graph.edges):
         raise BadInput(f'edge {args.edge}: the graph has 0 to {len(checked.graph.edges) - 1}')
     table = checked.read()
@@ -89,7 +93,7 @@ def do_explain(args, name):
 
 
 def do_draw(args, name):
-    run = Run(script_from(read(args.file)))
+    run = Run(script_in(args.file))
     standing = standing_of(run)
     bad = sum(1 for _ in run.unexpected())
     notes = [f"{bad} call{'s' if bad > 1 else ''} refused, or not answered as expected."] if bad else []
@@ -98,7 +102,7 @@ def do_draw(args, name):
 
 
 def do_page(args, name):
-    out, run = page.page(script_from(read(args.file)))
+    out, run = page.page(script_in(args.file))
     write(args.out, out)
     return judge(name, run)
 
@@ -106,7 +110,7 @@ def do_page(args, name):
 def do_import(args, name):
     model = dem.read(read(args.file))
     title = args.title or f"{name.rsplit('/', 1)[-1]}"
-    script, notes = dem_graph.script(model, args.greatest, args.component, title)
+    script, notes = dem_graph.script(model, args.greatest, args.component, title, args.sheet)
     if args.shots or args.fired:
         try:
             data, which = (read(args.shots), args.shot) if args.shots else (args.fired.encode(), 0)
@@ -136,7 +140,7 @@ def do_import(args, name):
 
 
 def do_match(args, name):
-    script = script_from(read(args.file))
+    script = script_in(args.file)
     found, module = match.matched(script)
     if args.out:
         write_script(args.out, script, False)

@@ -50,6 +50,9 @@ COMMANDS = {
             '--greatest': dict(
                 type=int, default=1_000_000, metavar='W', help='what the greatest weight becomes (even)'
             ),
+            '--sheet': dict(
+                action='store_true', help='weights as decimals of four places, of which the library makes even numbers'
+            ),
             '--component': dict(
                 type=int, metavar='K', help='only one connected part of the detectors, the greatest being 0'
             ),

@@ -2,7 +2,8 @@
 
 Detectors are vertices. Mechanisms with the same detectors are one edge, its probability that of an odd number of
 them. A mechanism of one detector is an edge to a virtual vertex. Weights are ln((1-p)/p), scaled so that the greatest
-becomes `greatest`, each then the nearest even whole number.
+becomes `greatest`, each then the nearest even whole number; or they stand in a sheet, as decimals of four places, and
+the library makes the numbers.
 """
 import math
 from typing import Dict, List, NamedTuple, Tuple
@@ -13,6 +14,7 @@ from cluster_growth import sizes
 from .faults import BadInput
 from .plain import many
 from .script import Script
+from .sheets import counted
 from .words import Item
 
 
@@ -108,6 +110,22 @@ def weights(edges, greatest, notes):
     return out
 
 
+def values(edges, greatest, notes):
+    """The weights of a sheet, in ten-thousandths."""
+    if greatest != sizes.MOST_WEIGHT:
+        raise BadInput(f'--greatest beside --sheet: of a sheet the greatest weight becomes {sizes.MOST_WEIGHT}')
+    logs = [math.log((1 - e.probability) / e.probability) for e in edges]
+    out = [math.floor(10_000 * x + 0.5) for x in logs]
+    if max(out) <= 0:
+        raise BadInput('in four decimal places there is no weight above 0')
+    notes.lines.append(
+        f'weights are ln((1-p)/p) from {min(logs):.4g} to {max(logs):.4g}, to four decimal places: off by at most '
+        f'{max(abs(v / 10_000 - x) for v, x in zip(out, logs)):.2g}'
+    )
+    notes.lines.append(counted(out, sum(0 < 1_000_000 * v < max(out) for v in out)))
+    return out
+
+
 def direction(vertex, at, near):
     """Away from the neighbours in the plane."""
     x, y = at[vertex][:2]
@@ -139,7 +157,7 @@ class Places:
         return (round(mine[0] + 0.7 * step * dx, 3), round(mine[1] + 0.7 * step * dy, 3)) + mine[2:]
 
 
-def script(model, greatest=sizes.MOST_WEIGHT, component=None, title=''):
+def script(model, greatest=sizes.MOST_WEIGHT, component=None, title='', sheet=False):
     """The Script of a model, with the notes about what was done, and the detector of each vertex."""
     notes = Notes()
     edges = merged(model, notes)
@@ -161,7 +179,11 @@ def script(model, greatest=sizes.MOST_WEIGHT, component=None, title=''):
             f'virtual ones among them, and {sizes.MOST_EDGES} edges'
             + (f'. --component takes one of the parts of {several[:4]} detectors' if len(several) > 1 else '')
         )
-    return Builder(model, edges, chosen, notes, title).build(weights(edges, greatest, notes))
+    builder = Builder(model, edges, chosen, notes, title)
+    if not sheet:
+        return builder.build(weights(edges, greatest, notes))
+    builder.out.sheet = [(v, None) for v in values(edges, greatest, notes)]
+    return builder.build([0] * len(edges))
 
 
 class Builder:

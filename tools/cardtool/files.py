@@ -3,7 +3,7 @@ import json
 import re
 import sys
 
-from . import json_form, records, text
+from . import json_form, records, sheets, text
 from .faults import BadInput
 from .plain import complain
 from .script import Script
@@ -37,6 +37,16 @@ def write_script(path, script, as_json, comments=()):
         write(path, json.dumps(json_form.script_of(script)) + '\n')
     else:
         write(path, text_of(script, comments))
+
+
+def script_in(path):
+    """The script in a file, with the weights of its sheet; what became of these is said."""
+    script = script_from(read(path))
+    if script.sheet is not None:
+        sheets.weigh(script)
+        if script.graph.vanished is not None:
+            complain(sheets.counted(script.graph.sheet, script.graph.vanished))
+    return script
 
 
 def script_from(data):

@@ -1,6 +1,9 @@
 """Scripts and runs as JSON (docs/FORMS.md has the schema)."""
 import json
 
+from . import package  # noqa: F401
+from cluster_growth import decimal, ten_thousandths
+
 from .faults import BadInput
 from .plain import short
 from .sentences import words
@@ -84,8 +87,10 @@ def script(data):
             sizes.append(whole(data[name], name))
     add = lambda word, fields, place: out.items.append(Item(len(out.items) + 1, word, fields, place))
     add('graph', sizes, 'vertices')
+    out.sheet = sheet_in(data)
     for e, x in enumerate(edges):
-        add('edge', numbers(x, f'edges[{e}]', 3), f'edges[{e}]')
+        ends = numbers(x, f'edges[{e}]', 2 if out.sheet is not None else 3)
+        add('edge', ends + [0] * (3 - len(ends)), f'edges[{e}]')
     for k, v in enumerate(listed(data, 'virtual')):
         add('virtual', [whole(v, f'virtual[{k}]')], f'virtual[{k}]')
     parser.graph_line = 'vertices'
@@ -98,6 +103,23 @@ def script(data):
     )
     out.observables = {int(k): numbers(x, f'observables[{k}]') for k, x in observables.items()}
     return parser.finish()
+
+
+def sheet_in(data):
+    """The values of a sheet, decimals as strings or as numbers, each with its place; None where there is none."""
+    if data.get('sheet') is None:
+        return None
+    out = []
+    for e, x in enumerate(listed(data, 'sheet')):
+        place = f'sheet[{e}]'
+        ok = isinstance(x, (str, int, float)) and not isinstance(x, bool)
+        wanted(ok, place, 'a decimal, as a string or a number')
+        try:
+            out.append((ten_thousandths(str(x)), place))
+        except ValueError as e:
+            raise BadInput(str(e), place) from None
+    wanted(out != [], 'sheet', 'a decimal for each edge')
+    return out
 
 
 def one_call(parser, call, place):
@@ -127,9 +149,11 @@ def graph_of(script):
         'vertices': g.V,
         'nodes': g.N,
         'store': g.L,
-        'edges': [list(e) for e in g.edges],
+        'edges': [list(e[:2] if g.sheet is not None else e) for e in g.edges],
         'virtual': sorted(g.virtual),
     }
+    if g.sheet is not None:
+        out['sheet'] = [decimal(value) for value in g.sheet]
     for left_out, name in (('N', 'nodes'), ('L', 'store')):
         if left_out in g.worked_out:
             del out[name]
@@ -162,6 +186,8 @@ def node_of(node):
 def run_of(run):
     """A run as JSON: the script, each call with its answer, and nodes and table as the last call left them."""
     out = {**graph_of(run.script), 'run_by': run.by, 'refused': run.refused, 'calls': []}
+    if run.script.sheet is not None and not run.refused:
+        out['weights'], out['vanished'] = [w for _, _, w in run.graph.edges], run.graph.vanished
     for i in run.script.calls():
         said = run.answers.get(i.number, [])
         one = {'number': i.number, 'line': i.line, 'call': i.text(), 'answer': said}

@@ -53,7 +53,7 @@ def answer(module, item):
 def opened(graph, kind=DualModule):
     """The graph, opened by the library: a module, or the number of the refusal."""
     try:
-        return kind(graph.V, graph.edges, graph.given, graph.N, graph.L, edge_count=graph.E)
+        return kind(graph.V, graph.edges, graph.given, graph.N, graph.L, edge_count=graph.E, sheet=graph.sheet)
     except Refused as e:
         return e.number
     except NoLibrary as e:

@@ -36,6 +36,8 @@ class Run:
         script = self.script
         if not script.well_formed or script.form == 'records':
             return 'program'
+        if script.sheet is not None:
+            return 'library'
         only = next((i for i in script.items if WORDS[i.word].kind is None), None)
         if only is None and self.graph.within(PROGRAM_SIZES) and (program.built() or not made.available()):
             return 'program'

@@ -15,20 +15,24 @@ LEAST = {name: least for name, (_, least, _) in sizes.SIZES.items()}
 class Graph:
     """What an opening is given.
 
-    `where` has the line, or the record, of the sizes, of each edge and of each virtual vertex.
+    `where` has the line, or the record, of the sizes, of each edge, of each virtual vertex and of each value of the
+    sheet. With a sheet, the weights of the edges are those that the library makes (sheets.py).
     """
 
-    def __init__(self, items):
+    def __init__(self, items, sheet=None):
         at = lambda i: i.line if i.line is not None else f'record {i.number}'
         head = items[0]
         self.V, self.E, self.N, self.L = head.fields
         self.edges = [tuple(i.fields) for i in items if i.word == 'edge']
         self.given = [i.fields[0] for i in items if i.word == 'virtual']
         self.virtual = set(self.given)
+        self.sheet = None if sheet is None else [value for value, _ in sheet]
+        self.vanished = None  # positive values of the sheet that became 0, once the library has opened it
         self.where = {
             'sizes': at(head),
             'edges': [at(i) for i in items if i.word == 'edge'],
             'virtual': [at(i) for i in items if i.word == 'virtual'],
+            'sheet': [line for _, line in sheet or []],
         }
         self.worked_out = []  # of N and L, those that the text left out
 
@@ -48,6 +52,8 @@ class Graph:
                 return 4, self.where['sizes'], f'{k} is {x}; {LEAST[k]} to {limits[k]} can be'
         if len(self.edges) != self.E:
             return 4, self.where['sizes'], f"E is {self.E}, and {many(len(self.edges), 'edge is', 'edges are')} given"
+        if self.sheet is not None and len(self.sheet) != self.E:
+            return 1, self.where['sheet'][0], f"E is {self.E}, and the sheet has {many(len(self.sheet), 'value')}"
         for v, at in zip(self.given, self.where['virtual']):
             if not 0 <= v < self.V:
                 return 3, at, f'virtual names vertex {v}; the graph has 0 to {self.V - 1}'
@@ -59,6 +65,8 @@ class Graph:
                 return 4, at, f'edge {e} has vertex {a} at both ends'
             if not 0 <= w <= sizes.MOST_WEIGHT:
                 return 4, at, f'edge {e} has weight {w}; 0 to {sizes.MOST_WEIGHT} can be'
+        if self.sheet is not None and not any(self.sheet):
+            return 17, self.where['sheet'][0], 'no value of the sheet is positive'
         return None
 
 
@@ -69,6 +77,7 @@ class Script:
         self.items = []
         self.at = {}  # vertex: (x, y) or (x, y, layer)
         self.observables = {}  # number: edges
+        self.sheet = None  # the weights in ten-thousandths, each with the line that it stands in
         self.title = ''
         self.detectors = None  # the detector of each vertex, where the graph was imported
         self.graph = None  # Graph, where the first item is one
@@ -96,7 +105,7 @@ class Script:
         if self.items[0].word == 'graph' and self.items[0].reason is None:
             left_out = ['N', 'L'][len(self.items[0].fields) - 2 :] if len(self.items[0].fields) < 4 else []
             self.items[0].fields += [0] * len(left_out)
-            self.graph = Graph([i for i in self.items if i.word in GRAPH and i.reason is None])
+            self.graph = Graph([i for i in self.items if i.word in GRAPH and i.reason is None], self.sheet)
             self.graph.worked_out = left_out
             for name, x in zip('NL', self.enough()):
                 if name in left_out:

@@ -5,14 +5,18 @@
     prepare NODE DIRECTION     length NODE DIRECTION        length NODE DIRECTION prepared
     grow NODE LENGTH           advance NODE                 representative NODE
     table, contacts, clear     at VERTEX X Y [LAYER]        observable NUMBER EDGE ...
-    bytes HEX...
+    sheet DECIMAL ...          bytes HEX...
 
 N and L may be left out. States are stay, grow, shrink; directions grow, shrink; their numbers stand for them too.
-`at` and `observable` are no calls: where the picture has a vertex, and which edges flip a logical observable. `bytes`
-are records as they are. Behind a call, `→` or `->` gives the answer that is expected.
+`at` and `observable` are no calls: where the picture has a vertex, and which edges flip a logical observable. With
+`sheet`, which has the weights of the edges in their order as decimals, an edge is LEFT RIGHT. `bytes` are records as
+they are. Behind a call, `→` or `->` gives the answer that is expected.
 """
 import difflib
 import re
+
+from . import package  # noqa: F401
+from cluster_growth import ten_thousandths
 
 from .faults import BadInput
 from .plain import short
@@ -22,7 +26,7 @@ from .words import CALLS, GRAPH, NAMED, WORDS, Item
 NUMBER = re.compile(r'-?[0-9]+')
 DECIMAL = re.compile(r'-?[0-9]{1,6}(\.[0-9]+)?')
 HEXADECIMAL = re.compile(r'([0-9a-fA-F]{2})+')
-DIRECTIVES = ('at', 'observable', 'bytes')
+DIRECTIVES = ('at', 'observable', 'sheet', 'bytes')
 
 
 def field(name, word):
@@ -63,6 +67,7 @@ class Parser:
         self.graph_line = self.call_line = None  # where the graph and the first call stand
         self.raw = False  # behind `bytes` the order of records is the writer's affair
         self.placed = []  # (line, vertex)
+        self.bare, self.weighed = None, None  # the first edge without a weight, and with one
 
     def place(self, words, line):
         """Takes `at VERTEX X Y [LAYER]`."""
@@ -84,6 +89,21 @@ class Parser:
         number, *edges = [field('edge' if i else 'observable', w) for i, w in enumerate(words)]
         self.out.observables.setdefault(number, []).extend(edges)
 
+    def values(self, words, line):
+        """Takes `sheet DECIMAL ...`."""
+        if not words:
+            raise ValueError('sheet takes decimals')
+        self.order('sheet', line)
+        self.out.sheet = (self.out.sheet or []) + [(ten_thousandths(w), line) for w in words]
+
+    def edge(self, words, line):
+        """The fields of an edge, whose weight a sheet may give."""
+        if len(words) == 2:
+            self.bare = self.bare or line
+            return fields('edge', words + ['0'])
+        self.weighed = self.weighed or line
+        return fields('edge', words)
+
     def order(self, name, line):
         """Refuses an item that cannot stand here."""
         if self.raw:
@@ -92,12 +112,12 @@ class Parser:
             raise ValueError(f'{name} before the graph: the first word is graph')
         if self.graph_line is not None and name == 'graph':
             raise ValueError(f'a second graph (the first stands in line {self.graph_line})')
-        if self.call_line is not None and name in GRAPH:
+        if self.call_line is not None and (name in GRAPH or name == 'sheet'):
             raise ValueError(f'{name} behind the first call (line {self.call_line}), which opened the graph')
 
     def expected(self, name, answer):
         """The answers behind an arrow."""
-        if name in ('', 'at', 'observable'):
+        if name in ('', 'at', 'observable', 'sheet'):
             raise ValueError('an answer without a call')
         lines = [' '.join(a.split()) for a in answer.split(',')]
         if lines == ['']:
@@ -116,6 +136,8 @@ class Parser:
             self.place(words, line)
         elif name == 'observable':
             self.observe(words)
+        elif name == 'sheet':
+            self.values(words, line)
         elif name == 'bytes':
             if not HEXADECIMAL.fullmatch(''.join(words)):
                 raise ValueError('bytes takes pairs of hexadecimal digits')
@@ -125,7 +147,7 @@ class Parser:
             near = difflib.get_close_matches(name, list(WORDS) + list(DIRECTIVES), 1)
             raise ValueError(f"unknown word '{short(name)}'" + (f"; did you mean '{near[0]}'?" if near else ''))
         else:
-            values = fields(name, words)
+            values = self.edge(words, line) if name == 'edge' else fields(name, words)
             self.order(name, line)
             if name == 'graph':
                 self.graph_line = self.graph_line or line
@@ -141,8 +163,19 @@ class Parser:
         for line, vertex in self.placed:
             if first.word == 'graph' and not 0 <= vertex < first.fields[0]:
                 raise BadInput(f'at names vertex {vertex}; the graph has 0 to {first.fields[0] - 1}', line)
+        self.finish_sheet()
         self.out.settle()
         return self.out
+
+
+    def finish_sheet(self):
+        """Weights stand in the edges or in a sheet, and a sheet is for the library alone."""
+        if self.out.sheet is None and self.bare is not None:
+            raise BadInput('edge takes left right weight; here stand 2', self.bare)
+        if self.out.sheet is not None and self.weighed is not None:
+            raise BadInput('an edge with a weight beside a sheet, which has the weights', self.weighed)
+        if self.out.sheet is not None and self.raw:
+            raise BadInput('bytes are for the program, which takes no sheet', self.out.sheet[0][1])
 
 
 def parse(data):

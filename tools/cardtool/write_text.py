@@ -1,4 +1,7 @@
 """A script as text."""
+from . import package  # noqa: F401
+from cluster_growth import decimal
+
 from .json_form import renumbered
 from .plain import plain
 
@@ -37,7 +40,8 @@ def text_of(script, comments=()):
         out += wrapped('# detectors of vertices 0, 1, ..:', map(str, script.detectors))
     given = [g.V, g.E] + ([g.N] if 'N' not in g.worked_out else []) + ([g.L] if 'L' not in g.worked_out else [])
     out.append('graph ' + ' '.join(map(str, given)))
-    out += packed(f'edge {a} {b} {w}' for a, b, w in g.edges)
+    out += packed(f'edge {a} {b}' if g.sheet is not None else f'edge {a} {b} {w}' for a, b, w in g.edges)
+    out += wrapped('sheet', map(decimal, g.sheet)) if g.sheet else []
     out += packed(f'virtual {v}' for v in sorted(g.virtual))
     out += packed('at ' + ' '.join([str(v)] + [f'{x:.10g}' for x in p]) for v, p in sorted(script.at.items()))
     for number, edges in sorted(script.observables.items()):

@@ -17,12 +17,19 @@ use Rattle.reachable.specs.Reachable.{after}
 use Rattle.table.specs.History.{History, historyAfter, noBlossoms}
 use Rattle.table_claim.specs.Lent.{LentCall, lentOpen, lentDefect, lentBlossom, lentState, lentPrepare, lentLength, lentGrow, lentTable, lentAdvance, lentContacts, lentVertex, lentClear}
 use Rattle.table_claim.specs.Lent.{Returned, opening, returns, returnsList, returnsCount}
+use Rattle.table_claim.specs.Lent.{lentSheet, openingSheet}
+use Rattle.host_sheet.specs.Told.{sheetNumbers, SheetTold}
 use Rattle.table_claim.specs.Run.{Sizes, fedOne, fed, returned}
 
 -- the list says done: it has room for an answer, and in front the number of that case, 7
 pub record SaysDone (list list' : List ℕ) : Type 0 where
   pub room : 5 ≤ length list
   pub first-is : getD list' 0 0 ≡ 7
+
+-- of an opening from a sheet: the number of the case opened, 12
+pub record SaysOpened (list list' : List ℕ) : Type 0 where
+  pub room : 5 ≤ length list
+  pub first-is : getD list' 0 0 ≡ 12
 
 -- ---- lists of calls
 
@@ -33,7 +40,7 @@ pub record Reported : Type 0 where
   pub words : List ℤ
 
 -- From the block b a call leads to the block b', by what the exported function promises. An opening among the calls is one that does not say
--- done.
+-- done, or from a sheet one that does not say opened.
 pub data HostStep (b : List ℤ) : LentCall → List ℕ → Reported → List ℤ → Type 0 where
   fb-open : {t edges virtuals b' : List ℤ} {v e n l k : ℕ} {list list' : List ℕ} → OpenTold b t v e n l edges virtuals b' list list' k → (SaysDone list list' → ⊥)
       → HostStep b (lentOpen t v e n l edges virtuals) list (record { told = list'; count = k; words = [] }) b'
@@ -59,6 +66,9 @@ pub data HostStep (b : List ℤ) : LentCall → List ℕ → Reported → List �
       → HostStep b (lentTable t words) list (record { told = list'; count = k; words = words' }) b
   fb-contacts : {t words words' : List ℤ} {k : ℕ} {list list' : List ℕ} → ContactsTold b t words words' list list' k
       → HostStep b (lentContacts t words) list (record { told = list'; count = k; words = words' }) b
+  fb-open-sheet : {t edges sheet virtuals edges' b' : List ℤ} {v e n l k : ℕ} {list list' : List ℕ}
+      → SheetTold b t v e n l edges sheet virtuals edges' b' list list' k → (SaysOpened list list' → ⊥)
+      → HostStep b (lentSheet t v e n l edges sheet virtuals) list (record { told = list'; count = k; words = edges' }) b'
 
 -- a line of a protocol: a call, the list that is lent for its answer, and what the host had then
 pub record HostExchange : Type 0 where
@@ -89,6 +99,7 @@ numbersIn (opening k) = openNumbers k
 numbersIn (returns a) = answerNumbers a
 numbersIn (returnsList a words) = answerNumbers a
 numbersIn (returnsCount a k words) = countNumbers a k
+numbersIn (openingSheet a edges) = sheetNumbers a
 
 -- and the words of the list that was lent to it, if any
 unfoldable pub wordsIn : Returned → List ℤ
@@ -96,6 +107,7 @@ wordsIn (opening k) = []
 wordsIn (returns a) = []
 wordsIn (returnsList a words) = words
 wordsIn (returnsCount a k words) = words
+wordsIn (openingSheet a edges) = edges
 
 -- the words of that list before the call
 unfoldable pub lentWords : LentCall → List ℤ
@@ -111,6 +123,7 @@ lentWords (lentGrow t n l) = []
 lentWords (lentAdvance t n) = []
 lentWords (lentVertex t n) = []
 lentWords (lentClear t) = []
+lentWords (lentSheet t v e n l edges sheet virtuals) = edges
 
 -- what the host has after a call in state c: the answer of the definitions, or what a list without room for it is told
 unfoldable pub reported : Sizes → State → LentCall → List ℕ → Reported

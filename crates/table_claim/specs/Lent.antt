@@ -10,6 +10,9 @@ use Rattle.graph.specs.Opening.{OpenCalled}
 use Rattle.length.specs.declared.Answer.{Answer}
 use Rattle.lent.specs.Called.{DefectCalled, BlossomCalled, StateCalled, PrepareCalled, LengthCalled, GrowCalled, AdvanceCalled, ClearCalled}
 use Rattle.lent.specs.Called.{VertexRead, TableRead, ContactsRead, ContactsCounted}
+use Rattle.sheet.specs.declared.SheetOpened.{SheetOpened}
+use Rattle.sheet.specs.declared.SheetOpened.the-variants.{Opened, Refused}
+use Rattle.sheet.specs.Called.{SheetCalled}
 
 -- a call with all that it is given beside the block: the scratch t first, numbers, and the words of other lent lists
 pub data LentCall : Type 0 where
@@ -25,6 +28,7 @@ pub data LentCall : Type 0 where
   lentContacts : (t list : List ℤ) → LentCall
   lentVertex : (t : List ℤ) (node : ℕ) → LentCall
   lentClear : (t : List ℤ) → LentCall
+  lentSheet : (t : List ℤ) (v e n l : ℕ) (edges sheet virtuals : List ℤ) → LentCall
 
 -- what the host gets from a call
 pub data Returned : Type 0 where
@@ -32,6 +36,7 @@ pub data Returned : Type 0 where
   returns : Answer → Returned
   returnsList : Answer → List ℤ → Returned  -- and what its lent list holds then
   returnsCount : Answer → ℕ → List ℤ → Returned  -- and how many of its words were written
+  openingSheet : SheetOpened → List ℤ → Returned  -- of an opening from a sheet: its answer, and what the edges hold then
 
 -- From the block b a call leads to the block b', and the host gets r. Reading leaves the block. An opening among the calls is one that is
 -- refused: one that is accepted starts a list of calls of its own.
@@ -52,6 +57,9 @@ pub data Step (b : List ℤ) : LentCall → Returned → List ℤ → Type 0 whe
       → Step b (lentContacts t list) (returnsCount a k list') b
   representative-vertex : {t : List ℤ} {n : ℕ} {a : Answer} → VertexRead b t n a → Step b (lentVertex t n) (returns a) b
   clear : {t b' : List ℤ} {a : Answer} → ClearCalled b t b' a → Step b (lentClear t) (returns a) b'
+  sheet-refused : {t edges sheet virtuals edges' b' : List ℤ} {v e n l k : ℕ}
+      → SheetCalled b t v e n l edges sheet virtuals edges' b' (Refused k)
+      → Step b (lentSheet t v e n l edges sheet virtuals) (openingSheet (Refused k) edges') b'
 
 -- ---- lists of calls
 
@@ -73,3 +81,6 @@ pub data AnySteps : List ℤ → List Exchange → List ℤ → Type 0 where
       → AnySteps b (record { call = k; got = r } ∷ xs) b₂
   one-opening : {b b₁ b₂ t edges virtuals : List ℤ} {v e n l : ℕ} {xs : List Exchange} → OpenCalled b t v e n l edges virtuals b₁ 0
       → AnySteps b₁ xs b₂ → AnySteps b (record { call = lentOpen t v e n l edges virtuals; got = opening 0 } ∷ xs) b₂
+  one-sheet : {b b₁ b₂ t edges sheet virtuals edges' : List ℤ} {v e n l k : ℕ} {xs : List Exchange}
+      → SheetCalled b t v e n l edges sheet virtuals edges' b₁ (Opened k) → AnySteps b₁ xs b₂
+      → AnySteps b (record { call = lentSheet t v e n l edges sheet virtuals; got = openingSheet (Opened k) edges' } ∷ xs) b₂

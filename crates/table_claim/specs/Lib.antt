@@ -2,6 +2,7 @@
 -- calls exported for C (Hosted), the graph and the calls that the records of an input give (Input), a table record and its bytes (Tables), the
 -- program's steps (Program), growths read back from lines (Reading), the dual variable that a vertex carries (Carried). EveryRun has what holds of
 -- every list of calls, Obstacles what a length means in the terms of matching, Printed the theorems about lines; Example and LentExample show that nothing is vacuous. The proofs are in laws/.
+-- FromSheet: runs that begin with an opening from a sheet, with SheetExample.
 pub mod Lent
 pub mod Run
 pub mod EveryRun
@@ -14,8 +15,10 @@ pub mod Program
 pub mod Printed
 pub mod Demand3
 pub mod Theorem
+pub mod FromSheet
 pub mod Obstacles
 pub mod Opens
 pub mod Example
 pub mod LentExample
+pub mod SheetExample
 pub mod laws

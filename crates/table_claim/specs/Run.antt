@@ -1,6 +1,6 @@
 -- A run: an accepted opening and a list of calls. What the definitions give for it, by the calls alone: the state, the answers, the history.
 use Prim.Native.Nat.{ℕ, _*_}
-use mathlib.Core.Path.{_≡_}
+use mathlib.Core.Path.{_≡_, refl}
 use mathlib.Core.Bool.{Bool, true, _&&_}
 use mathlib.Core.List.{List, [], _∷_, _++_, map}
 use lib.IntN.{ℤ, pos}
@@ -23,6 +23,10 @@ use Rattle.table.specs.Answers.{accepted, isDone}
 use Rattle.table.specs.History.{History, entryAt, withGrowState, withAdded, advanceLength, historyAfter, noBlossoms}
 use Rattle.table_claim.specs.Lent.{LentCall, lentOpen, lentDefect, lentBlossom, lentState, lentPrepare, lentLength, lentGrow, lentTable, lentAdvance, lentContacts, lentVertex, lentClear}
 use Rattle.table_claim.specs.Lent.{Returned, opening, returns, returnsList, returnsCount, Exchange, Steps}
+use Rattle.table_claim.specs.Lent.{lentSheet, openingSheet}
+use Rattle.sheet.specs.declared.SheetOpened.the-variants.{Opened, Refused as SheetRefused}
+use Rattle.sheet.specs.Sheet.{valuesFrom}
+use Rattle.sheet.specs.Called.{sheetRefusal, sheetAnswer, sheetEdges}
 
 -- ---- lengths
 
@@ -62,6 +66,7 @@ fedOne z (lentAdvance t n) = ifFits (scratchFits z t) (Advance n)
 fedOne z (lentContacts t list) = ifFits (listFits z 1 t list) Contacts
 fedOne z (lentVertex t n) = ifFits (scratchFits z t) (RepresentativeVertex n)
 fedOne z (lentClear t) = ifFits (scratchFits z t) Clear
+fedOne z (lentSheet t v e n l edges sheet virtuals) = []
 
 unfoldable pub fed : Sizes → List LentCall → List Call
 fed z [] = []
@@ -73,11 +78,15 @@ fed z (k ∷ ks) = fedOne z k ++ fed z ks
 abbrev pub orRefused : Bool → Answer → Answer
 orRefused fits a = if fits then a else Refused 1
 
+-- block and scratch have the lengths that an opening of V, E, N, L asks for
+abbrev pub openFits : Sizes → List ℤ → ℕ → ℕ → ℕ → ℕ → Bool
+openFits z t v e n l =
+    eqb (blockLength (z .vertices) (z .edges) (z .nodes) (z .store)) (blockLength v e n l) && eqb (length t) (scratchLength e)
+
 -- of a call in state c
 unfoldable pub returned : Sizes → State → LentCall → Returned
 returned z c (lentOpen t v e n l edges virtuals) =
-    opening (openRefusal v e n l (edgesFrom edges) (virtualsFrom virtuals)
-    (eqb (blockLength (z .vertices) (z .edges) (z .nodes) (z .store)) (blockLength v e n l) && eqb (length t) (scratchLength e)))
+    opening (openRefusal v e n l (edgesFrom edges) (virtualsFrom virtuals) (openFits z t v e n l))
 returned z c (lentDefect t v x) = returns (orRefused (scratchFits z t) (insertDefect c v x .answer))
 returned z c (lentBlossom t x circle) = returns (orRefused (scratchFits z t) (insertBlossom c x (map toNat circle) .answer))
 returned z c (lentState t n x) = returns (orRefused (scratchFits z t) (setGrowState c n x .answer))
@@ -91,6 +100,9 @@ returned z c (lentContacts t list) =
     (if listFits z 1 t list then length (contacts c) else 0) (if listFits z 1 t list then placed (contacts c) list else list)
 returned z c (lentVertex t n) = returns (orRefused (scratchFits z t) (representativeVertex c n .answer))
 returned z c (lentClear t) = returns (orRefused (scratchFits z t) (clear c .answer))
+returned z c (lentSheet t v e n l edges sheet virtuals) =
+    let k = sheetRefusal v e n l edges sheet virtuals (openFits z t v e n l) in
+    openingSheet (sheetAnswer k (valuesFrom sheet)) (sheetEdges k (valuesFrom sheet) edges)
 
 -- of each call in turn, from state c on
 unfoldable pub returnedFrom : Sizes → State → List LentCall → List Returned
@@ -105,6 +117,8 @@ answerIn (opening k) = if eqb k 0 then Done else Refused k
 answerIn (returns a) = a
 answerIn (returnsList a list) = a
 answerIn (returnsCount a k list) = a
+answerIn (openingSheet (Opened k) edges) = Done
+answerIn (openingSheet (SheetRefused k) edges) = Refused k
 
 -- The history h after a call that was answered a in state c. Of the state only an advance is asked for: how far it went is in no answer.
 unfoldable pub recordedBy : State → History → LentCall → Answer → History
@@ -120,6 +134,7 @@ recordedBy c h (lentLength t n d first) a = h
 recordedBy c h (lentTable t list) a = h
 recordedBy c h (lentContacts t list) a = h
 recordedBy c h (lentVertex t n) a = h
+recordedBy c h (lentSheet t v e n l edges sheet virtuals) a = h
 
 -- line by line, from state c and history h on
 unfoldable pub historyBy : Sizes → State → History → List Exchange → History
@@ -164,6 +179,37 @@ module _ {v : ℕ} {edges : List Edge} {virtuals : List ℕ} (r : LentRun v edge
   abbrev pub WithoutBlossoms : Type 0
   WithoutBlossoms = noBlossoms runStart runCalls ≡ true
 
+-- The run of an opening that was accepted and of the steps behind it.
+abbrev pub lentRunFrom : (b t : List ℤ) (v e n l : ℕ) (edges virtuals : List ℤ) {b₁ b₂ : List ℤ} {xs : List Exchange}
+    → OpenCalled b t v e n l edges virtuals b₁ 0 → Steps b₁ xs b₂ → LentRun v (edgesFrom edges) (virtualsFrom virtuals)
+lentRunFrom b t v e n l edges virtuals {b₁} {b₂} {xs} p q = record {
+  edgeNumber = e;
+  nodeLimit = n;
+  storeLimit = l;
+  before = b;
+  scratch = t;
+  edgeWords = edges;
+  virtualWords = virtuals;
+  edges-are = refl;
+  virtuals-are = refl;
+  first = b₁;
+  opening-is = p;
+  exchanges = xs;
+  last = b₂;
+  steps = q;
+}
+
+-- The exchange that a run begins with: its opening, or one from a sheet that left the words of its edges.
+pub data Begins {v : ℕ} {edges : List Edge} {virtuals : List ℕ} (r : LentRun v edges virtuals) : Exchange → Type 0 where
+  with-open : Begins r (record {
+    call = lentOpen (r .scratch) v (r .edgeNumber) (r .nodeLimit) (r .storeLimit) (r .edgeWords) (r .virtualWords);
+    got = opening 0;
+  })
+  with-sheet : {words sheet : List ℤ} {k : ℕ} → Begins r (record {
+    call = lentSheet (r .scratch) v (r .edgeNumber) (r .nodeLimit) (r .storeLimit) words sheet (r .virtualWords);
+    got = openingSheet (Opened k) (r .edgeWords);
+  })
+
 -- Of the exchanges xs that led to the block b, those since the last opening that was accepted are a run.
 pub record SinceOpening (xs : List Exchange) (b : List ℤ) : Type 0 where
   pub v : ℕ
@@ -171,8 +217,7 @@ pub record SinceOpening (xs : List Exchange) (b : List ℤ) : Type 0 where
   pub virtuals : List ℕ
   pub run : LentRun v edges virtuals
   pub earlier : List Exchange
-  pub all : xs ≡ earlier ++ (record {
-    call = lentOpen (run .scratch) v (run .edgeNumber) (run .nodeLimit) (run .storeLimit) (run .edgeWords) (run .virtualWords);
-    got = opening 0;
-  } ∷ run .exchanges)
+  pub begin : Exchange
+  pub begins : Begins run begin
+  pub all : xs ≡ earlier ++ (begin ∷ run .exchanges)
   pub leads : run .last ≡ b

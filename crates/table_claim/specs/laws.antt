@@ -8,5 +8,6 @@ pub mod Tables
 pub mod Carried
 pub mod Lent
 pub mod Hosted
+pub mod FromSheet
 pub mod Program
 pub mod Demand3

@@ -40,6 +40,7 @@ use Rattle.table.specs.laws.Append.{history-append}
 use Rattle.table.specs.laws.Runs.{end-matches, end-table, end-feasible, tables-tell-duals}
 use Rattle.table_claim.specs.Lent.{LentCall, lentOpen, lentDefect, lentBlossom, lentState, lentPrepare, lentLength, lentGrow, lentTable, lentAdvance, lentContacts, lentVertex, lentClear}
 use Rattle.table_claim.specs.Lent.{Returned, Exchange, Steps}
+use Rattle.table_claim.specs.Lent.{lentSheet}
 use Rattle.table_claim.specs.Run.{Sizes, scratchFits, listFits, callsOf, fedOne, fed, orRefused, returned, returnedFrom, answerIn, recordedBy, historyBy, LentRun, runSizes, runStart, runCalls, lentHistory, WithoutBlossoms}
 use Rattle.table_claim.specs.laws.Steps.{Whole, memory-fits, list-fits, Follows, follows-whole, steps-follow, steps-return}
 
@@ -78,6 +79,7 @@ one-recorded z c h (lentAdvance t n) = by-test (scratchFits z t) (λ e. rw e ref
 one-recorded z c h (lentContacts t list) = by-test (listFits z 1 t list) (λ e. rw e refl) (λ e. rw e refl)
 one-recorded z c h (lentVertex t n) = by-test (scratchFits z t) (λ e. rw e refl) (λ e. rw e refl)
 one-recorded z c h (lentClear t) = by-test (scratchFits z t) (λ e. rw e refl) (λ e. rw (recorded-refused e _ .0, e) refl)
+one-recorded z c h (lentSheet t v e n l edges sheet virtuals) = refl
 
 heads : {x y : Returned} {xs ys : List Returned} → _≡_ {A = List Returned} (x ∷ xs) (y ∷ ys) → (x ≡ y) × (xs ≡ ys)
 heads e = (cc, cc)

@@ -24,6 +24,12 @@ use Rattle.table_claim.specs.Hosted
 use Rattle.table_claim.specs.Hosted.{SaysDone, Reported, HostStep, fb-open, fb-insert-defect, fb-insert-blossom, fb-set-grow-state, fb-prepare, fb-max-update-length, fb-grow, fb-advance, fb-clear, fb-representative-vertex, fb-read-table, fb-contacts}
 use Rattle.table_claim.specs.Hosted.{HostExchange, HostSteps, no-more, one-more, hasRoom, made, numbersIn, wordsIn, lentWords, reported, reportedFrom, HostRun, hostSizes, hostStart}
 use Rattle.table_claim.specs.laws.Steps.{Whole, Follows, step-follows, step-returns, follows-whole}
+use Rattle.sheet.specs.declared.SheetOpened.{SheetOpened}
+use Rattle.sheet.specs.declared.SheetOpened.the-variants.{Opened, Refused as SheetRefused}
+use Rattle.sheet.specs.Called.{SheetCalled}
+use Rattle.host_sheet.specs.Told.{sheetNumbers}
+use Rattle.table_claim.specs.Lent.{lentSheet, openingSheet, sheet-refused}
+use Rattle.table_claim.specs.Hosted.{SaysOpened, fb-open-sheet}
 
 -- ---- the number of the case
 
@@ -84,6 +90,16 @@ record Kept (b : List ℤ) (k : LentCall) (list : List ℕ) (g : Reported) (b' :
   pub count : g .count ≡ shortCount list
   pub words : g .words ≡ lentWords k
 
+-- an opening from a sheet that does not say opened is refused
+sheet-made : {b t edges sheet virtuals edges' b' : List ℤ} {v e n l k : ℕ} {list list' : List ℕ} (a : SheetOpened)
+    → SheetCalled b t v e n l edges sheet virtuals edges' b' a → Tells (sheetNumbers a) list list' k
+    → 5 ≤ length list → (SaysOpened list list' → ⊥)
+    → Made b (lentSheet t v e n l edges sheet virtuals) list (record { told = list'; count = k; words = edges' }) b'
+unfolding numbersIn wordsIn sheetNumbers
+sheet-made (Opened j) p t r n = absurd (n (record { room = r; first-is = rw (t .listed) refl }))
+sheet-made {edges' = edges'} (SheetRefused j) p t r n =
+    record { got = openingSheet (SheetRefused j) edges'; step = sheet-refused p; tells = t; words = refl }
+
 host-made : {b b' : List ℤ} {c : LentCall} {list : List ℕ} {g : Reported} → HostStep b c list g b' → 5 ≤ length list → Made b c list g b'
 unfolding numbersIn wordsIn
 host-made (fb-open p n) r =
@@ -116,6 +132,7 @@ host-made (fb-contacts {words' = words'} p) r =
       tells = s .tells;
       words = refl;
     }
+host-made (fb-open-sheet p n) r = let s = p .told r in sheet-made (s .answer) (s .says) (s .tells) r n
 
 host-kept : {b b' : List ℤ} {c : LentCall} {list : List ℕ} {g : Reported} → HostStep b c list g b' → length list < 5 → Kept b c list g b'
 unfolding lentWords
@@ -131,6 +148,7 @@ host-kept (fb-clear p) r = let s = p .short r in record { block = s .2; told = s
 host-kept (fb-representative-vertex p) r = let s = p .short r in record { block = refl; told = s .1; count = s .0; words = refl }
 host-kept (fb-read-table p) r = let s = p .short r in record { block = refl; told = s .1; count = s .0; words = s .2 }
 host-kept (fb-contacts p) r = let s = p .short r in record { block = refl; told = s .1; count = s .0; words = s .2 }
+host-kept (fb-open-sheet p n) r = let s = p .short r in record { block = s .2 .0; told = s .1; count = s .0; words = s .2 .1 }
 
 -- ---- a list of calls
 

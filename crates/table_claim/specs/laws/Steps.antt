@@ -32,6 +32,11 @@ use Rattle.table.specs.laws.Append.{after-append}
 use Rattle.table_claim.specs.Lent.{LentCall, lentOpen, Step, open-refused, insert-defect, insert-blossom, set-grow-state, prepare, max-update-length, grow, read-table, advance, contacts, representative-vertex, clear}
 use Rattle.table_claim.specs.Lent.{Returned, opening, returns, returnsList, returnsCount, Exchange, Steps, none, next, AnySteps, no-call, one-call, one-opening}
 use Rattle.table_claim.specs.Run.{Sizes, scratchFits, listFits, callsOf, ifFits, fedOne, fed, orRefused, returned, returnedFrom, SinceOpening}
+use Rattle.table_claim.specs.Run.{lentRunFrom, Begins, with-open, with-sheet}
+use Rattle.table_claim.specs.Lent.{lentSheet, sheet-refused, openingSheet, one-sheet}
+use Rattle.sheet.specs.declared.SheetOpened.the-variants.{Opened}
+use Rattle.sheet.specs.Theorems.{refused-leaves-all, sheet-opens}
+use Rattle.graph.specs.Opening.{OpenCalled}
 
 -- ---- lists of calls
 
@@ -104,6 +109,7 @@ step-follows {z} w (advance {t} {n = n} p) = called-follows w (scratchFits z t) 
 step-follows {z} w (contacts {t} {list} p q) = reading-follows w (listFits z 1 t list) Contacts refl
 step-follows {z} w (representative-vertex {t} {n} p) = reading-follows w (scratchFits z t) (RepresentativeVertex n) refl
 step-follows {z} w (clear {t} p) = called-follows w (scratchFits z t) (memory-fits w t) p Clear refl
+step-follows {z} w (sheet-refused p) = unchanged-follows w (refused-leaves-all p .1)
 
 -- ---- one step: what the host gets
 
@@ -140,6 +146,7 @@ step-returns {z} {b} w (contacts {t} {list} p k) =
     rw (q .0, q .1, counted-by (listFits z 1 t list) (length (contactsOf (stateOf b))) (list-fits w t list 1) k) refl
 step-returns {z} {b} w (representative-vertex {t} {n} p) = ap returns (read-answered (scratchFits z t) (stateOf b) (representativeVertex (stateOf b) n) (memory-fits w t) p)
 step-returns {z} w (clear {t} p) = ap returns (called-answered (scratchFits z t) (memory-fits w t) p)
+step-returns {z} w (sheet-refused p) = rw (p .leaves .answer, p .leaves .edges-are, w .size) refl
 
 -- ---- a list of steps
 
@@ -173,38 +180,44 @@ steps-return {z} {b} w (next {b₁ = b₁} {k = k} {xs = xs} s ss) =
 
 -- ---- since the last opening
 
+-- the run that an accepted opening begins, as the last of the exchanges
+since-it : (b t : List ℤ) (v e n l : ℕ) (edges virtuals : List ℤ) {b₁ b₂ : List ℤ} {xs : List Exchange}
+    (p : OpenCalled b t v e n l edges virtuals b₁ 0) (q : Steps b₁ xs b₂)
+    (x : Exchange) → Begins (lentRunFrom b t v e n l edges virtuals p q) x → SinceOpening (x ∷ xs) b₂
+since-it b t v e n l edges virtuals p q x h = record {
+  v = v;
+  edges = edgesFrom edges;
+  virtuals = virtualsFrom virtuals;
+  run = lentRunFrom b t v e n l edges virtuals p q;
+  earlier = [];
+  begin = x;
+  begins = h;
+  all = refl;
+  leads = refl;
+}
+
 -- one exchange more in front
 earlier-too : (x : Exchange) {xs : List Exchange} {b : List ℤ} → SinceOpening xs b → SinceOpening (x ∷ xs) b
-earlier-too x c = record { v = c .v; edges = c .edges; virtuals = c .virtuals; run = c .run; earlier = x ∷ c .earlier; all = ap (λ l. x ∷ l) (c .all); leads = c .leads }
+earlier-too x c = record {
+  v = c .v;
+  edges = c .edges;
+  virtuals = c .virtuals;
+  run = c .run;
+  earlier = x ∷ c .earlier;
+  begin = c .begin;
+  begins = c .begins;
+  all = ap (λ l. x ∷ l) (c .all);
+  leads = c .leads;
+}
 
 pub cut-at-opening : {b b' : List ℤ} {xs : List Exchange} → AnySteps b xs b' → Steps b xs b' ⊎ SinceOpening xs b'
 cut-at-opening no-call = inl none
 cut-at-opening (one-call {k = k} {r = r} s ss) = ⊎-elim (λ q. inl (next s q)) (λ c. inr (earlier-too (record { call = k; got = r }) c)) (cut-at-opening ss)
 cut-at-opening {b} (one-opening {b₁ = b₁} {b₂ = b₂} {t = t} {edges = edges} {virtuals = virtuals} {v = v} {e = e} {n = n} {l = l} {xs = xs} p ss) =
     ⊎-elim
-    (λ q. inr (record {
-      v = v;
-      edges = edgesFrom edges;
-      virtuals = virtualsFrom virtuals;
-      earlier = [];
-      all = refl;
-      leads = refl;
-      run = record {
-        edgeNumber = e;
-        nodeLimit = n;
-        storeLimit = l;
-        before = b;
-        scratch = t;
-        edgeWords = edges;
-        virtualWords = virtuals;
-        edges-are = refl;
-        virtuals-are = refl;
-        first = b₁;
-        opening-is = p;
-        exchanges = xs;
-        last = b₂;
-        steps = q;
-      };
-    }))
+    (λ q. inr (since-it b t v e n l edges virtuals p q (record { call = lentOpen t v e n l edges virtuals; got = opening 0 }) with-open))
     (λ c. inr (earlier-too (record { call = lentOpen t v e n l edges virtuals; got = opening 0 }) c))
     (cut-at-opening ss)
+cut-at-opening {b} (one-sheet {t = t} {edges = edges} {sheet = sheet} {virtuals = virtuals} {edges' = edges'} {v = v} {e = e} {n = n} {l = l} {k = k} p ss) =
+    let x : Exchange = record { call = lentSheet t v e n l edges sheet virtuals; got = openingSheet (Opened k) edges' } in
+    ⊎-elim (λ q. inr (since-it b t v e n l edges' virtuals (sheet-opens p) q x with-sheet)) (λ c. inr (earlier-too x c)) (cut-at-opening ss)
