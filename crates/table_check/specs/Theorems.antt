@@ -1,0 +1,1 @@
+-- What is proved of the verdict. The proofs are in laws/.

@@ -1,0 +1,1 @@
+-- The laws from which the theorems and the functions' proofs follow.
