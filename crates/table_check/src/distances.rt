@@ -54,7 +54,7 @@ fn mark_preceded(m: &mut [usize], e: usize, edges: &[i64], row: &[i64])
     let mut s = 0;
     while s < 2 * e {
         let t = precedes_at(edges, row, s);
-        marks::mark_if(t, m, words::near(edges, s));
+        marks::mark_if(m, words::near(edges, s), t);
         s += 1;
     }
 }
@@ -63,7 +63,7 @@ fn mark_preceded(m: &mut [usize], e: usize, edges: &[i64], row: &[i64])
 fn settled_at(m: &[usize], row: &[i64], a: usize, u: usize) -> bool
     ensures { λ r. ⌜ r ≡ settledAt (now (m .entry)) (distanceIn (now (row .entry))) a u ⌝ }
 {
-    (u == a) | (2000000000000 <= words::distance_in(row, u)) | marks::marked(m, u)
+    (u == a) | ((2000000000000 <= words::distance_in(row, u)) | marks::marked(m, u))
 }
 
 // Whether every vertex is so.

@@ -14,7 +14,7 @@ fn mark_virtuals(m: &mut [usize], virtuals: &[i64])
 {
     let mut k = 0;
     while k < virtuals.len() {
-        marks::mark_if(true, m, words::number(virtuals, k));
+        marks::mark_if(m, words::number(virtuals, k), true);
         k += 1;
     }
 }
@@ -33,7 +33,7 @@ fn spread_side(m: &mut [usize], edges: &[i64], s: usize) -> bool
     ensures { λ r. ⌜ (r ≡ spreadsAt (now (m .entry)) (now (edges .entry)) s) × (now (m .exit) ≡ spreadSide (now (edges .entry)) (now (m .entry)) s) ⌝ }
 {
     let t = spreads_at(m, edges, s);
-    marks::mark_if(t, m, words::across(edges, s));
+    marks::mark_if(m, words::across(edges, s), t);
     t
 }
 

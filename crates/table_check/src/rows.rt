@@ -133,7 +133,7 @@ pub fn cover(m: &mut [usize], v: usize, row: &[i64], y: usize)
     let mut u = 0;
     while u < v {
         let t = words::distance_in(row, u) < y;
-        marks::mark_if(t, m, u);
+        marks::mark_if(m, u, t);
         u += 1;
     }
 }
