@@ -3,3 +3,10 @@ pub mod Words
 pub mod Loops
 pub mod Side
 pub mod Distinct
+pub mod Marks
+pub mod Wiring
+pub mod Choice
+pub mod Rows
+pub mod Accepted
+pub mod Members
+pub mod Reached

@@ -1,3 +1,6 @@
+use Rattle.table_check.specs.Tests.{tested}
+use mathlib.Core.Path.{_≡_, refl, sym, _∙_, ap}
+use Rattle.table_check.specs.laws.Choice.{both-then, not-both}
 use borrow.Author.Needs.{needs}
 use Rattle.table_check.proofs.check.tested.Statement.{statement}
 use Rattle.table_check.proofs.check.tested.Tie as tie
@@ -12,10 +15,12 @@ rows-right-requires : tie.Need-rows-right-requires
 rows-right-requires c κs = search needs
 
 returns : tie.Need-returns
-returns c = ?
+unfolding tested
+returns c = let r = c .before .before in let p = r .before in rw (c .rows-right .ensures, ← p .positive .ensures, ← r .in-reach .ensures) (both-then _ _ _ (c .before .if1 .taken))
 
 returns-2 : tie.Need-returns-2
-returns-2 c = ?
+unfolding tested
+returns-2 c = let r = c .before in let p = r .before in rw (← p .positive .ensures, ← r .in-reach .ensures) (not-both _ _ _ (c .if1 .left))
 
 pub tested-spec : {M : Type 1} → statement M
 tested-spec =
