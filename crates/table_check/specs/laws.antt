@@ -10,3 +10,7 @@ pub mod Rows
 pub mod Accepted
 pub mod Members
 pub mod Reached
+pub mod Certified
+pub mod Facts
+pub mod Right
+pub mod Verdict

@@ -164,10 +164,10 @@ module _ (v e : ℕ) (edges virtuals : List ℤ) (count : edgesIn edges ≡ e) (
   unfolding allMarked
   marked-reach h a l =
       let l' : a < v = rw (size-is v e edges virtuals count) at l in
-      marks-tell-reach _ ok _ (last .marks) (last .all-spread) a l .0 (marked-has _ a (all-below-at (marked (spreadUntil e edges v (virtualMarks virtuals (replicate v 0)))) v a h l'))
+      marks-tell-reach _ ok _ (last .marks) (last .all-spread) a l .0 (marked-has (spreadUntil e edges v (virtualMarks virtuals (replicate v 0))) a (all-below-at (marked (spreadUntil e edges v (virtualMarks virtuals (replicate v 0)))) v a h l'))
 
   pub reach-marked : VirtualInReach (graphIn v edges virtuals) → allMarked v e edges virtuals (replicate v 0) ≡ true
   unfolding allMarked
   reach-marked h =
       all-below-from (marked (spreadUntil e edges v (virtualMarks virtuals (replicate v 0)))) v
-      (λ a l. let l' : a < graphIn v edges virtuals .size = rw (size-is v e edges virtuals count) l in has-marked _ a (marks-tell-reach _ ok _ (last .marks) (last .all-spread) a l' .1 (h a l')))
+      (λ a l. let l' : a < graphIn v edges virtuals .size = rw (size-is v e edges virtuals count) l in has-marked (spreadUntil e edges v (virtualMarks virtuals (replicate v 0))) a (marks-tell-reach _ ok _ (last .marks) (last .all-spread) a l' .1 (h a l')))
