@@ -2,5 +2,6 @@
 pub mod Handed
 pub mod Verdict
 pub mod Tests
+pub mod Streamed
 pub mod Theorems
 pub mod laws

@@ -2,12 +2,16 @@
 use Prim.Native.Nat.{ℕ}
 use mathlib.Core.Path.{_≡_}
 use mathlib.Core.Logic.{_≢_, _↔_}
+use mathlib.Core.Bool.{true}
 use mathlib.Core.List.{List}
+use lib.ListN.{length}
 use lib.IntN.{ℤ}
 use Rattle.table_check.specs.Handed.{handed}
-use Rattle.table_check.specs.Verdict.{Right, tableRefusal, tableVerdict}
+use Rattle.table_check.specs.Verdict.{Right, sizesRight, lengthsRight, tableRefusal, tableVerdict}
 use Rattle.table_check.specs.declared.Verdict.{Verdict}
 use Rattle.table_check.specs.declared.Verdict.the-variants.{Yes, No, Refused}
+use Rattle.table_check.specs.Streamed.{afterRows, ended}
+use Rattle.table_check.specs.laws.Streamed.{streamed-verdict}
 use Rattle.table_check.specs.laws.Verdict.{verdict-yes, verdict-no, verdict-refused}
 
 module _ (v e : ℕ) (edges virtuals defects duals growths distances : List ℤ) where
@@ -26,3 +30,8 @@ module _ (v e : ℕ) (edges virtuals defects duals growths distances : List ℤ)
   pub refused-exactly : (k : ℕ) → (tableVerdict v e edges virtuals defects duals growths distances ≡ Refused k)
       ↔ ((tableRefusal v e edges virtuals defects duals growths distances ≡ k) × (k ≢ 0))
   refused-exactly = verdict-refused v e edges virtuals defects duals growths distances
+
+  -- Row by row the verdict comes out that the definition gives on the whole.
+  pub row-by-row : sizesRight v e edges ≡ true → lengthsRight v e defects duals growths distances ≡ true
+      → ended e edges growths (afterRows v e edges virtuals defects duals growths distances (length defects)) ≡ tableVerdict v e edges virtuals defects duals growths distances
+  row-by-row = streamed-verdict v e edges virtuals defects duals growths distances

@@ -14,3 +14,4 @@ pub mod Certified
 pub mod Facts
 pub mod Right
 pub mod Verdict
+pub mod Streamed

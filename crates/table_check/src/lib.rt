@@ -8,6 +8,7 @@ pub mod distances; // whether the distances of one defect are the shortest, by a
 pub mod rows; // the row of one defect, and all rows
 pub mod refuse; // what refuses the call
 pub mod check; // the call
+pub mod stream; // the same row by row
 
 // The answer.
 pub enum Verdict {

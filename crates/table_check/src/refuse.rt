@@ -7,6 +7,7 @@ ghost use Prim.Native.Nat.{_≤_, _<_};
 ghost use lib.Dec.{leb, ltb};
 ghost use Rattle.graph.specs.Basic.{all, distinct};
 ghost use Rattle.graph.specs.Word.{toNat};
+ghost use Rattle.table_check.specs.Streamed.{headInRange};
 ghost use Rattle.table_check.specs.Verdict.{sizesRight, lengthsRight, graphInRange, defectsInRange, distancesInRange, numbersRight, tableRefusal};
 use crate::words;
 use graph::sizes;
@@ -94,6 +95,24 @@ pub fn distances_in_range(list: &[i64]) -> bool
     true
 }
 
+// Whether all but the distances is in range.
+pub fn head_in_range(
+    v: usize,
+    e: usize,
+    edges: &[i64],
+    virtuals: &[i64],
+    defects: &[i64],
+    duals: &[i64],
+    growths: &[i64],
+) -> bool
+    requires { ⌜ sizesRight v e (now edges) ≡ true ⌝ }
+    ensures { λ r. ⌜ r ≡ headInRange v (now (edges .entry)) (now (virtuals .entry)) (now (defects .entry)) (now (duals .entry))
+        (now (growths .entry)) ⌝ }
+{
+    graph_in_range(v, e, edges, virtuals)
+        & (defects_in_range(v, defects) & (at_most(duals, 1000000000) & at_most(growths, 1100000000000)))
+}
+
 // Whether every number is in range.
 fn numbers_right(
     v: usize,
@@ -109,9 +128,7 @@ fn numbers_right(
     ensures { λ r. ⌜ r ≡ numbersRight v (now (edges .entry)) (now (virtuals .entry)) (now (defects .entry)) (now (duals .entry))
         (now (growths .entry)) (now (distances .entry)) ⌝ }
 {
-    graph_in_range(v, e, edges, virtuals)
-        & (defects_in_range(v, defects)
-            & (at_most(duals, 1000000000) & (at_most(growths, 1100000000000) & distances_in_range(distances))))
+    head_in_range(v, e, edges, virtuals, defects, duals, growths) & distances_in_range(distances)
 }
 
 // The number of the refusal, 0 where there is none.

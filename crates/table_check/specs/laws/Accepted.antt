@@ -42,7 +42,7 @@ module _ (v e : ℕ) (edges virtuals defects duals growths distances : List ℤ)
   unfolding sizesRight
   sized h = first-passed v e 1 0 edges h
 
-  lengths : lengthsRight v e defects duals growths distances ≡ true
+  pub lengths : lengthsRight v e defects duals growths distances ≡ true
       → (length duals ≡ length defects) × (length growths ≡ 2 * e) × (length distances ≡ length defects * v)
   unfolding lengthsRight
   lengths h =

@@ -1,39 +1,22 @@
-use borrow.Author.Needs.{needs}
+use Rattle.table_check.specs.laws.Streamed.{numbers-split}
 use mathlib.Core.Path.{_≡_, refl, sym, _∙_, ap}
 use Rattle.table_check.specs.Verdict.{sizesRight, numbersRight}
 use Rattle.graph.specs.Open.{sizesOk}
 use Rattle.graph.specs.laws.Size.{sizes-in}
 use Rattle.memory.specs.laws.Open.{first-passed}
+use borrow.Author.Needs.{needs}
 use Rattle.table_check.proofs.refuse.numbers_right.Statement.{statement}
 use Rattle.table_check.proofs.refuse.numbers_right.Tie as tie
 
-graph-in-range-requires : tie.Need-graph-in-range-requires
-graph-in-range-requires c κs = search needs
-
-defects-in-range-requires : tie.Need-defects-in-range-requires
-unfolding sizesRight
-defects-in-range-requires c κs = let s = c .before in let z = first-passed (s .args .v) (s .args .e) 1 0 (s .args .edges .now) (s .pre) in sizes-in _ _ _ _ (z .0) .v-max
-
-at-most-requires : tie.Need-at-most-requires
-at-most-requires c κs = search needs
-
-at-most-requires-2 : tie.Need-at-most-requires-2
-at-most-requires-2 c κs = search needs
+head-in-range-requires : tie.Need-head-in-range-requires
+head-in-range-requires c κs = search needs
 
 distances-in-range-requires : tie.Need-distances-in-range-requires
 distances-in-range-requires c κs = search needs
 
 returns : tie.Need-returns
-unfolding numbersRight
-returns c = cc
+returns c = let a = c .before .before .args in rw (c .before .head-in-range .ensures, c .distances-in-range .ensures) (sym (numbers-split (a .v) (a .e) (a .edges .now) (a .virtuals .now) (a .defects .now) (a .duals .now) (a .growths .now) (a .distances .now)))
 
 pub numbers-right-spec : {M : Type 1} → statement M
 numbers-right-spec =
-    tie.close
-    (tie.spec
-    graph-in-range-requires
-    defects-in-range-requires
-    at-most-requires
-    at-most-requires-2
-    distances-in-range-requires
-    returns)
+    tie.close (tie.spec head-in-range-requires distances-in-range-requires returns)
