@@ -15,7 +15,7 @@ use graph::words as blockwords;
 use memory::given;
 
 // Whether V, E and the number of edges are in range.
-fn sizes_right(v: usize, e: usize, edges: &[i64]) -> bool
+pub fn sizes_right(v: usize, e: usize, edges: &[i64]) -> bool
     ensures { λ r. ⌜ r ≡ sizesRight v e (now (edges .entry)) ⌝ }
 {
     sizes::sizes_ok(v, e, 1, 0) & (given::edges_in(edges) == e)
