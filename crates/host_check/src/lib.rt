@@ -37,6 +37,15 @@ pub extern "C" fn fb_check_table(
     if answer.len() < 5 {
         return host::answer::refuse_short(answer);
     }
-    let a = table_check::check::check_table(v, e, edges, virtuals, defects, duals, growths, distances);
+    let a = table_check::check::check_table(
+        v,
+        e,
+        edges,
+        virtuals,
+        defects,
+        duals,
+        growths,
+        distances,
+    );
     tell_verdict(answer, a)
 }

@@ -8,10 +8,10 @@ ghost use Rattle.table_check.specs.Handed.{distanceIn, rowOf};
 ghost use Rattle.table_check.specs.Verdict.{tableVerdict};
 ghost use Rattle.table_check.specs.Tests.{positiveIn, rowsRight, tested};
 use crate::Verdict;
-use crate::words;
 use crate::reach;
-use crate::rows;
 use crate::refuse;
+use crate::rows;
+use crate::words;
 
 // Whether no edge has weight 0.
 pub fn positive(e: usize, edges: &[i64]) -> bool

@@ -6,8 +6,8 @@ ghost use Prim.Native.Nat.{_*_, _≤_, _<_};
 ghost use Rattle.graph.specs.Basic.{allBelow};
 ghost use Rattle.table_check.specs.Handed.{distanceIn};
 ghost use Rattle.table_check.specs.Tests.{nearIn, marksBy, relaxedAt, precedesAt, settledAt, certified};
-use crate::words;
 use crate::marks;
+use crate::words;
 
 // Whether the distance rises along side s by at most its weight.
 fn relaxed_at(edges: &[i64], row: &[i64], s: usize) -> bool

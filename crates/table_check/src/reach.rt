@@ -5,8 +5,8 @@ ghost use Prim.Native.Nat.{_*_, _≤_, _<_};
 ghost use lib.ListN.{length, replicate};
 ghost use Rattle.graph.specs.Basic.{allBelow};
 ghost use Rattle.table_check.specs.Tests.{marked, spreadsAt, spreadSide, spreadSides, spreadNew, spreadUntil, virtualMarks, allMarked};
-use crate::words;
 use crate::marks;
+use crate::words;
 
 // Every virtual vertex gets a mark.
 fn mark_virtuals(m: &mut [usize], virtuals: &[i64])

@@ -22,12 +22,20 @@ pub fn sizes_right(v: usize, e: usize, edges: &[i64]) -> bool
 }
 
 // Whether there are a dual variable for each defect, two growths for each edge, and v distances for each defect.
-fn lengths_right(v: usize, e: usize, defects: &[i64], duals: &[i64], growths: &[i64], distances: &[i64]) -> bool
+fn lengths_right(
+    v: usize,
+    e: usize,
+    defects: &[i64],
+    duals: &[i64],
+    growths: &[i64],
+    distances: &[i64],
+) -> bool
     requires { ⌜ (1 ≤ v) × (e ≤ 4096) ⌝ }
     ensures { λ r. ⌜ r ≡ lengthsRight v e (now (defects .entry)) (now (duals .entry)) (now (growths .entry)) (now (distances .entry)) ⌝ }
 {
     (duals.len() == defects.len())
-        & ((growths.len() == 2 * e) & ((distances.len() / v == defects.len()) & (distances.len() % v == 0)))
+        & ((growths.len() == 2 * e)
+            & ((distances.len() / v == defects.len()) & (distances.len() % v == 0)))
 }
 
 // Whether the graph is in range.
@@ -62,7 +70,11 @@ fn defects_in_range(v: usize, defects: &[i64]) -> bool
     requires { ⌜ v ≤ 1024 ⌝ }
     ensures { λ r. ⌜ r ≡ defectsInRange v (now (defects .entry)) ⌝ }
 {
-    if given::virtuals_ok(v, defects) { all_distinct(defects) } else { false }
+    if given::virtuals_ok(v, defects) {
+        all_distinct(defects)
+    } else {
+        false
+    }
 }
 
 // Whether every number is at most the limit.
@@ -110,7 +122,8 @@ pub fn head_in_range(
         (now (growths .entry)) ⌝ }
 {
     graph_in_range(v, e, edges, virtuals)
-        & (defects_in_range(v, defects) & (at_most(duals, 1000000000) & at_most(growths, 1100000000000)))
+        & (defects_in_range(v, defects)
+            & (at_most(duals, 1000000000) & at_most(growths, 1100000000000)))
 }
 
 // Whether every number is in range.

@@ -8,9 +8,9 @@ ghost use Rattle.graph.specs.Word.{wordAt};
 ghost use Rattle.distance.specs.Table.{share};
 ghost use Rattle.table_check.specs.Handed.{distanceIn};
 ghost use Rattle.table_check.specs.Tests.{pairAt, virtualAt, sideAt, rowRight, coverMarks, freeAt};
-use crate::words;
-use crate::marks;
 use crate::distances;
+use crate::marks;
+use crate::words;
 
 // Whether the dual variables of defects i and j sum to at most their distance.
 fn pair_at(defects: &[i64], duals: &[i64], row: &[i64], i: usize, j: usize) -> bool
@@ -123,7 +123,8 @@ pub fn row_right(
 {
     let y = words::number(duals, i);
     distances::certified(v, e, edges, words::number(defects, i), row)
-        & (pairs(defects, duals, row, i) & (far(virtuals, row, y) & shares(e, edges, growths, row, y)))
+        & (pairs(defects, duals, row, i)
+            & (far(virtuals, row, y) & shares(e, edges, growths, row, y)))
 }
 
 // The vertices that the defect covers get marks.

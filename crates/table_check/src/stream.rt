@@ -7,20 +7,28 @@ ghost use lib.ListN.{length, replicate};
 ghost use Rattle.table_check.specs.Verdict.{sizesRight};
 ghost use Rattle.table_check.specs.Streamed.{begun, advanced, ended};
 use crate::Verdict;
-use crate::words;
-use crate::reach;
-use crate::rows;
-use crate::refuse;
 use crate::check;
+use crate::reach;
+use crate::refuse;
+use crate::rows;
+use crate::words;
 
 // What is known after some rows; the vertices that a defect covers are marked in a list.
 pub struct Known {
     pub in_range: bool, // every number so far is
-    pub passed: bool,   // every test so far did
+    pub passed: bool, // every test so far did
 }
 
 // Before the first row.
-pub fn begin(v: usize, e: usize, edges: &[i64], virtuals: &[i64], defects: &[i64], duals: &[i64], growths: &[i64]) -> Known
+pub fn begin(
+    v: usize,
+    e: usize,
+    edges: &[i64],
+    virtuals: &[i64],
+    defects: &[i64],
+    duals: &[i64],
+    growths: &[i64],
+) -> Known
     requires { ⌜ sizesRight v e (now edges) ≡ true ⌝ }
     ensures { λ r. ⌜ (r .in_range ≡ begun v e (now (edges .entry)) (now (virtuals .entry)) (now (defects .entry)) (now (duals .entry)) (now (growths .entry)) .inRange)
         × (r .passed ≡ begun v e (now (edges .entry)) (now (virtuals .entry)) (now (defects .entry)) (now (duals .entry)) (now (growths .entry)) .passed) ⌝ }

@@ -12,7 +12,11 @@ use memory::given;
 pub fn number(list: &[i64], i: usize) -> usize
     ensures { λ r. ⌜ (r ≡ wordAt (now (list .entry)) i) × (r < 9223372036854775808) ⌝ }
 {
-    if i < list.len() { words::word(list, i) } else { 0 }
+    if i < list.len() {
+        words::word(list, i)
+    } else {
+        0
+    }
 }
 
 // The distance that a word gives.
@@ -31,7 +35,11 @@ pub fn distance(x: i64) -> usize
 pub fn distance_in(row: &[i64], u: usize) -> usize
     ensures { λ r. ⌜ (r ≡ distanceIn (now (row .entry)) u) × (r ≤ 2000000000001) ⌝ }
 {
-    if u < row.len() { distance(row[u]) } else { 2000000000000 }
+    if u < row.len() {
+        distance(row[u])
+    } else {
+        2000000000000
+    }
 }
 
 // The vertex of side s.

@@ -168,7 +168,18 @@ fn lists(
         return 4;
     }
     let mut m = [0usize; 1024];
-    rows(bytes, &mut m, v, e, edges, virtuals, defects, duals, growths, row)
+    rows(
+        bytes,
+        &mut m,
+        v,
+        e,
+        edges,
+        virtuals,
+        defects,
+        duals,
+        growths,
+        row,
+    )
 }
 
 // Whether the four sizes are in range.

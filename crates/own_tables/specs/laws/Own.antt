@@ -130,7 +130,7 @@ module _ {v : ℕ} {edges : List Edge} {virtuals : List ℕ} (positive : Positiv
   far : (i u : ℕ) → i < length (history r) → Virtual (openedGraph v edges virtuals) u → dualOf (end r) i ≤ dist (openedGraph v edges virtuals) (entryAt (history r) i .vertex) u
   far i u h w =
       let f : vertexHolderAt (end r) u ≡ 0 =
-        only .good .clusters .defect-nodes .virtuals u (λ q. let k = sym (only .graph .virtual-is u) ∙ q in omega arith) in
+      only .good .clusters .defect-nodes .virtuals u (λ q. let k = sym (only .graph .virtual-is u) ∙ q in omega arith) in
       far-off (openedGraph v edges virtuals) (end r) only i (entryAt (history r) i .vertex) (node i h) (at i h) u (λ q. omega arith)
 
   nearest : (i : ℕ) → i < length (history r) → dualOf (end r) i ≤ nearestVirtual (openedGraph v edges virtuals) (entryAt (history r) i .vertex)
@@ -250,15 +250,15 @@ module _ {v : ℕ} {edges : List Edge} {virtuals : List ℕ} (positive : Positiv
   duals-range =
       list-from (λ x. leb x dualLimit) (map toNat duals') 0
       (λ i k.
-        let h : i < length (history r) = omega (arith, k, length-map duals' toNat, dual-count) in
-        le-leb (getD (map toNat duals') i 0) dualLimit (omega (arith, dual-at i h, invariant-numbers (only .good) .nodes i (node i h) .dual)))
+      let h : i < length (history r) = omega (arith, k, length-map duals' toNat, dual-count) in
+      le-leb (getD (map toNat duals') i 0) dualLimit (omega (arith, dual-at i h, invariant-numbers (only .good) .nodes i (node i h) .dual)))
 
   growths-range : all (λ x. leb x growthLimit) (map toNat growths') ≡ true
   unfolding growthTable
   growths-range =
       rw (own .growths-are)
       (list-from (λ x. leb x growthLimit) (end r .sides .growth) 0
-        (λ s k. le-leb (getD (end r .sides .growth) s 0) growthLimit (invariant-numbers (only .good) .sides s (omega (arith, k, only .good .shape .growth)) .growth)))
+      (λ s k. le-leb (getD (end r .sides .growth) s 0) growthLimit (invariant-numbers (only .good) .sides s (omega (arith, k, only .good .shape .growth)) .growth)))
 
   -- the word at place k is that of row k / v and vertex k % v
   distances-range : distancesInRange distances' ≡ true
@@ -273,11 +273,11 @@ module _ {v : ℕ} {edges : List Edge} {virtuals : List ℕ} (positive : Positiv
           let u : k % v < v = mod-lt k above in
           let parts : k / v * v + k % v ≡ k = div-add-mod' k v in
           let i : k / v < length (history r) =
-            by-cases (decLt (k / v) (length (history r))) (λ z. z)
-            (λ z. let q : length (history r) * v ≤ k / v * v = mul-le-mul-right v (omega arith) in absurd (omega (arith, own .distances-long, l, parts, q))) in
+          by-cases (decLt (k / v) (length (history r))) (λ z. z)
+          (λ z. let q : length (history r) * v ≤ k / v * v = mul-le-mul-right v (omega arith) in absurd (omega (arith, own .distances-long, l, parts, q))) in
           let a = entryAt (history r) (k / v) .vertex in
           let w : getD distances' k (negsuc 0) ≡ distanceWord (dist g a (k % v)) =
-            ap (λ (j : ℕ). getD distances' j (negsuc 0)) (sym parts) ∙ own .distances-are (k / v) (k % v) i u in
+          ap (λ (j : ℕ). getD distances' j (negsuc 0)) (sym parts) ∙ own .distances-are (k / v) (k % v) i u in
           let d = dist-capped g (only .formed) a (inside (k / v) i) (k % v) in
           rw (w, word-reads (dist g a (k % v)) d (distance-bounded g (only .formed) a (inside (k / v) i) (k % v))) d
 

@@ -80,11 +80,14 @@ module _ (v e : ℕ) (edges virtuals : List ℤ) (count : edgesIn edges ≡ e) (
             or-cases (eqb u a) (leb unreachable (D u) || marked (precededMarks e edges D) u) (settled u h)
             (λ t. absurd (q (eqb-true u a t)))
             (λ t. or-cases (leb unreachable (D u)) (marked (precededMarks e edges D) u) t
-              (λ z. absurd (omega (arith, leb-true unreachable (D u) z)))
-              (λ z.
-                let p = before u z in
-                (p .0, rw (sides-are v e edges virtuals count) (p .1), near-is v e edges virtuals count (p .0) (p .1) ∙ p .2,
-                rw (across-is v e edges virtuals count (p .0) (p .1), weight-is v e edges virtuals count (p .0) (p .1)) (p .3))))
+            (λ z. absurd (omega (arith, leb-true unreachable (D u) z)))
+            (λ z.
+            let p = before u z in (
+              p .0,
+              rw (sides-are v e edges virtuals count) (p .1),
+              near-is v e edges virtuals count (p .0) (p .1) ∙ p .2,
+              rw (across-is v e edges virtuals count (p .0) (p .1), weight-is v e edges virtuals count (p .0) (p .1)) (p .3),
+            )))
 
     pub certified-shortest : Positive (graphIn v edges virtuals) → (u : ℕ) → D u ≡ dist (graphIn v edges virtuals) a u
     certified-shortest positive = certificate-is-distance (graphIn v edges virtuals) ok a placed positive D certificate
@@ -118,10 +121,10 @@ module _ (v e : ℕ) (edges virtuals : List ℤ) (count : edgesIn edges ≡ e) (
         let k : p .0 < 2 * e = inside (p .0) (p .1) in
         let n : nearIn edges (p .0) ≡ u = sym (near-is v e edges virtuals count (p .0) k) ∙ p .2 in
         let t : D (nearIn edges (p .0)) ≡ D (acrossIn edges (p .0)) + weightIn edges (p .0) =
-          rw (n, is u h, is (acrossIn edges (p .0)) (across-in (p .0) k))
-          (rw (across-is v e edges virtuals count (p .0) k, weight-is v e edges virtuals count (p .0) k) at (p .3)) in
+        rw (n, is u h, is (acrossIn edges (p .0)) (across-in (p .0) k))
+        (rw (across-is v e edges virtuals count (p .0) k, weight-is v e edges virtuals count (p .0) k) at (p .3)) in
         has-marked (marksBy (precedesAt edges D) (nearIn edges) (replicate 1024 0) (2 * e)) u (rw n at (marks-there (precedesAt edges D) (nearIn edges) (replicate 1024 0) (2 * e) (p .0) k (precedes-so (p .0) t)
-          (rw (length-replicate {A = ℕ} 1024 0, n) (omega arith))))
+        (rw (length-replicate {A = ℕ} 1024 0, n) (omega arith))))
 
     settles : (u : ℕ) → u < v → settledAt (precededMarks e edges D) D a u ≡ true
     unfolding settledAt

@@ -108,7 +108,7 @@ module _ (v e : ℕ) (edges virtuals defects duals growths distances : List ℤ)
     covers-there (suc n) i u h k l =
         by-cases (ℕ-discrete i n)
         (λ q. marks-there (coversAt (given n) (wordAt duals n)) (λ x. x) (coveredBy v given duals n) v u k (lt-ltb (given n u) (wordAt duals n) (rw q at l))
-          (rw (covers-length n) (omega (arith, acc .v-max))))
+        (rw (covers-length n) (omega (arith, acc .v-max))))
         (λ q. marks-kept (coversAt (given n) (wordAt duals n)) (λ x. x) (coveredBy v given duals n) v u (covers-there n i u (omega arith) k l))
 
     covers-from : {P : Type 0} (n u : ℕ) → HasMark (coveredBy v given duals n) u → ((i : ℕ) → i < n → given i u < wordAt duals i → P) → P
@@ -135,7 +135,7 @@ module _ (v e : ℕ) (edges virtuals defects duals growths distances : List ℤ)
           let l : s < 2 * e = rw (sides-are v e edges virtuals (acc .edge-count)) at h in
           rw (weight-is v e edges virtuals (acc .edge-count) s l)
           (ltb-true 0 (weightIn edges s) (all-below-at (positiveIn edges) (2 * e) s
-            (and-left (allBelow (positiveIn edges) (2 * e)) (allMarked v e edges virtuals (replicate v 0) && rowsRight v e edges virtuals defects duals growths given) t) l))
+          (and-left (allBelow (positiveIn edges) (2 * e)) (allMarked v e edges virtuals (replicate v 0) && rowsRight v e edges virtuals defects duals growths given) t) l))
 
       reach' : VirtualInReach (graphIn v edges virtuals)
       reach' =
@@ -272,5 +272,5 @@ module _ (v e : ℕ) (edges virtuals defects duals growths distances : List ℤ)
           both (allBelow (positiveIn edges) (2 * e)) _ (all-below-from (positiveIn edges) (2 * e) positive-passes)
           (both (allMarked v e edges virtuals (replicate v 0)) _ (reach-marked v e edges virtuals (acc .edge-count) ok (acc .virtuals-ok) (f .reach))
           (both (allBelow (λ i. rowRight v e edges virtuals defects duals growths (given i) i) (length defects)) _
-            (all-below-from (λ i. rowRight v e edges virtuals defects duals growths (given i) i) (length defects) row-passes)
-            (all-below-from (freeAt edges growths (coveredBy v given duals (length defects))) (2 * e) free-passes)))
+          (all-below-from (λ i. rowRight v e edges virtuals defects duals growths (given i) i) (length defects) row-passes)
+          (all-below-from (freeAt edges growths (coveredBy v given duals (length defects))) (2 * e) free-passes)))

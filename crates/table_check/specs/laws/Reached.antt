@@ -46,7 +46,7 @@ module _ (v e : ℕ) (edges virtuals : List ℤ) (count : edgesIn edges ≡ e) (
           let p = place-of a (virtualsFrom virtuals) (virtual-member v edges virtuals a h w) in
           let q : wordAt virtuals (p .0) ≡ a = sym (virtuals-get virtuals (p .0)) ∙ p .2 in
           rw q at (marks-there (λ k. true) (wordAt virtuals) (replicate v 0) (length virtuals) (p .0) (rw (virtuals-count virtuals) at (p .1)) refl
-            (rw (length-replicate {A = ℕ} v 0) (rw q h)))
+          (rw (length-replicate {A = ℕ} v 0) (rw q h)))
 
       from : (k u : ℕ) → k < length virtuals → wordAt virtuals k ≡ u → ReachesVirtual (graphIn v edges virtuals) u
       from k u l q =
@@ -123,9 +123,10 @@ module _ (v e : ℕ) (edges virtuals : List ℤ) (count : edgesIn edges ≡ e) (
       by-test (spreadsAt x edges k)
       (λ q. clash true refl (rw q at t))
       (λ q.
-        let o = ih (rw q at t) in
-        (still x (sides-kept m r k (omega arith)) k (omega arith) q ∙ o .0,
-        λ s l. by-cases (ℕ-discrete s k) (λ z. rw z (rw (o .0) at q)) (λ z. o .1 s (omega arith))))
+      let o = ih (rw q at t) in (
+        still x (sides-kept m r k (omega arith)) k (omega arith) q ∙ o .0,
+        λ s l. by-cases (ℕ-discrete s k) (λ z. rw z (rw (o .0) at q)) (λ z. o .1 s (omega arith)),
+      ))
 
   -- where no mark is new, none is left to spread
   spread-all : (m : List ℕ) → ((s : ℕ) → s < 2 * e → spreadsAt m edges s ≡ false) → AllSpread (graphIn v edges virtuals) m

@@ -64,7 +64,7 @@ module _ (h : Handed) (ok : WellFormed (h .graph)) (inside : (i : ℕ) → i < d
         pairs = λ i j k l q r. or-cases (eqb i j) (leb (dualAt h i + dualAt h j) (dist g (defectAt h i) (defectAt h j)))
             (all-below-at (λ j. eqb i j || leb (dualAt h i + dualAt h j) (dist g (defectAt h i) (defectAt h j))) (defectCount h) j
             (all-below-at (λ i. allBelow (λ j. eqb i j || leb (dualAt h i + dualAt h j) (dist g (defectAt h i) (defectAt h j))) (defectCount h)) (defectCount h) i
-              (and-left d (x && y) t₄) k) l)
+            (and-left d (x && y) t₄) k) l)
             (λ z. absurd (q (eqb-true i j z)))
             (λ z. leb-true (dualAt h i + dualAt h j) (dist g (defectAt h i) (defectAt h j)) z);
         virtuals = λ i k. leb-true (dualAt h i) (nearestVirtual g (defectAt h i))
@@ -88,7 +88,7 @@ module _ (h : Handed) (ok : WellFormed (h .graph)) (inside : (i : ℕ) → i < d
     c-holds =
         all-below-from (λ i. allBelow (λ u. eqb (h .distance i u) (dist (h .graph) (defectAt h i) u)) (h .graph .size)) (defectCount h)
         (λ i k. all-below-from (λ u. eqb (h .distance i u) (dist (h .graph) (defectAt h i) u)) (h .graph .size)
-          (λ u l. eq-eqb (h .distance i u) (dist (h .graph) (defectAt h i) u) (r .shortest-distances i u k l)))
+        (λ u l. eq-eqb (h .distance i u) (dist (h .graph) (defectAt h i) u) (r .shortest-distances i u k l)))
 
     -- a pair without a way is free
     pair-holds : (i j : ℕ) → i < defectCount h → j < defectCount h → i ≢ j → dualAt h i + dualAt h j ≤ dist (h .graph) (defectAt h i) (defectAt h j)
@@ -101,10 +101,10 @@ module _ (h : Handed) (ok : WellFormed (h .graph)) (inside : (i : ℕ) → i < d
     d-holds =
         all-below-from (λ i. allBelow (λ j. eqb i j || leb (dualAt h i + dualAt h j) (dist (h .graph) (defectAt h i) (defectAt h j))) (defectCount h)) (defectCount h)
         (λ i k. all-below-from (λ j. eqb i j || leb (dualAt h i + dualAt h j) (dist (h .graph) (defectAt h i) (defectAt h j))) (defectCount h)
-          (λ j l. by-cases (ℕ-discrete i j)
-            (λ q. or-left (eqb i j) (leb (dualAt h i + dualAt h j) (dist (h .graph) (defectAt h i) (defectAt h j))) (eq-eqb i j q))
-            (λ q. or-right (eqb i j) (leb (dualAt h i + dualAt h j) (dist (h .graph) (defectAt h i) (defectAt h j)))
-              (le-leb (dualAt h i + dualAt h j) (dist (h .graph) (defectAt h i) (defectAt h j)) (pair-holds i j k l q)))))
+        (λ j l. by-cases (ℕ-discrete i j)
+        (λ q. or-left (eqb i j) (leb (dualAt h i + dualAt h j) (dist (h .graph) (defectAt h i) (defectAt h j))) (eq-eqb i j q))
+        (λ q. or-right (eqb i j) (leb (dualAt h i + dualAt h j) (dist (h .graph) (defectAt h i) (defectAt h j)))
+        (le-leb (dualAt h i + dualAt h j) (dist (h .graph) (defectAt h i) (defectAt h j)) (pair-holds i j k l q)))))
 
     x-holds : virtualsFeasible h ≡ true
     unfolding virtualsFeasible
@@ -197,13 +197,13 @@ module _ (v e : ℕ) (edges virtuals defects duals growths distances : List ℤ)
   owned a p =
       by-cases (decLt a v)
       (λ l.
-        let q = defect-of-dual (map toNat defects) (map toNat duals) a same-count (rw (by-vertex a l) at p) in
-        record {
-          place = q .0;
-          listed = rw (numbers-long defects) at (q .1);
-          vertex = sym (defect-is (q .0)) ∙ q .2;
-          owned-dual = sym (dual-is (q .0)) ∙ q .3 ∙ sym (by-vertex a l);
-        })
+      let q = defect-of-dual (map toNat defects) (map toNat duals) a same-count (rw (by-vertex a l) at p) in
+      record {
+        place = q .0;
+        listed = rw (numbers-long defects) at (q .1);
+        vertex = sym (defect-is (q .0)) ∙ q .2;
+        owned-dual = sym (dual-is (q .0)) ∙ q .3 ∙ sym (by-vertex a l);
+      })
       (λ l. absurd (omega (arith, List·getD-eq-default (dualsByVertex h) 0 {n = a} (omega (arith, vertices-long, size)))))
 
   dual-limit : (a : ℕ) → dual (dualsByVertex h) a ≤ 1_000_000_000
@@ -252,21 +252,21 @@ module _ (v e : ℕ) (edges virtuals defects duals growths distances : List ℤ)
           ≡ share (wordAt duals i) (given v e edges virtuals defects duals growths distances i (nearIn edges s)) (given v e edges virtuals defects duals growths distances i (acrossIn edges s)) (weightIn edges s)
       covered-growth i k c =
           let covers : Covers (graphIn v edges virtuals) (dualsByVertex h) (wordAt defects i) (near (graphIn v edges virtuals) s) =
-            rw (of-defect i k, near-is v e edges virtuals (acc .edge-count) s l, ← shortest i (nearIn edges s) k near-in) c in
+          rw (of-defect i k, near-is v e edges virtuals (acc .edge-count) s l, ← shortest i (nearIn edges s) k near-in) c in
           rw (shortest i (nearIn edges s) k near-in, shortest i (acrossIn edges s) k across-in)
           (rw (of-defect i k, near-is v e edges virtuals (acc .edge-count) s l, across-is v e edges virtuals (acc .edge-count) s l, weight-is v e edges virtuals (acc .edge-count) s l)
-            at (growth-where-covered (graphIn v edges virtuals) wf (dualsByVertex h) feasible (wordAt defects i) s in-sides covers))
+          at (growth-where-covered (graphIn v edges virtuals) wf (dualsByVertex h) feasible (wordAt defects i) s in-sides covers))
 
       free-growth : ((i : ℕ) → i < length defects → wordAt duals i ≤ given v e edges virtuals defects duals growths distances i (nearIn edges s))
           → growth (graphIn v edges virtuals) (dualsByVertex h) s ≡ 0
       free-growth none =
           growth-where-free (graphIn v edges virtuals) wf (dualsByVertex h) feasible s
           (λ a k c.
-            let o = owned a (omega arith) in
-            let c' : dist (graphIn v edges virtuals) a (nearIn edges s) < dual (dualsByVertex h) a = rw (near-is v e edges virtuals (acc .edge-count) s l) at c in
-            let d : dist (graphIn v edges virtuals) (wordAt defects (o .place)) (nearIn edges s) ≡ dist (graphIn v edges virtuals) a (nearIn edges s) =
-              ap (λ (x : ℕ). dist (graphIn v edges virtuals) x (nearIn edges s)) (o .vertex) in
-            absurd (omega (arith, none (o .place) (o .listed), shortest (o .place) (nearIn edges s) (o .listed) near-in, o .owned-dual, c', d)))
+          let o = owned a (omega arith) in
+          let c' : dist (graphIn v edges virtuals) a (nearIn edges s) < dual (dualsByVertex h) a = rw (near-is v e edges virtuals (acc .edge-count) s l) at c in
+          let d : dist (graphIn v edges virtuals) (wordAt defects (o .place)) (nearIn edges s) ≡ dist (graphIn v edges virtuals) a (nearIn edges s) =
+          ap (λ (x : ℕ). dist (graphIn v edges virtuals) x (nearIn edges s)) (o .vertex) in
+          absurd (omega (arith, none (o .place) (o .listed), shortest (o .place) (nearIn edges s) (o .listed) near-in, o .owned-dual, c', d)))
 
   -- ---- from the facts
 
@@ -282,12 +282,12 @@ module _ (v e : ℕ) (edges virtuals defects duals growths distances : List ℤ)
     entry s l =
         find-below (λ i. ltb (given v e edges virtuals defects duals growths distances i (nearIn edges s)) (wordAt duals i)) (length defects)
         (λ i k t.
-          let c = ltb-true (given v e edges virtuals defects duals growths distances i (nearIn edges s)) (wordAt duals i) t in
-          f .covered i s k l c ∙ sym (covered-growth (f .pairs) (f .far) (f .shortest) s l i k c))
+        let c = ltb-true (given v e edges virtuals defects duals growths distances i (nearIn edges s)) (wordAt duals i) t in
+        f .covered i s k l c ∙ sym (covered-growth (f .pairs) (f .far) (f .shortest) s l i k c))
         (λ none.
-          let n : (i : ℕ) → i < length defects → wordAt duals i ≤ given v e edges virtuals defects duals growths distances i (nearIn edges s) =
-            λ i k. ltb-false (given v e edges virtuals defects duals growths distances i (nearIn edges s)) (wordAt duals i) (none i k) in
-          f .free s l n ∙ sym (free-growth (f .pairs) (f .far) (f .shortest) s l n))
+        let n : (i : ℕ) → i < length defects → wordAt duals i ≤ given v e edges virtuals defects duals growths distances i (nearIn edges s) =
+        λ i k. ltb-false (given v e edges virtuals defects duals growths distances i (nearIn edges s)) (wordAt duals i) (none i k) in
+        f .free s l n ∙ sym (free-growth (f .pairs) (f .far) (f .shortest) s l n))
 
     growth-long : length (map toNat growths) ≡ 2 * e
     growth-long = numbers-long growths ∙ acc .growth-count
@@ -297,8 +297,8 @@ module _ (v e : ℕ) (edges virtuals defects duals growths distances : List ℤ)
         ext-getD 0 (map toNat growths) (tableFromDistances (graphIn v edges virtuals) (dualsByVertex h))
         (growth-long ∙ sym (sides-are v e edges virtuals (acc .edge-count)) ∙ sym (length-tableFromDistances (graphIn v edges virtuals) (dualsByVertex h)))
         (λ s l.
-          let k : s < 2 * e = rw growth-long at l in
-          numbers-at growths s ∙ entry s k ∙ sym (at-tableFromDistances (graphIn v edges virtuals) (dualsByVertex h) s (rw (sides-are v e edges virtuals (acc .edge-count)) k)))
+        let k : s < 2 * e = rw growth-long at l in
+        numbers-at growths s ∙ entry s k ∙ sym (at-tableFromDistances (graphIn v edges virtuals) (dualsByVertex h) s (rw (sides-are v e edges virtuals (acc .edge-count)) k)))
 
     facts-right : Right h
     facts-right = record {

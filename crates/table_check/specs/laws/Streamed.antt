@@ -67,7 +67,7 @@ module _ (v e : ℕ) (edges virtuals defects duals growths distances : List ℤ)
   after-passed (suc n) =
       rw (after-passed n)
       (and-assoc (allBelow (positiveIn edges) (2 * e) && allMarked v e edges virtuals (replicate v 0))
-        (allBelow (λ i. rowRight v e edges virtuals defects duals growths (D i) i) n) (rowRight v e edges virtuals defects duals growths (D n) n))
+      (allBelow (λ i. rowRight v e edges virtuals defects duals growths (D i) i) n) (rowRight v e edges virtuals defects duals growths (D n) n))
 
   after-marks : (n : ℕ) → afterRows v e edges virtuals defects duals growths distances n .marks ≡ coveredBy v D duals n
   unfolding afterRows begun advanced coveredBy
@@ -119,6 +119,6 @@ module _ (v e : ℕ) (edges virtuals defects duals growths distances : List ℤ)
     streamed-verdict =
         by-test (numbersRight v edges virtuals defects duals growths distances)
         (λ t.
-          let z : tableRefusal v e edges virtuals defects duals growths distances ≡ 0 = refusal-is true t in
-          rw (range-is, t, tested-split, tested-right v e edges virtuals defects duals growths distances (accepted-of v e edges virtuals defects duals growths distances z), z))
+        let z : tableRefusal v e edges virtuals defects duals growths distances ≡ 0 = refusal-is true t in
+        rw (range-is, t, tested-split, tested-right v e edges virtuals defects duals growths distances (accepted-of v e edges virtuals defects duals growths distances z), z))
         (λ t. let z : tableRefusal v e edges virtuals defects duals growths distances ≡ 4 = refusal-is false t in rw (range-is, t, z))

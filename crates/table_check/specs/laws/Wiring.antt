@@ -62,18 +62,18 @@ module _ (v e : ℕ) (edges virtuals : List ℤ) (count : edgesIn edges ≡ e) w
     near-is =
         by-parity (getD (endsOf (edgesFrom edges)) s 0 ≡ givenAt edges (3 * (s / 2) + s % 2)) s
         (λ p. let q : 2 * (s / 2) ≡ s = omega arith in let r : 3 * (s / 2) + s % 2 ≡ 3 * (s / 2) = omega arith in
-          rw r (rw q at (left-is (s / 2) (omega arith))))
+        rw r (rw q at (left-is (s / 2) (omega arith))))
         (λ p. let q : 2 * (s / 2) + 1 ≡ s = omega arith in let r : 3 * (s / 2) + s % 2 ≡ 3 * (s / 2) + 1 = omega arith in
-          rw r (rw q at (right-is (s / 2) (omega arith))))
+        rw r (rw q at (right-is (s / 2) (omega arith))))
 
     pub across-is : across (graphIn v edges virtuals) s ≡ acrossIn edges s
     unfolding across acrossIn opposite openedGraph
     across-is =
         by-parity (getD (endsOf (edgesFrom edges)) (s + 1 - 2 * (s % 2)) 0 ≡ givenAt edges (3 * (s / 2) + (1 - s % 2))) s
         (λ p. let q : 2 * (s / 2) + 1 ≡ s + 1 - 2 * (s % 2) = omega arith in let r : 3 * (s / 2) + (1 - s % 2) ≡ 3 * (s / 2) + 1 = omega arith in
-          rw r (rw q at (right-is (s / 2) (omega arith))))
+        rw r (rw q at (right-is (s / 2) (omega arith))))
         (λ p. let q : 2 * (s / 2) ≡ s + 1 - 2 * (s % 2) = omega arith in let r : 3 * (s / 2) + (1 - s % 2) ≡ 3 * (s / 2) = omega arith in
-          rw r (rw q at (left-is (s / 2) (omega arith))))
+        rw r (rw q at (left-is (s / 2) (omega arith))))
 
     pub weight-is : weight (graphIn v edges virtuals) s ≡ weightIn edges s
     unfolding weight weightIn openedGraph edgeAt

@@ -88,10 +88,10 @@ rows-fit k n v h = by-test (eqb k (n * v)) yes' no'
     no' e =
         by-test (eqb (k / v) n && eqb (k % v) 0)
         (λ t.
-          let d : k / v ≡ n = eqb-true _ _ (and-left (eqb (k / v) n) (eqb (k % v) 0) t) in
-          let r : k % v ≡ 0 = eqb-true _ _ (and-right (eqb (k / v) n) (eqb (k % v) 0) t) in
-          let q : k ≡ n * v = sym (div-add-mod' k v) ∙ ap (λ x. x * v + k % v) d ∙ ap (λ x. n * v + x) r ∙ add-zero (n * v) in
-          absurd (eqb-false k (n * v) e q))
+        let d : k / v ≡ n = eqb-true _ _ (and-left (eqb (k / v) n) (eqb (k % v) 0) t) in
+        let r : k % v ≡ 0 = eqb-true _ _ (and-right (eqb (k / v) n) (eqb (k % v) 0) t) in
+        let q : k ≡ n * v = sym (div-add-mod' k v) ∙ ap (λ x. x * v + k % v) d ∙ ap (λ x. n * v + x) r ∙ add-zero (n * v) in
+        absurd (eqb-false k (n * v) e q))
         (λ t. t ∙ sym e)
 
 -- ---- a list of numbers
