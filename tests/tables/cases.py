@@ -209,3 +209,10 @@ def seeded(seed, count):
             if count > 0 and numbers(t):
                 yield changed(t, rng.randrange(numbers(t)), rng.choice(CHANGES))
                 count -= 1
+
+
+def file():
+    """The file that the gate hands to the program: the stored tables, counts that fit no table, and an end inside one."""
+    count = lambda x: x.to_bytes(8, 'little', signed=True)  # noqa: E731
+    whole = b''.join(reading.words(*t) for t in stored())
+    return whole + count(0) + count(3) + 24 * b'\7' + count(9) + 72 * b'\xff' + reading.words(*worked(*P1)) + reading.words(*worked(*P8))[:-5]

@@ -98,3 +98,41 @@ def words(v, e, edges, virtuals, defects, duals, growths, distances):
     """A table as the program reads it: the count of words, then the words, 8 bytes each, little-endian."""
     numbers = [v, e, len(virtuals), len(defects), *edges, *virtuals, *defects, *duals, *growths, *distances]
     return b"".join(int(x).to_bytes(8, "little", signed=True) for x in [len(numbers), *numbers])
+
+
+MOST = (1 << 63) - 1  # a negative word counts as this
+
+
+def sizes_of(head):
+    """The four sizes of a table in a file, None where one is out of range."""
+    v, e, k, n = (MOST if x < 0 else x for x in head)
+    return (v, e, k, n) if 1 <= v <= 1024 and 1 <= e <= 4096 and k <= v and n <= v else None
+
+
+def lines(data):
+    """The lines of a file: its tables one after another. Nothing is said behind a table that input ends in."""
+    numbers = [int.from_bytes(data[i:i + 8], "little", signed=True) for i in range(0, len(data) - 7, 8)]
+    at, k = 0, 0
+    while 8 * at < len(data):
+        k += 1
+        if at == len(numbers):
+            yield f"{k} refused 1"
+            return
+        count = MOST if numbers[at] < 0 else numbers[at]
+        words = numbers[at + 1:at + 1 + count]
+        at += 1 + count
+        if len(words) < count:
+            yield f"{k} refused 1"
+            return
+        sizes = sizes_of(words[:4]) if count >= 4 else None
+        if count < 4:
+            yield f"{k} refused 1"
+        elif not sizes:
+            yield f"{k} refused 4"
+        else:
+            v, e, m, n = sizes
+            parts, rest = [], words[4:]
+            for size in (3 * e, m, n, n, 2 * e):
+                parts, rest = parts + [rest[:size]], rest[size:]
+            whole = count == 4 + 5 * e + m + 2 * n + n * v
+            yield f"{k} {verdict(v, e, *parts, rest) if whole else 'refused 1'}"

@@ -3,9 +3,10 @@
 
 ghost use mathlib.Core.Path.{_≡_};
 ghost use mathlib.Core.Bool.{true};
-ghost use Prim.Native.Nat.{_+_, _*_, _≤_, _<_};
+ghost use Prim.Native.Nat.{_+_, _*_, _≤_, _<_, min};
 ghost use lib.ListN.{length};
 ghost use Rattle.table_check.specs.Verdict.{sizesRight};
+ghost use Rattle.tablecheck.specs.File.{fileSizes, fileWords};
 use graph::words;
 use libc::STDIN_FILENO;
 use libc::STDOUT_FILENO;
@@ -30,12 +31,20 @@ fn four(b: &[u8], i: usize) -> usize
     wide(b[i]) + 256 * wide(b[i + 1]) + 65536 * wide(b[i + 2]) + 16777216 * wide(b[i + 3])
 }
 
+// A number of 64 bits with its sign.
+fn signed(x: usize) -> i64 {
+    if x < 9223372036854775808 {
+        x as i64
+    } else {
+        -1 - (18446744073709551615 - x) as i64
+    }
+}
+
 // The word of 8 bytes at place i.
 fn word(b: &[u8], i: usize) -> i64
     requires { ⌜ i + 7 < length (now b) ⌝ }
 {
-    let x = four(b, i) + 4294967296 * four(b, i + 4);
-    x as i64
+    signed(four(b, i) + 4294967296 * four(b, i + 4))
 }
 
 // Words of bytes.
@@ -65,7 +74,7 @@ fn read_some(bytes: &mut [u8], list: &mut [i64]) -> bool
 
 // The lesser number.
 fn lesser(x: usize, y: usize) -> usize
-    ensures { λ r. ⌜ (r ≤ x) × (r ≤ y) × (0 < x → 0 < y → 0 < r) ⌝ }
+    ensures { λ r. ⌜ r ≡ min x y ⌝ }
 {
     if x <= y { x } else { y }
 }
@@ -127,7 +136,7 @@ fn rows(
     growths: &[i64],
     row: &mut [i64],
 ) -> usize
-    requires { ⌜ (length (now bytes) ≡ 8192) × (length (now row) ≤ 1024) × (e ≤ 4096) × (sizesRight v e (now edges) ≡ true) ⌝ }
+    requires { ⌜ (length (now bytes) ≡ 8192) × (length (now row) ≤ 1024) × (length (now defects) ≤ 1024) × (e ≤ 4096) × (sizesRight v e (now edges) ≡ true) ⌝ }
 {
     let mut k = stream::begin(v, e, edges, virtuals, defects, duals, growths);
     let mut i = 0;
@@ -142,6 +151,58 @@ fn rows(
     number(stream::end(k, m, e, edges, growths))
 }
 
+// Two lists are read; whether they were there.
+fn read_two(bytes: &mut [u8], first: &mut [i64], second: &mut [i64]) -> bool
+    requires { ⌜ length (now bytes) ≡ 8192 ⌝ }
+{
+    if read_list(bytes, first) {
+        read_list(bytes, second)
+    } else {
+        false
+    }
+}
+
+// All lists but the rows are read; whether they were there.
+fn read_lists(
+    bytes: &mut [u8],
+    edges: &mut [i64],
+    virtuals: &mut [i64],
+    defects: &mut [i64],
+    duals: &mut [i64],
+    growths: &mut [i64],
+) -> bool
+    requires { ⌜ length (now bytes) ≡ 8192 ⌝ }
+{
+    if !read_two(bytes, edges, virtuals) {
+        return false;
+    }
+    if !read_two(bytes, defects, duals) {
+        return false;
+    }
+    read_list(bytes, growths)
+}
+
+// The rows of a table whose other lists are read.
+fn checked(
+    bytes: &mut [u8],
+    v: usize,
+    e: usize,
+    edges: &[i64],
+    virtuals: &[i64],
+    defects: &[i64],
+    duals: &[i64],
+    growths: &[i64],
+    row: &mut [i64],
+) -> usize
+    requires { ⌜ (length (now bytes) ≡ 8192) × (length (now row) ≤ 1024) × (length (now defects) ≤ 1024) × (e ≤ 4096) ⌝ }
+{
+    if !refuse::sizes_right(v, e, edges) {
+        return 4;
+    }
+    let mut m = [0usize; 1024];
+    rows(bytes, &mut m, v, e, edges, virtuals, defects, duals, growths, row)
+}
+
 // A table whose four sizes fit: its lists are read, then its rows.
 fn lists(
     bytes: &mut [u8],
@@ -154,53 +215,26 @@ fn lists(
     growths: &mut [i64],
     row: &mut [i64],
 ) -> usize
-    requires { ⌜ (length (now bytes) ≡ 8192) × (length (now row) ≤ 1024) × (e ≤ 4096) ⌝ }
+    requires { ⌜ (length (now bytes) ≡ 8192) × (length (now row) ≤ 1024) × (length (now defects) ≤ 1024) × (e ≤ 4096) ⌝ }
 {
-    let a = read_list(bytes, edges);
-    let b = read_list(bytes, virtuals);
-    let c = read_list(bytes, defects);
-    let d = read_list(bytes, duals);
-    let f = read_list(bytes, growths);
-    if !(a & (b & (c & (d & f)))) {
-        return 3;
+    if read_lists(bytes, edges, virtuals, defects, duals, growths) {
+        checked(bytes, v, e, edges, virtuals, defects, duals, growths, row)
+    } else {
+        3
     }
-    if !refuse::sizes_right(v, e, edges) {
-        return 4;
-    }
-    let mut m = [0usize; 1024];
-    rows(
-        bytes,
-        &mut m,
-        v,
-        e,
-        edges,
-        virtuals,
-        defects,
-        duals,
-        growths,
-        row,
-    )
 }
 
 // Whether the four sizes are in range.
 fn sizes_fit(v: usize, e: usize, k: usize, n: usize) -> bool
-    ensures { λ r. ⌜ r ≡ true → (v ≤ 1024) × (e ≤ 4096) × (k ≤ 1024) × (n ≤ 1024) ⌝ }
+    ensures { λ r. ⌜ r ≡ fileSizes v e k n ⌝ }
 {
-    if (v < 1) | (1024 < v) {
-        return false;
-    }
-    if (e < 1) | (4096 < e) {
-        return false;
-    }
-    if v < k {
-        return false;
-    }
-    n <= v
+    (1 <= v) & ((v <= 1024) & ((1 <= e) & ((e <= 4096) & ((k <= v) & (n <= v)))))
 }
 
 // How many words a table of these sizes has.
 fn words_of(v: usize, e: usize, k: usize, n: usize) -> usize
     requires { ⌜ (v ≤ 1024) × (e ≤ 4096) × (k ≤ 1024) × (n ≤ 1024) ⌝ }
+    ensures { λ r. ⌜ r ≡ fileWords v e k n ⌝ }
 {
     4 + 5 * e + k + 2 * n + n * v
 }
@@ -212,27 +246,10 @@ fn refused(bytes: &mut [u8], left: usize, x: usize) -> usize
     if pass_over(bytes, left) { x } else { 3 }
 }
 
-// A table of `count` words.
-fn table(bytes: &mut [u8], count: usize) -> usize
-    requires { ⌜ length (now bytes) ≡ 8192 ⌝ }
+// A table of these sizes, in lists of its own.
+fn sized(bytes: &mut [u8], v: usize, e: usize, k: usize, n: usize) -> usize
+    requires { ⌜ (length (now bytes) ≡ 8192) × (v ≤ 1024) × (e ≤ 4096) × (k ≤ 1024) × (n ≤ 1024) ⌝ }
 {
-    if count < 4 {
-        return refused(bytes, count, 2);
-    }
-    let mut head = [0i64; 4];
-    if !read_some(bytes, &mut head) {
-        return 3;
-    }
-    let v = words::word(&head, 0);
-    let e = words::word(&head, 1);
-    let k = words::word(&head, 2);
-    let n = words::word(&head, 3);
-    if !sizes_fit(v, e, k, n) {
-        return refused(bytes, count - 4, 4);
-    }
-    if count != words_of(v, e, k, n) {
-        return refused(bytes, count - 4, 2);
-    }
     let mut edges = [0i64; 12288];
     let mut virtuals = [0i64; 1024];
     let mut defects = [0i64; 1024];
@@ -250,6 +267,37 @@ fn table(bytes: &mut [u8], count: usize) -> usize
         &mut growths[0..2 * e],
         &mut row[0..v],
     )
+}
+
+// A table of these sizes; its other words are passed over where they are not as many as the sizes say.
+fn counted(bytes: &mut [u8], left: usize, v: usize, e: usize, k: usize, n: usize) -> usize
+    requires { ⌜ (length (now bytes) ≡ 8192) × (left < 9223372036854775808) ⌝ }
+{
+    if !sizes_fit(v, e, k, n) {
+        return refused(bytes, left, 4);
+    }
+    if 4 + left != words_of(v, e, k, n) {
+        return refused(bytes, left, 2);
+    }
+    sized(bytes, v, e, k, n)
+}
+
+// A table of `count` words.
+fn table(bytes: &mut [u8], count: usize) -> usize
+    requires { ⌜ (length (now bytes) ≡ 8192) × (count < 9223372036854775808) ⌝ }
+{
+    if count < 4 {
+        return refused(bytes, count, 2);
+    }
+    let mut head = [0i64; 4];
+    if !read_some(bytes, &mut head) {
+        return 3;
+    }
+    let v = words::word(&head, 0);
+    let e = words::word(&head, 1);
+    let k = words::word(&head, 2);
+    let n = words::word(&head, 3);
+    counted(bytes, count - 4, v, e, k, n)
 }
 
 // The next table: its count of words, then the words.

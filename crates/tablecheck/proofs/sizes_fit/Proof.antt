@@ -1,0 +1,12 @@
+use borrow.Author.Needs.{needs}
+use mathlib.Core.Path.{_≡_, refl, sym, _∙_, ap}
+use Rattle.tablecheck.specs.File.{fileSizes}
+use Rattle.tablecheck.proofs.sizes_fit.Statement.{statement}
+use Rattle.tablecheck.proofs.sizes_fit.Tie as tie
+
+returns : tie.Need-returns
+unfolding fileSizes
+returns c = refl
+
+pub sizes-fit-spec : {M : Type 1} → statement M
+sizes-fit-spec = tie.close (tie.spec returns)
