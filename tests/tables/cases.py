@@ -137,12 +137,12 @@ def capped_twice_held(t):
     for i in range(t[1]):
         over = growths[2 * i] + growths[2 * i + 1] - t[2][3 * i + 2]
         if over > 0:
-            growths[2 * i + 1] -= over
+            growths[2 * i], growths[2 * i + 1] = min(growths[2 * i], t[2][3 * i + 2]), max(growths[2 * i + 1] - over, 0)
     return (*t[:6], growths, t[7])
 
 
 def halved_stay_gap(t):
-    """A defect beside one that stays grows by half of the gap only: its growth is told without the rest."""
+    """A defect grows by the whole gap, its greatest side only by half of what it has, as if every peer grew too."""
     growths = [x - x // 2 if i == max(range(len(t[6])), key=t[6].__getitem__) else x for i, x in enumerate(t[6])]
     return (*t[:6], growths, t[7])
 
