@@ -200,7 +200,18 @@ fn checked(
         return 4;
     }
     let mut m = [0usize; 1024];
-    rows(bytes, &mut m, v, e, edges, virtuals, defects, duals, growths, row)
+    rows(
+        bytes,
+        &mut m,
+        v,
+        e,
+        edges,
+        virtuals,
+        defects,
+        duals,
+        growths,
+        row,
+    )
 }
 
 // A table whose four sizes fit: its lists are read, then its rows.
