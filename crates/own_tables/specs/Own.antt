@@ -21,7 +21,8 @@ distanceWord d = if ltb d unreachable then pos d else negsuc 0
 
 -- Words that give what the run has: its graph; the vertices and dual variables of its history, in order; its growth table; and for each of
 -- these defects the distance to every vertex.
-pub record Own {v : ℕ} {edges : List Edge} {virtuals : List ℕ} (r : Run v edges virtuals) (edges' virtuals' defects' duals' growths' distances' : List ℤ) : Type 0 where
+pub record Own {v : ℕ} {edges : List Edge} {virtuals : List ℕ} (r : Run v edges virtuals)
+    (edges' virtuals' defects' duals' growths' distances' : List ℤ) : Type 0 where
   pub edges-are : edgesFrom edges' ≡ edges
   pub virtuals-are : virtualsFrom virtuals' ≡ virtuals
   pub defects-are : map toNat defects' ≡ map (λ (x : Entry). x .vertex) (history r)

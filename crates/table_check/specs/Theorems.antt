@@ -33,5 +33,6 @@ module _ (v e : ℕ) (edges virtuals defects duals growths distances : List ℤ)
 
   -- Row by row the verdict comes out that the definition gives on the whole.
   pub row-by-row : sizesRight v e edges ≡ true → lengthsRight v e defects duals growths distances ≡ true
-      → ended e edges growths (afterRows v e edges virtuals defects duals growths distances (length defects)) ≡ tableVerdict v e edges virtuals defects duals growths distances
+      → ended e edges growths (afterRows v e edges virtuals defects duals growths distances (length defects)) ≡ tableVerdict v e edges virtuals
+      defects duals growths distances
   row-by-row = streamed-verdict v e edges virtuals defects duals growths distances

@@ -30,8 +30,10 @@ pub fn begin(
     growths: &[i64],
 ) -> Known
     requires { ⌜ sizesRight v e (now edges) ≡ true ⌝ }
-    ensures { λ r. ⌜ (r .in_range ≡ begun v e (now (edges .entry)) (now (virtuals .entry)) (now (defects .entry)) (now (duals .entry)) (now (growths .entry)) .inRange)
-        × (r .passed ≡ begun v e (now (edges .entry)) (now (virtuals .entry)) (now (defects .entry)) (now (duals .entry)) (now (growths .entry)) .passed) ⌝ }
+    ensures { λ r. ⌜ (r .in_range ≡ begun v e (now (edges .entry)) (now (virtuals .entry)) (now (defects .entry)) (now (duals .entry))
+        (now (growths .entry)) .inRange)
+        × (r .passed ≡ begun v e (now (edges .entry)) (now (virtuals .entry)) (now (defects .entry)) (now (duals .entry))
+        (now (growths .entry)) .passed) ⌝ }
 {
     Known {
         in_range: refuse::head_in_range(v, e, edges, virtuals, defects, duals, growths),

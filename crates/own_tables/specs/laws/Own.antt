@@ -60,13 +60,16 @@ distinct-from : (l : List ℕ) → ((i j : ℕ) → i < length l → j < length 
 unfolding distinct
 distinct-from [] f = refl
 distinct-from (x ∷ l) f =
-    distinct-cons x l (by-test (member x l) (λ t. absurd (twice t)) (λ t. t)) (distinct-from l (λ i j h k n. f (suc i) (suc j) (omega arith) (omega arith) (λ q. n (omega arith))))
+    distinct-cons x l (by-test (member x l) (λ t. absurd (twice t)) (λ t. t))
+    (distinct-from l (λ i j h k n. f (suc i) (suc j) (omega arith) (omega arith) (λ q. n (omega arith))))
   where
     twice : member x l ≡ true → ⊥
     twice t = let p = place-of x l t in f 0 (suc (p .0)) (omega arith) (omega (arith, p .1)) (λ q. omega arith) (sym (p .2))
 
-module _ {v : ℕ} {edges : List Edge} {virtuals : List ℕ} (positive : PositiveWeights edges) (reach : (a : ℕ) → a < v → ReachesVirtual (openedGraph v edges virtuals) a)
-    (r : Run v edges virtuals) (edges' virtuals' defects' duals' growths' distances' : List ℤ) (own : Own r edges' virtuals' defects' duals' growths' distances') where
+module _ {v : ℕ} {edges : List Edge} {virtuals : List ℕ} (positive : PositiveWeights edges)
+    (reach : (a : ℕ) → a < v → ReachesVirtual (openedGraph v edges virtuals) a)
+    (r : Run v edges virtuals) (edges' virtuals' defects' duals' growths' distances' : List ℤ)
+    (own : Own r edges' virtuals' defects' duals' growths' distances') where
   only : DefectsOnly (openedGraph v edges virtuals) (end r)
   only = defects-only r positive
 
@@ -111,7 +114,8 @@ module _ {v : ℕ} {edges : List Edge} {virtuals : List ℕ} (positive : Positiv
       List·getD-map toNat duals' i (pos 0) ∙ ap (λ (l : List ℤ). toNat (getD l i (pos 0))) (own .duals-are)
       ∙ ap toNat (List·getD-map (λ (x : Entry). x .y) (history r) i noEntry) ∙ ap toNat (dual-is i h)
 
-  distance-at : (i u : ℕ) → i < length (history r) → u < v → distanceIn (rowOf v distances' i) u ≡ dist (openedGraph v edges virtuals) (entryAt (history r) i .vertex) u
+  distance-at : (i u : ℕ) → i < length (history r) → u < v
+      → distanceIn (rowOf v distances' i) u ≡ dist (openedGraph v edges virtuals) (entryAt (history r) i .vertex) u
   unfolding distanceIn
   distance-at i u h l =
       let a = entryAt (history r) i .vertex in
@@ -125,9 +129,11 @@ module _ {v : ℕ} {edges : List Edge} {virtuals : List ℕ} (positive : Positiv
       → dist (openedGraph v edges virtuals) (entryAt (history r) i .vertex) (entryAt (history r) j .vertex) < unreachable
       → dualOf (end r) i + dualOf (end r) j ≤ dist (openedGraph v edges virtuals) (entryAt (history r) i .vertex) (entryAt (history r) j .vertex)
   pair i j h k q =
-      nodes-apart (openedGraph v edges virtuals) (end r) only i (entryAt (history r) i .vertex) j (entryAt (history r) j .vertex) (node i h) (at i h) (node j k) (at j k) q
+      nodes-apart (openedGraph v edges virtuals) (end r) only i (entryAt (history r) i .vertex) j (entryAt (history r) j .vertex) (node i h) (at i h)
+      (node j k) (at j k) q
 
-  far : (i u : ℕ) → i < length (history r) → Virtual (openedGraph v edges virtuals) u → dualOf (end r) i ≤ dist (openedGraph v edges virtuals) (entryAt (history r) i .vertex) u
+  far : (i u : ℕ) → i < length (history r) → Virtual (openedGraph v edges virtuals) u
+      → dualOf (end r) i ≤ dist (openedGraph v edges virtuals) (entryAt (history r) i .vertex) u
   far i u h w =
       let f : vertexHolderAt (end r) u ≡ 0 =
       only .good .clusters .defect-nodes .virtuals u (λ q. let k = sym (only .graph .virtual-is u) ∙ q in omega arith) in
@@ -195,7 +201,8 @@ module _ {v : ℕ} {edges : List Edge} {virtuals : List ℕ} (positive : Positiv
     virtual-in-reach = λ a l. reach a (omega (arith, l, size));
     shortest-distances = λ i u k l. rw (defect-at i) (distance-at i u (listed i k) (omega (arith, l, size)));
     pairs = λ i j k l q z.
-        rw (defect-at i, defect-at j, dual-at i (listed i k), dual-at j (listed j l)) (pair i j (listed i k) (listed j l) q (rw (defect-at i, defect-at j) at z));
+        rw (defect-at i, defect-at j, dual-at i (listed i k), dual-at j (listed j l))
+        (pair i j (listed i k) (listed j l) q (rw (defect-at i, defect-at j) at z));
     virtuals = λ i k. rw (defect-at i, dual-at i (listed i k)) (nearest i (listed i k));
     table = own .growths-are ∙ table-is-from-distances v edges virtuals positive r ∙ ap (tableFromDistances (openedGraph v edges virtuals)) same-duals;
   }
@@ -223,7 +230,8 @@ module _ {v : ℕ} {edges : List Edge} {virtuals : List ℕ} (positive : Positiv
 
   growth-count : length growths' ≡ 2 * r .edgeNumber
   growth-count =
-      sym (length-map growths' toNat) ∙ ap (λ (l : List ℕ). length l) (own .growths-are) ∙ sides-long ∙ only .graph .sides-are ∙ only .formed .paired ∙ weights-long
+      sym (length-map growths' toNat) ∙ ap (λ (l : List ℕ). length l) (own .growths-are) ∙ sides-long ∙ only .graph .sides-are ∙ only .formed .paired
+      ∙ weights-long
     where
       weights-long : 2 * length (openedGraph v edges virtuals .weights) ≡ 2 * r .edgeNumber
       weights-long = unfold openedGraph in (ap (λ (k : ℕ). 2 * k) (length-map edges (λ (x : Edge). x .weight) ∙ opened-facts .count))
@@ -243,7 +251,8 @@ module _ {v : ℕ} {edges : List Edge} {virtuals : List ℕ} (positive : Positiv
   unfolding defectsInRange
   defects-range =
       both (all (λ x. ltb x v) (map toNat defects')) _
-      (list-from (λ x. ltb x v) (map toNat defects') 0 (λ i k. lt-ltb (getD (map toNat defects') i 0) v (omega (arith, defect-at i, inside i (listed i k), size))))
+      (list-from (λ x. ltb x v) (map toNat defects') 0
+      (λ i k. lt-ltb (getD (map toNat defects') i 0) v (omega (arith, defect-at i, inside i (listed i k), size))))
       (distinct-from (map toNat defects') (λ i j k l q e. apart i j (listed i k) (listed j l) q (sym (defect-at i) ∙ e ∙ defect-at j)))
 
   duals-range : all (λ x. leb x dualLimit) (map toNat duals') ≡ true
@@ -258,7 +267,8 @@ module _ {v : ℕ} {edges : List Edge} {virtuals : List ℕ} (positive : Positiv
   growths-range =
       rw (own .growths-are)
       (list-from (λ x. leb x growthLimit) (end r .sides .growth) 0
-      (λ s k. le-leb (getD (end r .sides .growth) s 0) growthLimit (invariant-numbers (only .good) .sides s (omega (arith, k, only .good .shape .growth)) .growth)))
+      (λ s k. le-leb (getD (end r .sides .growth) s 0) growthLimit
+      (invariant-numbers (only .good) .sides s (omega (arith, k, only .good .shape .growth)) .growth)))
 
   -- the word at place k is that of row k / v and vertex k % v
   distances-range : distancesInRange distances' ≡ true

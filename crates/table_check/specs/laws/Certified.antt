@@ -53,23 +53,28 @@ module _ (v e : ℕ) (edges virtuals : List ℤ) (count : edgesIn edges ≡ e) (
     unfolding relaxedAt
     rises s h =
         leb-true (D (acrossIn edges s)) (D (nearIn edges s) + weightIn edges s)
-        (all-below-at (relaxedAt edges D) (2 * e) s (and-left (allBelow (relaxedAt edges D) (2 * e)) (allBelow (settledAt (precededMarks e edges D) D a) v) rest) h)
+        (all-below-at (relaxedAt edges D) (2 * e) s
+        (and-left (allBelow (relaxedAt edges D) (2 * e)) (allBelow (settledAt (precededMarks e edges D) D a) v) rest) h)
 
     settled : (u : ℕ) → u < v → eqb u a || (leb unreachable (D u) || marked (precededMarks e edges D) u) ≡ true
     unfolding settledAt
     settled u h = all-below-at (settledAt (precededMarks e edges D) D a) v u (and-right (allBelow (relaxedAt edges D) (2 * e)) _ rest) h
 
-    before : (u : ℕ) → marked (precededMarks e edges D) u ≡ true → (s : ℕ) × (s < 2 * e) × (nearIn edges s ≡ u) × (D u ≡ D (acrossIn edges s) + weightIn edges s)
+    before : (u : ℕ) → marked (precededMarks e edges D) u ≡ true → (s : ℕ) × (s < 2 * e) × (nearIn edges s ≡ u)
+        × (D u ≡ D (acrossIn edges s) + weightIn edges s)
     unfolding precededMarks
     before u h =
-        marks-from (precedesAt edges D) (nearIn edges) (replicate 1024 0) (2 * e) u (marked-has (marksBy (precedesAt edges D) (nearIn edges) (replicate 1024 0) (2 * e)) u h) (no-marks 1024 u)
+        marks-from (precedesAt edges D) (nearIn edges) (replicate 1024 0) (2 * e) u
+        (marked-has (marksBy (precedesAt edges D) (nearIn edges) (replicate 1024 0) (2 * e)) u h) (no-marks 1024 u)
         (λ s l t q. (s, l, q, rw q at (precedes-is s t)))
 
     certificate : DistanceCertificate (graphIn v edges virtuals) a D
     certificate = record {
       self = own;
       capped = capped;
-      edge = λ s h. let l = inside s h in rw (near-is v e edges virtuals count s l, across-is v e edges virtuals count s l, weight-is v e edges virtuals count s l) (rises s l);
+      edge =
+          λ s h. let l = inside s h in rw
+          (near-is v e edges virtuals count s l, across-is v e edges virtuals count s l, weight-is v e edges virtuals count s l) (rises s l);
       predecessor = λ u q l. by-cases (decLt u v) (λ h. found u q l h) (λ h. absurd (omega (arith, outside u (omega arith))));
     }
       where
@@ -123,14 +128,17 @@ module _ (v e : ℕ) (edges virtuals : List ℤ) (count : edgesIn edges ≡ e) (
         let t : D (nearIn edges (p .0)) ≡ D (acrossIn edges (p .0)) + weightIn edges (p .0) =
         rw (n, is u h, is (acrossIn edges (p .0)) (across-in (p .0) k))
         (rw (across-is v e edges virtuals count (p .0) k, weight-is v e edges virtuals count (p .0) k) at (p .3)) in
-        has-marked (marksBy (precedesAt edges D) (nearIn edges) (replicate 1024 0) (2 * e)) u (rw n at (marks-there (precedesAt edges D) (nearIn edges) (replicate 1024 0) (2 * e) (p .0) k (precedes-so (p .0) t)
+        has-marked (marksBy (precedesAt edges D) (nearIn edges) (replicate 1024 0) (2 * e)) u
+        (rw n at (marks-there (precedesAt edges D) (nearIn edges) (replicate 1024 0) (2 * e) (p .0) k (precedes-so (p .0) t)
         (rw (length-replicate {A = ℕ} 1024 0, n) (omega arith))))
 
     settles : (u : ℕ) → u < v → settledAt (precededMarks e edges D) D a u ≡ true
     unfolding settledAt
     settles u h =
         by-cases (ℕ-discrete u a) (λ q. or-left _ _ (eq-eqb u a q))
-        (λ q. or-right (eqb u a) _ (by-cases (decLt (D u) unreachable) (λ l. or-right (leb unreachable (D u)) _ (preceded u h q l)) (λ l. or-left _ _ (le-leb unreachable (D u) (omega arith)))))
+        (λ q. or-right (eqb u a) _
+        (by-cases (decLt (D u) unreachable) (λ l. or-right (leb unreachable (D u)) _ (preceded u h q l))
+        (λ l. or-left _ _ (le-leb unreachable (D u) (omega arith)))))
 
     pub shortest-certified : certified v e edges a D ≡ true
     unfolding certified

@@ -78,7 +78,8 @@ module _ (v e : ℕ) (edges virtuals defects duals growths distances : List ℤ)
     pub shortest : (i u : ℕ) → i < length defects → u < v → given i u ≡ dist (graphIn v edges virtuals) (wordAt defects i) u
     pub pairs : (i j : ℕ) → i < length defects → j < length defects → i ≢ j
         → wordAt duals i + wordAt duals j ≤ dist (graphIn v edges virtuals) (wordAt defects i) (wordAt defects j)
-    pub far : (i a : ℕ) → i < length defects → a < v → Virtual (graphIn v edges virtuals) a → wordAt duals i ≤ dist (graphIn v edges virtuals) (wordAt defects i) a
+    pub far : (i a : ℕ) → i < length defects → a < v → Virtual (graphIn v edges virtuals) a
+        → wordAt duals i ≤ dist (graphIn v edges virtuals) (wordAt defects i) a
     pub covered : (i s : ℕ) → i < length defects → s < 2 * e → given i (nearIn edges s) < wordAt duals i
         → wordAt growths s ≡ share (wordAt duals i) (given i (nearIn edges s)) (given i (acrossIn edges s)) (weightIn edges s)
     pub free : (s : ℕ) → s < 2 * e → ((i : ℕ) → i < length defects → wordAt duals i ≤ given i (nearIn edges s)) → wordAt growths s ≡ 0
@@ -135,7 +136,8 @@ module _ (v e : ℕ) (edges virtuals defects duals growths distances : List ℤ)
           let l : s < 2 * e = rw (sides-are v e edges virtuals (acc .edge-count)) at h in
           rw (weight-is v e edges virtuals (acc .edge-count) s l)
           (ltb-true 0 (weightIn edges s) (all-below-at (positiveIn edges) (2 * e) s
-          (and-left (allBelow (positiveIn edges) (2 * e)) (allMarked v e edges virtuals (replicate v 0) && rowsRight v e edges virtuals defects duals growths given) t) l))
+          (and-left (allBelow (positiveIn edges) (2 * e))
+          (allMarked v e edges virtuals (replicate v 0) && rowsRight v e edges virtuals defects duals growths given) t) l))
 
       reach' : VirtualInReach (graphIn v edges virtuals)
       reach' =
@@ -180,14 +182,16 @@ module _ (v e : ℕ) (edges virtuals defects duals growths distances : List ℤ)
           (λ z. absurd (q (eqb-true i j z)))
           (λ z. rw (← is i h (wordAt defects j)) (leb-true _ _ z))
 
-      far' : (i a : ℕ) → i < length defects → a < v → Virtual (graphIn v edges virtuals) a → wordAt duals i ≤ dist (graphIn v edges virtuals) (wordAt defects i) a
+      far' : (i a : ℕ) → i < length defects → a < v → Virtual (graphIn v edges virtuals) a
+          → wordAt duals i ≤ dist (graphIn v edges virtuals) (wordAt defects i) a
       unfolding virtualAt
       far' i a h l w =
           let p = place-of a (virtualsFrom virtuals) (virtual-member v edges virtuals a l w) in
           let q : wordAt virtuals (p .0) ≡ a = sym (virtuals-get virtuals (p .0)) ∙ p .2 in
           let k : p .0 < length virtuals = rw (virtuals-count virtuals) at (p .1) in
           rw (← is i h a, ← q)
-          (leb-true (wordAt duals i) (given i (wordAt virtuals (p .0))) (all-below-at (virtualAt virtuals (given i) (wordAt duals i)) (length virtuals) (p .0) (row i h .2) k))
+          (leb-true (wordAt duals i) (given i (wordAt virtuals (p .0)))
+          (all-below-at (virtualAt virtuals (given i) (wordAt duals i)) (length virtuals) (p .0) (row i h .2) k))
 
       covered' : (i s : ℕ) → i < length defects → s < 2 * e → given i (nearIn edges s) < wordAt duals i
           → wordAt growths s ≡ share (wordAt duals i) (given i (nearIn edges s)) (given i (acrossIn edges s)) (weightIn edges s)
@@ -204,7 +208,8 @@ module _ (v e : ℕ) (edges virtuals defects duals growths distances : List ℤ)
       free' s l none =
           or-cases (marked (coveredBy v given duals (length defects)) (nearIn edges s)) (eqb (wordAt growths s) 0)
           (all-below-at (freeAt edges growths (coveredBy v given duals (length defects))) (2 * e) s (rows .1) l)
-          (λ z. covers-from (length defects) (nearIn edges s) (marked-has (coveredBy v given duals (length defects)) (nearIn edges s) z) (λ i h k. absurd (omega (arith, none i h))))
+          (λ z. covers-from (length defects) (nearIn edges s) (marked-has (coveredBy v given duals (length defects)) (nearIn edges s) z)
+          (λ i h k. absurd (omega (arith, none i h))))
           (λ z. eqb-true _ _ z)
 
       pub tested-facts : Facts
@@ -227,21 +232,27 @@ module _ (v e : ℕ) (edges virtuals defects duals growths distances : List ℤ)
           both (certified v e edges (wordAt defects i) (given i)) _
           (shortest-certified v e edges virtuals (acc .edge-count) ok (acc .v-max) (wordAt defects i) (defect-in i h) (given i) (λ u l. f .shortest i u h l))
           (both (allBelow (pairAt defects duals (given i) i) (length defects)) _ (all-below-from (pairAt defects duals (given i) i) (length defects) pair)
-          (both (allBelow (virtualAt virtuals (given i) (wordAt duals i)) (length virtuals)) _ (all-below-from (virtualAt virtuals (given i) (wordAt duals i)) (length virtuals) apart)
+          (both (allBelow (virtualAt virtuals (given i) (wordAt duals i)) (length virtuals)) _
+          (all-below-from (virtualAt virtuals (given i) (wordAt duals i)) (length virtuals) apart)
           (all-below-from (sideAt edges growths (given i) (wordAt duals i)) (2 * e) side)))
         where
           pair : (j : ℕ) → j < length defects → pairAt defects duals (given i) i j ≡ true
           pair j k =
               (by-cases (ℕ-discrete i j) (λ q. or-left _ _ (eq-eqb i j q))
-              (λ q. or-right (eqb i j) _ (le-leb (wordAt duals i + wordAt duals j) (given i (wordAt defects j)) (rw (f .shortest i (wordAt defects j) h (defect-in j k)) (f .pairs i j h k q)))))
+              (λ q. or-right (eqb i j) _
+              (le-leb (wordAt duals i + wordAt duals j) (given i (wordAt defects j))
+              (rw (f .shortest i (wordAt defects j) h (defect-in j k)) (f .pairs i j h k q)))))
 
           apart : (k : ℕ) → k < length virtuals → virtualAt virtuals (given i) (wordAt duals i) k ≡ true
           apart k l =
               let k' : k < length (virtualsFrom virtuals) = rw (virtuals-count virtuals) l in
               let z : getD (virtualsFrom virtuals) k 0 ≡ wordAt virtuals k = virtuals-get virtuals k in
               let m : member (wordAt virtuals k) (virtualsFrom virtuals) ≡ true = rw z at (member-at (virtualsFrom virtuals) k 0 k') in
-              let s : wordAt virtuals k < v = rw z at (ltb-true (getD (virtualsFrom virtuals) k 0) v (all-at (λ x. ltb x v) (virtualsFrom virtuals) k (acc .virtuals-ok) k')) in
-              (le-leb (wordAt duals i) (given i (wordAt virtuals k)) (rw (f .shortest i (wordAt virtuals k) h s) (f .far i (wordAt virtuals k) h s (member-virtual v edges virtuals (wordAt virtuals k) s m))))
+              let s : wordAt virtuals k < v =
+              rw z at (ltb-true (getD (virtualsFrom virtuals) k 0) v (all-at (λ x. ltb x v) (virtualsFrom virtuals) k (acc .virtuals-ok) k')) in
+              (le-leb (wordAt duals i) (given i (wordAt virtuals k))
+              (rw (f .shortest i (wordAt virtuals k) h s)
+              (f .far i (wordAt virtuals k) h s (member-virtual v edges virtuals (wordAt virtuals k) s m))))
 
           side : (s : ℕ) → s < 2 * e → sideAt edges growths (given i) (wordAt duals i) s ≡ true
           side s l =
@@ -255,16 +266,19 @@ module _ (v e : ℕ) (edges virtuals defects duals growths distances : List ℤ)
           by-test (marked (coveredBy v given duals (length defects)) (nearIn edges s)) (λ t. or-left _ _ t)
           (λ t. or-right (marked (coveredBy v given duals (length defects)) (nearIn edges s)) _ (eq-eqb _ _ (f .free s l (λ i h. none t i h))))
         where
-          none : marked (coveredBy v given duals (length defects)) (nearIn edges s) ≡ false → (i : ℕ) → i < length defects → wordAt duals i ≤ given i (nearIn edges s)
+          none : marked (coveredBy v given duals (length defects)) (nearIn edges s) ≡ false → (i : ℕ) → i < length defects
+              → wordAt duals i ≤ given i (nearIn edges s)
           none t i h =
               by-cases (decLt (given i (nearIn edges s)) (wordAt duals i))
-              (λ c. absurd (not-marked (coveredBy v given duals (length defects)) (nearIn edges s) t (covers-there (length defects) i (nearIn edges s) h (near-in s l) c)))
+              (λ c. absurd (not-marked (coveredBy v given duals (length defects)) (nearIn edges s) t
+              (covers-there (length defects) i (nearIn edges s) h (near-in s l) c)))
               (λ c. omega arith)
 
       positive-passes : (s : ℕ) → s < 2 * e → positiveIn edges s ≡ true
       unfolding positiveIn
       positive-passes s l =
-          lt-ltb 0 (weightIn edges s) (rw (weight-is v e edges virtuals (acc .edge-count) s l) at (f .positive s (rw (sides-are v e edges virtuals (acc .edge-count)) l)))
+          lt-ltb 0 (weightIn edges s)
+          (rw (weight-is v e edges virtuals (acc .edge-count) s l) at (f .positive s (rw (sides-are v e edges virtuals (acc .edge-count)) l)))
 
       pub facts-tested : tested v e edges virtuals defects duals growths given ≡ true
       unfolding tested rowsRight

@@ -35,7 +35,8 @@ module _ (edges : List ℤ) (m : List ℕ) where
   unfolding spreadNew
   spread-new k e h = rw (add-one, ← e, h)
 
-  pub spread-old : (k : ℕ) {x : List ℕ} {t : Bool} → x ≡ spreadSides edges m k → spreadsAt x edges k ≡ false → t ≡ spreadNew edges m k → t ≡ spreadNew edges m (k + 1)
+  pub spread-old : (k : ℕ) {x : List ℕ} {t : Bool} → x ≡ spreadSides edges m k → spreadsAt x edges k ≡ false → t ≡ spreadNew edges m k
+      → t ≡ spreadNew edges m (k + 1)
   unfolding spreadNew
   spread-old k e h q = rw (add-one, ← e, h) q
 

@@ -36,7 +36,9 @@ module _ (v e : ℕ) (edges virtuals : List ℤ) (count : edgesIn edges ≡ e) (
   begun : ReachMarks (graphIn v edges virtuals) (virtualMarks virtuals (replicate v 0))
   unfolding virtualMarks
   begun = record {
-    sized = marks-length (λ k. true) (wordAt virtuals) (replicate v 0) (length virtuals) ∙ length-replicate {A = ℕ} v 0 ∙ sym (size-is v e edges virtuals count);
+    sized =
+        marks-length (λ k. true) (wordAt virtuals) (replicate v 0) (length virtuals) ∙ length-replicate {A = ℕ} v 0
+        ∙ sym (size-is v e edges virtuals count);
     virtuals = λ a h w. there a (rw (size-is v e edges virtuals count) at h) w;
     reaching = λ u h. marks-from (λ k. true) (wordAt virtuals) (replicate v 0) (length virtuals) u h (no-marks v u) (λ k l t q. from k u l q);
   }
@@ -73,7 +75,9 @@ module _ (v e : ℕ) (edges virtuals : List ℤ) (count : edgesIn edges ≡ e) (
     kept = by-test (spreadsAt m edges s) (λ t. rw t (rw (across-is v e edges virtuals count s h) at (mark-spreads _ ok m r s h' (source t)))) (λ t. rw t r)
       where
         source : spreadsAt m edges s ≡ true → HasMark m (near (graphIn v edges virtuals) s)
-        source t = rw (near-is v e edges virtuals count s h) (marked-has m _ (and-left (marked m (nearIn edges s)) (not (marked m (acrossIn edges s))) (unfold spreadsAt in t)))
+        source t =
+            rw (near-is v e edges virtuals count s h)
+            (marked-has m _ (and-left (marked m (nearIn edges s)) (not (marked m (acrossIn edges s))) (unfold spreadsAt in t)))
 
     grown : spreadsAt m edges s ≡ true → countMarks (spreadSide edges m s) ≡ suc (countMarks m)
     unfolding spreadSide markIf spreadsAt
@@ -103,7 +107,8 @@ module _ (v e : ℕ) (edges virtuals : List ℤ) (count : edgesIn edges ≡ e) (
       (λ t. omega (arith, c, grown x (sides-kept m r k (omega arith)) k (omega arith) t))
       (λ t. rw (still x (sides-kept m r k (omega arith)) k (omega arith) t) c)
 
-  sides-new : (m : List ℕ) → ReachMarks (graphIn v edges virtuals) m → (k : ℕ) → k ≤ 2 * e → spreadNew edges m k ≡ true → countMarks m < countMarks (spreadSides edges m k)
+  sides-new : (m : List ℕ) → ReachMarks (graphIn v edges virtuals) m → (k : ℕ) → k ≤ 2 * e → spreadNew edges m k ≡ true
+      → countMarks m < countMarks (spreadSides edges m k)
   unfolding spreadSides spreadNew
   sides-new m r zero h t = clash false t refl
   sides-new m r (suc k) h t =
@@ -135,7 +140,9 @@ module _ (v e : ℕ) (edges virtuals : List ℤ) (count : edgesIn edges ≡ e) (
       rw (across-is v e edges virtuals count s l) (go l (rw (near-is v e edges virtuals count s l) at k))
     where
       go : s < 2 * e → HasMark m (nearIn edges s) → HasMark m (acrossIn edges s)
-      go l k = by-test (marked m (acrossIn edges s)) (marked-has m _) (λ q. clash (spreadsAt m edges s) (unfold spreadsAt in (rw (has-marked m (nearIn edges s) k, q))) (none s l))
+      go l k =
+          by-test (marked m (acrossIn edges s)) (marked-has m _)
+          (λ q. clash (spreadsAt m edges s) (unfold spreadsAt in (rw (has-marked m (nearIn edges s) k, q))) (none s l))
 
   -- ---- until none is new
 
@@ -147,7 +154,9 @@ module _ (v e : ℕ) (edges virtuals : List ℤ) (count : edgesIn edges ≡ e) (
   unfolding spreadUntil
   ended zero m r h = record {
     marks = r;
-    all-spread = λ s l k. count-full m (across (graphIn v edges virtuals) s) (rw (r .sized, size-is v e edges virtuals count) (omega arith)) (rw (r .sized) (across-placed _ ok s l));
+    all-spread =
+        λ s l k. count-full m (across (graphIn v edges virtuals) s) (rw (r .sized, size-is v e edges virtuals count) (omega arith))
+        (rw (r .sized) (across-placed _ ok s l));
   }
   ended (suc f) m r h =
       let x = spreadSides edges m (2 * e) in
@@ -165,10 +174,14 @@ module _ (v e : ℕ) (edges virtuals : List ℤ) (count : edgesIn edges ≡ e) (
   unfolding allMarked
   marked-reach h a l =
       let l' : a < v = rw (size-is v e edges virtuals count) at l in
-      marks-tell-reach _ ok _ (last .marks) (last .all-spread) a l .0 (marked-has (spreadUntil e edges v (virtualMarks virtuals (replicate v 0))) a (all-below-at (marked (spreadUntil e edges v (virtualMarks virtuals (replicate v 0)))) v a h l'))
+      marks-tell-reach _ ok _ (last .marks) (last .all-spread) a l .0
+      (marked-has (spreadUntil e edges v (virtualMarks virtuals (replicate v 0))) a
+      (all-below-at (marked (spreadUntil e edges v (virtualMarks virtuals (replicate v 0)))) v a h l'))
 
   pub reach-marked : VirtualInReach (graphIn v edges virtuals) → allMarked v e edges virtuals (replicate v 0) ≡ true
   unfolding allMarked
   reach-marked h =
       all-below-from (marked (spreadUntil e edges v (virtualMarks virtuals (replicate v 0)))) v
-      (λ a l. let l' : a < graphIn v edges virtuals .size = rw (size-is v e edges virtuals count) l in has-marked (spreadUntil e edges v (virtualMarks virtuals (replicate v 0))) a (marks-tell-reach _ ok _ (last .marks) (last .all-spread) a l' .1 (h a l')))
+      (λ a l. let l' : a < graphIn v edges virtuals .size = rw (size-is v e edges virtuals count) l in has-marked
+      (spreadUntil e edges v (virtualMarks virtuals (replicate v 0))) a
+      (marks-tell-reach _ ok _ (last .marks) (last .all-spread) a l' .1 (h a l')))

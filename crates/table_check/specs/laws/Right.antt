@@ -39,7 +39,8 @@ use Rattle.table_check.specs.laws.Facts.{Facts, given, defect-in, find-b
 
 -- ---- the definition, as facts
 
-module _ (h : Handed) (ok : WellFormed (h .graph)) (inside : (i : ℕ) → i < defectCount h → defectAt h i < h .graph .size) (bounded : (i : ℕ) → dualAt h i ≤ dualLimit) where
+module _ (h : Handed) (ok : WellFormed (h .graph)) (inside : (i : ℕ) → i < defectCount h → defectAt h i < h .graph .size)
+    (bounded : (i : ℕ) → dualAt h i ≤ dualLimit) where
   pub right-holds : right h ≡ true → Right h
   unfolding right positive inReach shortest pairsFeasible virtualsFeasible tableAfresh
   right-holds t =
@@ -57,13 +58,16 @@ module _ (h : Handed) (ok : WellFormed (h .graph)) (inside : (i : ℕ) → i < d
       record {
         positive-weights = λ s l. ltb-true 0 (weight g s) (all-below-at (λ s. ltb 0 (weight g s)) (sides g) s (and-left a (b && (c && (d && (x && y)))) t) l);
         virtual-in-reach = λ u l. nearest-virtual-in-reach g ok u l .0
-            (ltb-true (nearestVirtual g u) unreachable (all-below-at (λ u. ltb (nearestVirtual g u) unreachable) (g .size) u (and-left b (c && (d && (x && y))) t₂) l));
+            (ltb-true (nearestVirtual g u) unreachable
+            (all-below-at (λ u. ltb (nearestVirtual g u) unreachable) (g .size) u (and-left b (c && (d && (x && y))) t₂) l));
         shortest-distances = λ i u k l. eqb-true (h .distance i u) (dist g (defectAt h i) u)
             (all-below-at (λ u. eqb (h .distance i u) (dist g (defectAt h i) u)) (g .size) u
-            (all-below-at (λ i. allBelow (λ u. eqb (h .distance i u) (dist g (defectAt h i) u)) (g .size)) (defectCount h) i (and-left c (d && (x && y)) t₃) k) l);
+            (all-below-at (λ i. allBelow (λ u. eqb (h .distance i u) (dist g (defectAt h i) u)) (g .size)) (defectCount h) i
+            (and-left c (d && (x && y)) t₃) k) l);
         pairs = λ i j k l q r. or-cases (eqb i j) (leb (dualAt h i + dualAt h j) (dist g (defectAt h i) (defectAt h j)))
             (all-below-at (λ j. eqb i j || leb (dualAt h i + dualAt h j) (dist g (defectAt h i) (defectAt h j))) (defectCount h) j
-            (all-below-at (λ i. allBelow (λ j. eqb i j || leb (dualAt h i + dualAt h j) (dist g (defectAt h i) (defectAt h j))) (defectCount h)) (defectCount h) i
+            (all-below-at (λ i. allBelow (λ j. eqb i j || leb (dualAt h i + dualAt h j) (dist g (defectAt h i) (defectAt h j))) (defectCount h))
+            (defectCount h) i
             (and-left d (x && y) t₄) k) l)
             (λ z. absurd (q (eqb-true i j z)))
             (λ z. leb-true (dualAt h i + dualAt h j) (dist g (defectAt h i) (defectAt h j)) z);
@@ -99,7 +103,8 @@ module _ (h : Handed) (ok : WellFormed (h .graph)) (inside : (i : ℕ) → i < d
     d-holds : pairsFeasible h ≡ true
     unfolding pairsFeasible
     d-holds =
-        all-below-from (λ i. allBelow (λ j. eqb i j || leb (dualAt h i + dualAt h j) (dist (h .graph) (defectAt h i) (defectAt h j))) (defectCount h)) (defectCount h)
+        all-below-from (λ i. allBelow (λ j. eqb i j || leb (dualAt h i + dualAt h j) (dist (h .graph) (defectAt h i) (defectAt h j))) (defectCount h))
+        (defectCount h)
         (λ i k. all-below-from (λ j. eqb i j || leb (dualAt h i + dualAt h j) (dist (h .graph) (defectAt h i) (defectAt h j))) (defectCount h)
         (λ j l. by-cases (ℕ-discrete i j)
         (λ q. or-left (eqb i j) (leb (dualAt h i + dualAt h j) (dist (h .graph) (defectAt h i) (defectAt h j))) (eq-eqb i j q))
@@ -176,7 +181,9 @@ module _ (v e : ℕ) (edges virtuals defects duals growths distances : List ℤ)
 
   vertices-long : length (dualsByVertex h) ≡ graphIn v edges virtuals .size
   unfolding dualsByVertex
-  vertices-long = length-map (below (graphIn v edges virtuals .size)) (dualOf (map toNat defects) (map toNat duals)) ∙ length-below (graphIn v edges virtuals .size)
+  vertices-long =
+      length-map (below (graphIn v edges virtuals .size)) (dualOf (map toNat defects) (map toNat duals))
+      ∙ length-below (graphIn v edges virtuals .size)
 
   -- of a defect
   of-defect : (i : ℕ) → i < length defects → dual (dualsByVertex h) (wordAt defects i) ≡ wordAt duals i
@@ -214,8 +221,10 @@ module _ (v e : ℕ) (edges virtuals defects duals growths distances : List ℤ)
 
   -- ---- feasible
 
-  module _ (pairs : (i j : ℕ) → i < length defects → j < length defects → i ≢ j → wordAt duals i + wordAt duals j ≤ dist (graphIn v edges virtuals) (wordAt defects i) (wordAt defects j))
-      (far : (i a : ℕ) → i < length defects → a < v → Virtual (graphIn v edges virtuals) a → wordAt duals i ≤ dist (graphIn v edges virtuals) (wordAt defects i) a) where
+  module _ (pairs : (i j : ℕ) → i < length defects → j < length defects → i ≢ j
+      → wordAt duals i + wordAt duals j ≤ dist (graphIn v edges virtuals) (wordAt defects i) (wordAt defects j))
+      (far : (i a : ℕ) → i < length defects → a < v → Virtual (graphIn v edges virtuals) a
+      → wordAt duals i ≤ dist (graphIn v edges virtuals) (wordAt defects i) a) where
     feasible : Feasible (graphIn v edges virtuals) (dualsByVertex h)
     feasible = record {
       sized = vertices-long;
@@ -224,19 +233,22 @@ module _ (v e : ℕ) (edges virtuals defects duals growths distances : List ℤ)
       virtuals = λ a u k l w. by-cases (decLt 0 (dual (dualsByVertex h) a)) (λ x. virtual a u (rw size at l) w x) (λ x. omega arith);
     }
       where
-        pair : (a b : ℕ) → a ≢ b → 0 < dual (dualsByVertex h) a → 0 < dual (dualsByVertex h) b → dual (dualsByVertex h) a + dual (dualsByVertex h) b ≤ dist (graphIn v edges virtuals) a b
+        pair : (a b : ℕ) → a ≢ b → 0 < dual (dualsByVertex h) a → 0 < dual (dualsByVertex h) b
+            → dual (dualsByVertex h) a + dual (dualsByVertex h) b ≤ dist (graphIn v edges virtuals) a b
         pair a b q x y =
             let o = owned a x in
             let m = owned b y in
             let n : o .place ≢ m .place = λ z. q (sym (o .vertex) ∙ ap (wordAt defects) z ∙ m .vertex) in
             rw (← o .owned-dual, ← m .owned-dual) (rw (o .vertex, m .vertex) at (pairs (o .place) (m .place) (o .listed) (m .listed) n))
 
-        virtual : (a u : ℕ) → u < v → Virtual (graphIn v edges virtuals) u → 0 < dual (dualsByVertex h) a → dual (dualsByVertex h) a ≤ dist (graphIn v edges virtuals) a u
+        virtual : (a u : ℕ) → u < v → Virtual (graphIn v edges virtuals) u → 0 < dual (dualsByVertex h) a
+            → dual (dualsByVertex h) a ≤ dist (graphIn v edges virtuals) a u
         virtual a u l w x = let o = owned a x in rw (← o .owned-dual) (rw (o .vertex) at (far (o .place) u (o .listed) l w))
 
     -- ---- growth by the distances that were handed over
 
-    module _ (shortest : (i u : ℕ) → i < length defects → u < v → given v e edges virtuals defects duals growths distances i u ≡ dist (graphIn v edges virtuals) (wordAt defects i) u)
+    module _ (shortest : (i u : ℕ) → i < length defects → u < v
+        → given v e edges virtuals defects duals growths distances i u ≡ dist (graphIn v edges virtuals) (wordAt defects i) u)
         (s : ℕ) (l : s < 2 * e) where
       in-sides : s < sides (graphIn v edges virtuals)
       in-sides = rw (sides-are v e edges virtuals (acc .edge-count)) l
@@ -249,12 +261,19 @@ module _ (v e : ℕ) (edges virtuals defects duals growths distances : List ℤ)
 
       covered-growth : (i : ℕ) → i < length defects → given v e edges virtuals defects duals growths distances i (nearIn edges s) < wordAt duals i
           → growth (graphIn v edges virtuals) (dualsByVertex h) s
-          ≡ share (wordAt duals i) (given v e edges virtuals defects duals growths distances i (nearIn edges s)) (given v e edges virtuals defects duals growths distances i (acrossIn edges s)) (weightIn edges s)
+          ≡ share (wordAt duals i) (given v e edges virtuals defects duals growths distances i (nearIn edges s))
+          (given v e edges virtuals defects duals growths distances i (acrossIn edges s)) (weightIn edges s)
       covered-growth i k c =
           let covers : Covers (graphIn v edges virtuals) (dualsByVertex h) (wordAt defects i) (near (graphIn v edges virtuals) s) =
           rw (of-defect i k, near-is v e edges virtuals (acc .edge-count) s l, ← shortest i (nearIn edges s) k near-in) c in
           rw (shortest i (nearIn edges s) k near-in, shortest i (acrossIn edges s) k across-in)
-          (rw (of-defect i k, near-is v e edges virtuals (acc .edge-count) s l, across-is v e edges virtuals (acc .edge-count) s l, weight-is v e edges virtuals (acc .edge-count) s l)
+          (rw (
+            of-defect i k,
+            near-is v e edges virtuals (acc .edge-count) s l,
+            across-is v e edges virtuals (acc .edge-count) s l,
+            weight-is v e
+                edges virtuals (acc .edge-count) s l,
+          )
           at (growth-where-covered (graphIn v edges virtuals) wf (dualsByVertex h) feasible (wordAt defects i) s in-sides covers))
 
       free-growth : ((i : ℕ) → i < length defects → wordAt duals i ≤ given v e edges virtuals defects duals growths distances i (nearIn edges s))
@@ -298,7 +317,8 @@ module _ (v e : ℕ) (edges virtuals defects duals growths distances : List ℤ)
         (growth-long ∙ sym (sides-are v e edges virtuals (acc .edge-count)) ∙ sym (length-tableFromDistances (graphIn v edges virtuals) (dualsByVertex h)))
         (λ s l.
         let k : s < 2 * e = rw growth-long at l in
-        numbers-at growths s ∙ entry s k ∙ sym (at-tableFromDistances (graphIn v edges virtuals) (dualsByVertex h) s (rw (sides-are v e edges virtuals (acc .edge-count)) k)))
+        numbers-at growths s ∙ entry s k
+        ∙ sym (at-tableFromDistances (graphIn v edges virtuals) (dualsByVertex h) s (rw (sides-are v e edges virtuals (acc .edge-count)) k)))
 
     facts-right : Right h
     facts-right = record {
@@ -313,10 +333,12 @@ module _ (v e : ℕ) (edges virtuals defects duals growths distances : List ℤ)
   -- ---- to the facts
 
   module _ (r : Right h) where
-    shortest' : (i u : ℕ) → i < length defects → u < v → given v e edges virtuals defects duals growths distances i u ≡ dist (graphIn v edges virtuals) (wordAt defects i) u
+    shortest' : (i u : ℕ) → i < length defects → u < v
+        → given v e edges virtuals defects duals growths distances i u ≡ dist (graphIn v edges virtuals) (wordAt defects i) u
     shortest' i u k l = rw (defect-is i) at (r .shortest-distances i u (rw counted k) (rw size l))
 
-    pairs' : (i j : ℕ) → i < length defects → j < length defects → i ≢ j → wordAt duals i + wordAt duals j ≤ dist (graphIn v edges virtuals) (wordAt defects i) (wordAt defects j)
+    pairs' : (i j : ℕ) → i < length defects → j < length defects → i ≢ j
+        → wordAt duals i + wordAt duals j ≤ dist (graphIn v edges virtuals) (wordAt defects i) (wordAt defects j)
     pairs' i j k l q =
         by-cases (decLt (dist (graphIn v edges virtuals) (wordAt defects i) (wordAt defects j)) unreachable)
         (λ z. rw (defect-is i, defect-is j, dual-is i, dual-is j) at (r .pairs i j (rw counted k) (rw counted l) q (rw (defect-is i, defect-is j) z)))
@@ -353,7 +375,8 @@ module _ (v e : ℕ) (edges virtuals defects duals growths distances : List ℤ)
   unfolding handed
   exactly = (right-holds h wf defects-placed dual-bounded, holds-right h wf defects-placed dual-bounded)
 
-  pub tested-right : tested v e edges virtuals defects duals growths (λ i. distanceIn (rowOf v distances i)) ≡ right (handed v edges virtuals defects duals growths distances)
+  pub tested-right : tested v e edges virtuals defects duals growths (λ i. distanceIn (rowOf v distances i)) ≡ right
+      (handed v edges virtuals defects duals growths distances)
   unfolding handed
   tested-right =
       test-same (tested v e edges virtuals defects duals growths (λ i. distanceIn (rowOf v distances i))) (right h)

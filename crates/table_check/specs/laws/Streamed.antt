@@ -53,7 +53,8 @@ module _ (v e : ℕ) (edges virtuals defects duals growths distances : List ℤ)
       true-last true = refl
       true-last false = refl
   after-range (suc n) =
-      rw (after-range n) (and-assoc (headInRange v edges virtuals defects duals growths) (allBelow (λ i. distancesInRange (rowOf v distances i)) n) (distancesInRange (rowOf v distances n)))
+      rw (after-range n) (and-assoc (headInRange v edges virtuals defects duals growths) (allBelow (λ i. distancesInRange (rowOf v distances i)) n)
+      (distancesInRange (rowOf v distances n)))
 
   after-passed : (n : ℕ) → afterRows v e edges virtuals defects duals growths distances n .passed
       ≡ (allBelow (positiveIn edges) (2 * e) && allMarked v e edges virtuals (replicate v 0))
@@ -74,10 +75,12 @@ module _ (v e : ℕ) (edges virtuals defects duals growths distances : List ℤ)
   after-marks zero = refl
   after-marks (suc n) = rw (after-marks n)
 
-  pub numbers-split : numbersRight v edges virtuals defects duals growths distances ≡ headInRange v edges virtuals defects duals growths && distancesInRange distances
+  pub numbers-split : numbersRight v edges virtuals defects duals growths distances ≡ headInRange v edges virtuals defects duals
+      growths && distancesInRange distances
   unfolding numbersRight headInRange
   numbers-split =
-      go (graphInRange v edges virtuals) (defectsInRange v defects) (all (λ x. leb x dualLimit) (map toNat duals)) (all (λ x. leb x growthLimit) (map toNat growths)) (distancesInRange distances)
+      go (graphInRange v edges virtuals) (defectsInRange v defects) (all (λ x. leb x dualLimit) (map toNat duals))
+      (all (λ x. leb x growthLimit) (map toNat growths)) (distancesInRange distances)
     where
       go : (a b c d z : Bool) → a && (b && (c && (d && z))) ≡ (a && (b && (c && d))) && z
       go true true true d z = refl
@@ -93,10 +96,12 @@ module _ (v e : ℕ) (edges virtuals defects duals growths distances : List ℤ)
         sym (ap (all (λ x. leb (distanceOf x) unreachable)) (take-all (length defects * v) distances (omega arith)))
         ∙ all-rows (λ x. leb (distanceOf x) unreachable) v distances (length defects)
 
-    range-is : afterRows v e edges virtuals defects duals growths distances (length defects) .inRange ≡ numbersRight v edges virtuals defects duals growths distances
+    range-is : afterRows v e edges virtuals defects duals growths distances (length defects) .inRange ≡ numbersRight v edges virtuals defects duals
+        growths distances
     range-is = after-range (length defects) ∙ ap (λ t. headInRange v edges virtuals defects duals growths && t) (sym rows-range) ∙ sym numbers-split
 
-    refusal-is : (t : Bool) → numbersRight v edges virtuals defects duals growths distances ≡ t → tableRefusal v e edges virtuals defects duals growths distances ≡ (if t then 0 else 4)
+    refusal-is : (t : Bool) → numbersRight v edges virtuals defects duals growths distances ≡ t
+        → tableRefusal v e edges virtuals defects duals growths distances ≡ (if t then 0 else 4)
     unfolding tableRefusal
     refusal-is true q = rw (sizes, fit, q)
     refusal-is false q = rw (sizes, fit, q)
@@ -107,18 +112,27 @@ module _ (v e : ℕ) (edges virtuals defects duals growths distances : List ℤ)
     unfolding tested rowsRight
     tested-split =
         rw (after-passed (length defects), after-marks (length defects))
-        (go (allBelow (positiveIn edges) (2 * e)) (allMarked v e edges virtuals (replicate v 0)) (allBelow (λ i. rowRight v e edges virtuals defects duals growths (D i) i) (length defects)) _)
+        (go (allBelow (positiveIn edges) (2 * e)) (allMarked v e edges virtuals (replicate v 0))
+        (allBelow (λ i. rowRight v e edges virtuals defects duals growths (D i) i) (length defects)) _)
       where
         go : (a b c d : Bool) → ((a && b) && c) && d ≡ a && (b && (c && d))
         go true true c d = refl
         go true false c d = refl
         go false b c d = refl
 
-    pub streamed-verdict : ended e edges growths (afterRows v e edges virtuals defects duals growths distances (length defects)) ≡ tableVerdict v e edges virtuals defects duals growths distances
+    pub streamed-verdict : ended e edges growths (afterRows v e edges virtuals defects duals growths distances (length defects)) ≡ tableVerdict v e
+        edges virtuals defects duals growths distances
     unfolding ended tableVerdict verdictBy
     streamed-verdict =
         by-test (numbersRight v edges virtuals defects duals growths distances)
         (λ t.
         let z : tableRefusal v e edges virtuals defects duals growths distances ≡ 0 = refusal-is true t in
-        rw (range-is, t, tested-split, tested-right v e edges virtuals defects duals growths distances (accepted-of v e edges virtuals defects duals growths distances z), z))
+        rw (
+          range-is,
+          t,
+          tested-split,
+          tested-right v e edges virtuals defects duals growths distances
+              (accepted-of v e edges virtuals defects duals growths distances z),
+          z,
+        ))
         (λ t. let z : tableRefusal v e edges virtuals defects duals growths distances ≡ 4 = refusal-is false t in rw (range-is, t, z))

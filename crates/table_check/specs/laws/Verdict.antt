@@ -34,7 +34,8 @@ module _ (k : ℕ) (t : Bool) where
   by-refusal e = rw (ne-eqb k 0 e)
 
   -- one of three cases
-  by-case : {P : Type 0} → (k ≡ 0 → t ≡ true → verdictBy k t ≡ Yes → P) → (k ≡ 0 → t ≡ false → verdictBy k t ≡ No → P) → (k ≢ 0 → verdictBy k t ≡ Refused k → P) → P
+  by-case : {P : Type 0} → (k ≡ 0 → t ≡ true → verdictBy k t ≡ Yes → P) → (k ≡ 0 → t ≡ false → verdictBy k t ≡ No → P)
+      → (k ≢ 0 → verdictBy k t ≡ Refused k → P) → P
   by-case yes' no' refused' =
       by-cases (ℕ-discrete k 0)
       (λ z. by-test t (λ y. yes' z y (by-right z ∙ ap choose y)) (λ y. no' z y (by-right z ∙ ap choose y)))

@@ -15,7 +15,14 @@ slice-aggregate-rows : tie.Need-slice-aggregate-rows
 slice-aggregate-rows c = search needs
 
 rows-requires : tie.Need-rows-requires
-rows-requires c κs = (search needs, search needs, search needs, search needs, sym (c .before .before .before .before .sizes-right .ensures) ∙ not-false _ (c .before .before .before .if1 .left))
+rows-requires c κs = (
+  search needs,
+  search needs,
+  search needs,
+  search needs,
+  sym (c .before .before .before .before .sizes-right .ensures)
+      ∙ not-false _ (c .before .before .before .if1 .left),
+)
 
 same-length : tie.Need-same-length
 same-length c = search needs

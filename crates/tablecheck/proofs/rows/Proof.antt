@@ -7,7 +7,8 @@ use Rattle.tablecheck.proofs.rows.Statement.{statement}
 use Rattle.tablecheck.proofs.rows.Tie as tie
 
 abbrev Inv-loop : tie.InvT-loop
-Inv-loop bytes₀ m₀ v e edges virtuals defects duals growths row₀ k₀ i₀ bytes m row k i = (i ≤ length defects) × (length bytes ≡ 8192) × (length bytes ≡ length bytes₀) × (length row ≡ length row₀) × (length m ≡ length m₀)
+Inv-loop bytes₀ m₀ v e edges virtuals defects duals growths row₀ k₀ i₀ bytes m row k i =
+    (i ≤ length defects) × (length bytes ≡ 8192) × (length bytes ≡ length bytes₀) × (length row ≡ length row₀) × (length m ≡ length m₀)
 
 abbrev μ-loop : tie.MeasureT-loop
 μ-loop bytes₀ m₀ v e edges virtuals defects duals growths row₀ k₀ i₀ bytes m row k i = length defects - i
@@ -25,7 +26,15 @@ next-requires : tie.Need-next-requires Inv-loop μ-loop
 next-requires c κs = search needs
 
 add-i : tie.Need-add-i Inv-loop μ-loop
-add-i c = let h = c .before .before .before .before .before .before .before .before .before .before .before .before .loop-test .taken in record { fits = omega (arith, c .before .before .before .before .before .before .before .before .before .before .before .before .before .before .before .before .before .pre) }
+add-i c =
+    let h = c .before .before .before .before .before .before .before .before .before .before .before .before .loop-test .taken in
+    record {
+      fits = omega (
+        arith,
+        c .before .before .before .before .before .before .before .before .before .before .before .before .before .before
+            .before .before .before .pre,
+      );
+    }
 
 loop-less : tie.Need-loop-less Inv-loop μ-loop
 loop-less c = search needs

@@ -17,7 +17,9 @@ cast-result-2 : tie.Need-cast-result-2
 cast-result-2 c = search needs
 
 sub-result-2 : tie.Need-sub-result-2
-sub-result-2 c = let h : 18446744073709551615 - c .before .args .x < 9223372036854775808 = omega arith in rw (toZ-pos w64 h, flip-pos) (record { sfits = omega arith })
+sub-result-2 c =
+    let h : 18446744073709551615 - c .before .args .x < 9223372036854775808 = omega arith in
+    rw (toZ-pos w64 h, flip-pos) (record { sfits = omega arith })
 
 returns : tie.Need-returns
 returns c = search needs

@@ -31,13 +31,28 @@ tell-requires : tie.Need-tell-requires Inv-loop μ-loop
 tell-requires c κs = search needs
 
 add-k : tie.Need-add-k Inv-loop μ-loop
-add-k c = let s = c .before .before .before .before .before .before .before in let h = ltb-true (s .loop .k) 9223372036854775807 (and-right (s .loop .more) (ltb (s .loop .k) 9223372036854775807) (c .before .before .before .before .before .before .loop-test .taken)) in record { fits = omega arith }
+add-k c =
+    let s = c .before .before .before .before .before .before .before in
+    let h =
+    ltb-true (s .loop .k) 9223372036854775807
+    (and-right (s .loop .more) (ltb (s .loop .k) 9223372036854775807) (c .before .before .before .before .before .before .loop-test .taken)) in
+    record { fits = omega arith }
 
 loop-less : tie.Need-loop-less Inv-loop μ-loop
-loop-less c = let s = c .before .before .before .before .before .before .before in let h = ltb-true (s .loop .k) 9223372036854775807 (and-right (s .loop .more) (ltb (s .loop .k) 9223372036854775807) (c .before .before .before .before .before .before .loop-test .taken)) in omega arith
+loop-less c =
+    let s = c .before .before .before .before .before .before .before in
+    let h =
+    ltb-true (s .loop .k) 9223372036854775807
+    (and-right (s .loop .more) (ltb (s .loop .k) 9223372036854775807) (c .before .before .before .before .before .before .loop-test .taken)) in
+    omega arith
 
 loop-again : tie.Need-loop-again Inv-loop μ-loop
-loop-again c = let s = c .before .before .before .before .before .before .before in let h = ltb-true (s .loop .k) 9223372036854775807 (and-right (s .loop .more) (ltb (s .loop .k) 9223372036854775807) (c .before .before .before .before .before .before .loop-test .taken)) in (omega arith, search needs, search needs)
+loop-again c =
+    let s = c .before .before .before .before .before .before .before in
+    let h =
+    ltb-true (s .loop .k) 9223372036854775807
+    (and-right (s .loop .more) (ltb (s .loop .k) 9223372036854775807) (c .before .before .before .before .before .before .loop-test .taken)) in
+    (omega arith, search needs, search needs)
 
 same-length-2 : tie.Need-same-length-2 Inv-loop μ-loop
 same-length-2 c = search needs

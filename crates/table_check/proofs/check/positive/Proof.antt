@@ -34,11 +34,21 @@ loop-less c = search needs
 
 loop-again : tie.Need-loop-again Inv-loop μ-loop
 unfolding positiveIn
-loop-again c = let s = c .before .before .before in let a = s .before .args in (search needs, all-more (positiveIn (a .edges .now)) (s .loop .s) (s .loop .inv .1) (lt-ltb 0 _ (rw (c .before .weight .ensures .0) at (c .if1 .taken))))
+loop-again c =
+    let s = c .before .before .before in
+    let a = s .before .args in (
+      search needs,
+      all-more (positiveIn (a .edges .now)) (s .loop .s) (s .loop .inv .1)
+          (lt-ltb 0 _ (rw (c .before .weight .ensures .0) at (c .if1 .taken))),
+    )
 
 returns : tie.Need-returns Inv-loop μ-loop
 unfolding positiveIn
-returns c = let s = c .before .before .before in let a = s .before .args in sym (all-fails (positiveIn (a .edges .now)) (2 * a .e) (s .loop .s) (search needs) (le-ltb 0 _ (rw (c .before .weight .ensures .0) at (c .if1 .left))))
+returns c =
+    let s = c .before .before .before in
+    let a = s .before .args in
+    sym (all-fails (positiveIn (a .edges .now)) (2 * a .e) (s .loop .s) (search needs)
+    (le-ltb 0 _ (rw (c .before .weight .ensures .0) at (c .if1 .left))))
 
 returns-2 : tie.Need-returns-2 Inv-loop μ-loop
 returns-2 c = let a = c .before .before .args in let e : c .before .loop .s ≡ 2 * a .e = omega arith in sym (rw e at (c .before .loop .inv .1))

@@ -16,11 +16,18 @@ rows-right-requires c κs = search needs
 
 returns : tie.Need-returns
 unfolding tested
-returns c = let r = c .before .before in let p = r .before in rw (c .rows-right .ensures, ← p .positive .ensures, ← r .in-reach .ensures) (both-then (p .positive .result) (r .in-reach .result) _ (c .before .if1 .taken))
+returns c =
+    let r = c .before .before in
+    let p = r .before in
+    rw (c .rows-right .ensures, ← p .positive .ensures, ← r .in-reach .ensures)
+    (both-then (p .positive .result) (r .in-reach .result) _ (c .before .if1 .taken))
 
 returns-2 : tie.Need-returns-2
 unfolding tested
-returns-2 c = let r = c .before in let p = r .before in rw (← p .positive .ensures, ← r .in-reach .ensures) (not-both (p .positive .result) (r .in-reach .result) _ (c .if1 .left))
+returns-2 c =
+    let r = c .before in
+    let p = r .before in
+    rw (← p .positive .ensures, ← r .in-reach .ensures) (not-both (p .positive .result) (r .in-reach .result) _ (c .if1 .left))
 
 pub tested-spec : {M : Type 1} → statement M
 tested-spec =

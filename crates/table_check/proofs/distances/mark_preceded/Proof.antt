@@ -37,7 +37,15 @@ loop-less : tie.Need-loop-less Inv-loop μ-loop
 loop-less c = search needs
 
 loop-again : tie.Need-loop-again Inv-loop μ-loop
-loop-again c = let s = c .before .before .before .before .before .before .before in let a = s .before .before .args in let k = c .before .before .mark-if in (search needs, marks-more _ _ _ (s .loop .s) (s .loop .inv .1) (c .before .before .before .before .before .precedes-at .ensures) (c .before .before .before .near .ensures .0) (k .ensures), k .kept .0 ∙ s .loop .inv .2)
+loop-again c =
+    let s = c .before .before .before .before .before .before .before in
+    let a = s .before .before .args in
+    let k = c .before .before .mark-if in (
+      search needs,
+      marks-more _ _ _ (s .loop .s) (s .loop .inv .1) (c .before .before .before .before .before .precedes-at .ensures)
+          (c .before .before .before .near .ensures .0) (k .ensures),
+      k .kept .0 ∙ s .loop .inv .2,
+    )
 
 same-length : tie.Need-same-length Inv-loop μ-loop
 same-length c = search needs

@@ -30,10 +30,20 @@ loop-less : tie.Need-loop-less Inv-loop μ-loop
 loop-less c = search needs
 
 loop-again : tie.Need-loop-again Inv-loop μ-loop
-loop-again c = let s = c .before .before .before in let a = s .before .before .args in (search needs, all-more (settledAt (a .m .now) (distanceIn (a .row .now)) (a .a)) (s .loop .u) (s .loop .inv .1) (sym (c .before .settled-at .ensures) ∙ c .if1 .taken))
+loop-again c =
+    let s = c .before .before .before in
+    let a = s .before .before .args in (
+      search needs,
+      all-more (settledAt (a .m .now) (distanceIn (a .row .now)) (a .a)) (s .loop .u) (s .loop .inv .1)
+          (sym (c .before .settled-at .ensures) ∙ c .if1 .taken),
+    )
 
 returns : tie.Need-returns Inv-loop μ-loop
-returns c = let s = c .before .before .before in let a = s .before .before .args in sym (all-fails (settledAt (a .m .now) (distanceIn (a .row .now)) (a .a)) (a .v) (s .loop .u) (search needs) (sym (c .before .settled-at .ensures) ∙ c .if1 .left))
+returns c =
+    let s = c .before .before .before in
+    let a = s .before .before .args in
+    sym (all-fails (settledAt (a .m .now) (distanceIn (a .row .now)) (a .a)) (a .v) (s .loop .u) (search needs)
+    (sym (c .before .settled-at .ensures) ∙ c .if1 .left))
 
 returns-2 : tie.Need-returns-2 Inv-loop μ-loop
 returns-2 c = let a = c .before .before .before .args in let e : c .before .loop .u ≡ a .v = omega arith in sym (rw e at (c .before .loop .inv .1))

@@ -23,7 +23,11 @@ reach-by-requires : tie.Need-reach-by-requires
 reach-by-requires c κs = search needs
 
 returns : tie.Need-returns
-returns c = let a = c .before .before .before .args in let z : a .v - 0 ≡ a .v = omega arith in c .before .reach-by .ensures ∙ ap (λ (m : List ℕ). allMarked (a .v) (a .e) (a .edges .now) (a .virtuals .now) m) (rw z (zeros-part 1024 (a .v) (omega arith)))
+returns c =
+    let a = c .before .before .before .args in
+    let z : a .v - 0 ≡ a .v = omega arith in
+    c .before .reach-by .ensures
+    ∙ ap (λ (m : List ℕ). allMarked (a .v) (a .e) (a .edges .now) (a .virtuals .now) m) (rw z (zeros-part 1024 (a .v) (omega arith)))
 
 pub in-reach-spec : {M : Type 1} → statement M
 in-reach-spec = tie.close (tie.spec sub-reach-by part-m-start part-m-end reach-by-requires returns)

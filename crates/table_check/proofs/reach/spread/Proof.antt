@@ -15,7 +15,10 @@ abbrev μ-loop : tie.MeasureT-loop
 μ-loop m₀ v e edges n₀ m n = v - n
 
 loop-holds : tie.Need-loop-holds Inv-loop μ-loop
-loop-holds c = let a = c .before .args in let z : a .v - 0 ≡ a .v = omega arith in (search needs, ap (λ k. spreadUntil (a .e) (a .edges .now) k (a .m .now)) z, search needs)
+loop-holds c =
+    let a = c .before .args in
+    let z : a .v - 0 ≡ a .v = omega arith in
+    (search needs, ap (λ k. spreadUntil (a .e) (a .edges .now) k (a .m .now)) z, search needs)
 
 spread-once-requires : tie.Need-spread-once-requires Inv-loop μ-loop
 spread-once-requires c κs = search needs
@@ -27,19 +30,34 @@ loop-less : tie.Need-loop-less Inv-loop μ-loop
 loop-less c = search needs
 
 loop-again : tie.Need-loop-again Inv-loop μ-loop
-loop-again c = let s = c .before .before .before .before .before .before in let a = s .before .before .args in let k = c .before .before .before .spread-once in (search needs, until-more (a .e) (a .edges .now) (a .v) (s .loop .n) _ _ (search needs) (k .ensures .1) (sym (k .ensures .0) ∙ c .if1 .taken) ∙ s .loop .inv .1, k .kept .0 ∙ s .loop .inv .2)
+loop-again c =
+    let s = c .before .before .before .before .before .before in
+    let a = s .before .before .args in
+    let k = c .before .before .before .spread-once in (
+      search needs,
+      until-more (a .e) (a .edges .now) (a .v) (s .loop .n) _ _ (search needs) (k .ensures .1) (sym (k .ensures .0) ∙ c .if1 .taken)
+          ∙ s .loop .inv .1,
+      k .kept .0 ∙ s .loop .inv .2,
+    )
 
 same-length : tie.Need-same-length Inv-loop μ-loop
 same-length c = search needs
 
 returns : tie.Need-returns Inv-loop μ-loop
-returns c = let s = c .before .before .before .before .before .before in let a = s .before .before .args in let k = c .before .before .before .spread-once in until-ends (a .e) (a .edges .now) (a .v) (s .loop .n) _ _ (search needs) (k .ensures .1) (sym (k .ensures .0) ∙ c .if1 .left) ∙ s .loop .inv .1
+returns c =
+    let s = c .before .before .before .before .before .before in
+    let a = s .before .before .args in
+    let k = c .before .before .before .spread-once in
+    until-ends (a .e) (a .edges .now) (a .v) (s .loop .n) _ _ (search needs) (k .ensures .1) (sym (k .ensures .0) ∙ c .if1 .left) ∙ s .loop .inv .1
 
 same-length-2 : tie.Need-same-length-2 Inv-loop μ-loop
 same-length-2 c = search needs
 
 returns-2 : tie.Need-returns-2 Inv-loop μ-loop
-returns-2 c = let s = c .before in let a = s .before .before .args in until-over (a .e) (a .edges .now) (a .v) (s .loop .n) _ (s .loop .m) (search needs) ∙ s .loop .inv .1
+returns-2 c =
+    let s = c .before in
+    let a = s .before .before .args in
+    until-over (a .e) (a .edges .now) (a .v) (s .loop .n) _ (s .loop .m) (search needs) ∙ s .loop .inv .1
 
 pub spread-spec : {M : Type 1} → statement M
 spread-spec =

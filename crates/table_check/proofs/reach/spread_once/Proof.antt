@@ -30,7 +30,16 @@ loop-less : tie.Need-loop-less Inv-loop μ-loop
 loop-less c = search needs
 
 loop-again : tie.Need-loop-again Inv-loop μ-loop
-loop-again c = let s = c .before .before .before .before .before .before in let a = s .before .before .args in let k = c .before .before .before .spread-side in (search needs, spread-new (a .edges .now) (a .m .now) (s .loop .s) (s .loop .inv .2) (sym (k .ensures .0) ∙ c .if1 .taken), spread-more (a .edges .now) (a .m .now) (s .loop .s) (s .loop .inv .2) (k .ensures .1), k .kept .0 ∙ s .loop .inv .3)
+loop-again c =
+    let s = c .before .before .before .before .before .before in
+    let a = s .before .before .args in
+    let k = c .before .before .before .spread-side in (
+      search needs,
+      spread-new (a .edges .now) (a .m .now) (s .loop .s) (s .loop .inv .2) (sym (k .ensures .0) ∙ c .if1 .taken),
+      spread-more
+          (a .edges .now) (a .m .now) (s .loop .s) (s .loop .inv .2) (k .ensures .1),
+      k .kept .0 ∙ s .loop .inv .3,
+    )
 
 add-s-2 : tie.Need-add-s-2 Inv-loop μ-loop
 add-s-2 c = search needs
@@ -39,13 +48,24 @@ loop-less-2 : tie.Need-loop-less-2 Inv-loop μ-loop
 loop-less-2 c = search needs
 
 loop-again-2 : tie.Need-loop-again-2 Inv-loop μ-loop
-loop-again-2 c = let s = c .before .before .before .before .before .before in let a = s .before .before .args in let k = c .before .before .before .spread-side in (search needs, spread-old (a .edges .now) (a .m .now) (s .loop .s) (s .loop .inv .2) (sym (k .ensures .0) ∙ c .if1 .left) (s .loop .inv .1), spread-more (a .edges .now) (a .m .now) (s .loop .s) (s .loop .inv .2) (k .ensures .1), k .kept .0 ∙ s .loop .inv .3)
+loop-again-2 c =
+    let s = c .before .before .before .before .before .before in
+    let a = s .before .before .args in
+    let k = c .before .before .before .spread-side in (
+      search needs,
+      spread-old (a .edges .now) (a .m .now) (s .loop .s) (s .loop .inv .2) (sym (k .ensures .0) ∙ c .if1 .left) (s .loop .inv .1),
+      spread-more (a .edges .now) (a .m .now) (s .loop .s) (s .loop .inv .2) (k .ensures .1),
+      k .kept .0 ∙ s .loop .inv .3,
+    )
 
 same-length : tie.Need-same-length Inv-loop μ-loop
 same-length c = search needs
 
 returns : tie.Need-returns Inv-loop μ-loop
-returns c = let a = c .before .before .before .args in let e : c .before .loop .s ≡ 2 * a .e = omega arith in (rw e at (c .before .loop .inv .1), rw e at (c .before .loop .inv .2))
+returns c =
+    let a = c .before .before .before .args in
+    let e : c .before .loop .s ≡ 2 * a .e = omega arith in
+    (rw e at (c .before .loop .inv .1), rw e at (c .before .loop .inv .2))
 
 pub spread-once-spec : {M : Type 1} → statement M
 spread-once-spec =

@@ -32,13 +32,27 @@ loop-less : tie.Need-loop-less Inv-loop μ-loop
 loop-less c = search needs
 
 loop-again : tie.Need-loop-again Inv-loop μ-loop
-loop-again c = let s = c .before .before .before in let a = s .before .args in (search needs, rest-more (λ x. leb x (a .limit)) (map toNat (a .list .now)) (s .loop .i) 0 (s .loop .inv .1) (rw (numbers-long (a .list .now)) (search needs)) (rw (numbers-at (a .list .now) (s .loop .i), ← c .before .word .ensures .0) (le-leb _ _ (c .if1 .taken))))
+loop-again c =
+    let s = c .before .before .before in
+    let a = s .before .args in (
+      search needs,
+      rest-more (λ x. leb x (a .limit)) (map toNat (a .list .now)) (s .loop .i) 0 (s .loop .inv .1)
+          (rw (numbers-long (a .list .now)) (search needs))
+          (rw (numbers-at (a .list .now) (s .loop .i), ← c .before .word .ensures .0) (le-leb _ _ (c .if1 .taken))),
+    )
 
 returns : tie.Need-returns Inv-loop μ-loop
-returns c = let s = c .before .before .before in let a = s .before .args in rest-fails (λ x. leb x (a .limit)) (map toNat (a .list .now)) (s .loop .i) 0 (s .loop .inv .1) (rw (numbers-long (a .list .now)) (search needs)) (rw (numbers-at (a .list .now) (s .loop .i), ← c .before .word .ensures .0) (lt-leb _ _ (c .if1 .left)))
+returns c =
+    let s = c .before .before .before in
+    let a = s .before .args in
+    rest-fails (λ x. leb x (a .limit)) (map toNat (a .list .now)) (s .loop .i) 0 (s .loop .inv .1) (rw (numbers-long (a .list .now)) (search needs))
+    (rw (numbers-at (a .list .now) (s .loop .i), ← c .before .word .ensures .0) (lt-leb _ _ (c .if1 .left)))
 
 returns-2 : tie.Need-returns-2 Inv-loop μ-loop
-returns-2 c = let s = c .before in let a = s .before .args in rest-all (λ x. leb x (a .limit)) (map toNat (a .list .now)) (s .loop .i) (s .loop .inv .1) (rw (numbers-long (a .list .now)) (omega arith))
+returns-2 c =
+    let s = c .before in
+    let a = s .before .args in
+    rest-all (λ x. leb x (a .limit)) (map toNat (a .list .now)) (s .loop .i) (s .loop .inv .1) (rw (numbers-long (a .list .now)) (omega arith))
 
 pub at-most-spec : {M : Type 1} → statement M
 at-most-spec =

@@ -34,15 +34,28 @@ loop-less c = search needs
 
 loop-again : tie.Need-loop-again Inv-loop μ-loop
 unfolding distanceIn unreachable
-loop-again c = let s = c .before .before .before in let a = s .before .args in (search needs, rest-more (λ x. leb (distanceOf x) unreachable) (a .list .now) (s .loop .i) (negsuc 0) (s .loop .inv .1) (search needs) (rw (← c .before .distance-in .ensures .0) (le-leb _ _ (c .if1 .taken))))
+loop-again c =
+    let s = c .before .before .before in
+    let a = s .before .args in (
+      search needs,
+      rest-more (λ x. leb (distanceOf x) unreachable) (a .list .now) (s .loop .i) (negsuc 0) (s .loop .inv .1) (search needs)
+          (rw (← c .before .distance-in .ensures .0) (le-leb _ _ (c .if1 .taken))),
+    )
 
 returns : tie.Need-returns Inv-loop μ-loop
 unfolding distancesInRange distanceIn unreachable
-returns c = let s = c .before .before .before in let a = s .before .args in rest-fails (λ x. leb (distanceOf x) unreachable) (a .list .now) (s .loop .i) (negsuc 0) (s .loop .inv .1) (search needs) (rw (← c .before .distance-in .ensures .0) (lt-leb _ _ (c .if1 .left)))
+returns c =
+    let s = c .before .before .before in
+    let a = s .before .args in
+    rest-fails (λ x. leb (distanceOf x) unreachable) (a .list .now) (s .loop .i) (negsuc 0) (s .loop .inv .1) (search needs)
+    (rw (← c .before .distance-in .ensures .0) (lt-leb _ _ (c .if1 .left)))
 
 returns-2 : tie.Need-returns-2 Inv-loop μ-loop
 unfolding distancesInRange
-returns-2 c = let s = c .before in let a = s .before .args in rest-all (λ x. leb (distanceOf x) unreachable) (a .list .now) (s .loop .i) (s .loop .inv .1) (search needs)
+returns-2 c =
+    let s = c .before in
+    let a = s .before .args in
+    rest-all (λ x. leb (distanceOf x) unreachable) (a .list .now) (s .loop .i) (s .loop .inv .1) (search needs)
 
 pub distances-in-range-spec : {M : Type 1} → statement M
 distances-in-range-spec =

@@ -7,7 +7,10 @@ use Rattle.table_check.proofs.refuse.graph_in_range.Tie as tie
 
 edges-ok-requires : tie.Need-edges-ok-requires
 unfolding sizesRight
-edges-ok-requires c κs = let z = first-passed (c .args .v) (c .args .e) 1 0 (c .args .edges .now) (c .pre) in let s = sizes-in _ _ _ _ (z .0) in (s .e-max, z .1)
+edges-ok-requires c κs =
+    let z = first-passed (c .args .v) (c .args .e) 1 0 (c .args .edges .now) (c .pre) in
+    let s = sizes-in _ _ _ _ (z .0) in
+    (s .e-max, z .1)
 
 virtuals-ok-requires : tie.Need-virtuals-ok-requires
 virtuals-ok-requires c κs = search needs

@@ -12,7 +12,10 @@ graph-in-range-requires c κs = search needs
 
 defects-in-range-requires : tie.Need-defects-in-range-requires
 unfolding sizesRight
-defects-in-range-requires c κs = let s = c .before in let z = first-passed (s .args .v) (s .args .e) 1 0 (s .args .edges .now) (s .pre) in sizes-in _ _ _ _ (z .0) .v-max
+defects-in-range-requires c κs =
+    let s = c .before in
+    let z = first-passed (s .args .v) (s .args .e) 1 0 (s .args .edges .now) (s .pre) in
+    sizes-in _ _ _ _ (z .0) .v-max
 
 at-most-requires : tie.Need-at-most-requires
 at-most-requires c κs = search needs

@@ -15,7 +15,10 @@ distances-in-range-requires : tie.Need-distances-in-range-requires
 distances-in-range-requires c κs = search needs
 
 returns : tie.Need-returns
-returns c = let a = c .before .before .args in rw (c .before .head-in-range .ensures, c .distances-in-range .ensures) (sym (numbers-split (a .v) (a .e) (a .edges .now) (a .virtuals .now) (a .defects .now) (a .duals .now) (a .growths .now) (a .distances .now)))
+returns c =
+    let a = c .before .before .args in
+    rw (c .before .head-in-range .ensures, c .distances-in-range .ensures)
+    (sym (numbers-split (a .v) (a .e) (a .edges .now) (a .virtuals .now) (a .defects .now) (a .duals .now) (a .growths .now) (a .distances .now)))
 
 pub numbers-right-spec : {M : Type 1} → statement M
 numbers-right-spec =

@@ -33,7 +33,15 @@ loop-less c = search needs
 
 loop-again : tie.Need-loop-again Inv-loop μ-loop
 unfolding coverMarks
-loop-again c = let s = c .before .before .before .before .before .before in let a = s .before .before .args in let k = c .before .before .mark-if in (search needs, marks-more _ _ _ (s .loop .u) (s .loop .inv .1) (ap (λ d. ltb d (a .y)) (c .before .before .before .before .distance-in .ensures .0)) (refl) (k .ensures), k .kept .0 ∙ s .loop .inv .2)
+loop-again c =
+    let s = c .before .before .before .before .before .before in
+    let a = s .before .before .args in
+    let k = c .before .before .mark-if in (
+      search needs,
+      marks-more _ _ _ (s .loop .u) (s .loop .inv .1)
+          (ap (λ d. ltb d (a .y)) (c .before .before .before .before .distance-in .ensures .0)) (refl) (k .ensures),
+      k .kept .0 ∙ s .loop .inv .2,
+    )
 
 same-length : tie.Need-same-length Inv-loop μ-loop
 same-length c = search needs

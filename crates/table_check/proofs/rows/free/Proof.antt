@@ -32,10 +32,20 @@ loop-less : tie.Need-loop-less Inv-loop μ-loop
 loop-less c = search needs
 
 loop-again : tie.Need-loop-again Inv-loop μ-loop
-loop-again c = let s = c .before .before .before in let a = s .before .before .args in (search needs, all-more (freeAt (a .edges .now) (a .growths .now) (a .m .now)) (s .loop .s) (s .loop .inv .1) (sym (c .before .free-at .ensures) ∙ c .if1 .taken))
+loop-again c =
+    let s = c .before .before .before in
+    let a = s .before .before .args in (
+      search needs,
+      all-more (freeAt (a .edges .now) (a .growths .now) (a .m .now)) (s .loop .s) (s .loop .inv .1)
+          (sym (c .before .free-at .ensures) ∙ c .if1 .taken),
+    )
 
 returns : tie.Need-returns Inv-loop μ-loop
-returns c = let s = c .before .before .before in let a = s .before .before .args in sym (all-fails (freeAt (a .edges .now) (a .growths .now) (a .m .now)) (2 * a .e) (s .loop .s) (search needs) (sym (c .before .free-at .ensures) ∙ c .if1 .left))
+returns c =
+    let s = c .before .before .before in
+    let a = s .before .before .args in
+    sym (all-fails (freeAt (a .edges .now) (a .growths .now) (a .m .now)) (2 * a .e) (s .loop .s) (search needs)
+    (sym (c .before .free-at .ensures) ∙ c .if1 .left))
 
 returns-2 : tie.Need-returns-2 Inv-loop μ-loop
 returns-2 c = let a = c .before .before .before .args in let e : c .before .loop .s ≡ 2 * a .e = omega arith in sym (rw e at (c .before .loop .inv .1))

@@ -21,7 +21,9 @@ sub-result : tie.Need-sub-result
 sub-result c = search needs
 
 returns : tie.Need-returns
-returns c = let s = c .before .before in rw (c .lesser .ensures) (sym (share-outward (s .args .y) (s .args .n) (s .args .f) (s .args .w) (c .before .if1 .taken)))
+returns c =
+    let s = c .before .before in
+    rw (c .lesser .ensures) (sym (share-outward (s .args .y) (s .args .n) (s .args .f) (s .args .w) (c .before .if1 .taken)))
 
 returns-2 : tie.Need-returns-2
 returns-2 c = let s = c .before .before .args in sym (share-inward (s .y) (s .n) (s .f) (s .w) (c .if2 .taken))

@@ -33,10 +33,20 @@ loop-less : tie.Need-loop-less Inv-loop μ-loop
 loop-less c = search needs
 
 loop-again : tie.Need-loop-again Inv-loop μ-loop
-loop-again c = let s = c .before .before .before in let a = s .before .args in (search needs, all-more (sideAt (a .edges .now) (a .growths .now) (distanceIn (a .row .now)) (a .y)) (s .loop .s) (s .loop .inv .1) (sym (c .before .side-at .ensures) ∙ c .if1 .taken))
+loop-again c =
+    let s = c .before .before .before in
+    let a = s .before .args in (
+      search needs,
+      all-more (sideAt (a .edges .now) (a .growths .now) (distanceIn (a .row .now)) (a .y)) (s .loop .s) (s .loop .inv .1)
+          (sym (c .before .side-at .ensures) ∙ c .if1 .taken),
+    )
 
 returns : tie.Need-returns Inv-loop μ-loop
-returns c = let s = c .before .before .before in let a = s .before .args in sym (all-fails (sideAt (a .edges .now) (a .growths .now) (distanceIn (a .row .now)) (a .y)) (2 * a .e) (s .loop .s) (search needs) (sym (c .before .side-at .ensures) ∙ c .if1 .left))
+returns c =
+    let s = c .before .before .before in
+    let a = s .before .args in
+    sym (all-fails (sideAt (a .edges .now) (a .growths .now) (distanceIn (a .row .now)) (a .y)) (2 * a .e) (s .loop .s) (search needs)
+    (sym (c .before .side-at .ensures) ∙ c .if1 .left))
 
 returns-2 : tie.Need-returns-2 Inv-loop μ-loop
 returns-2 c = let a = c .before .before .args in let e : c .before .loop .s ≡ 2 * a .e = omega arith in sym (rw e at (c .before .loop .inv .1))

@@ -15,7 +15,12 @@ distance-in-requires : tie.Need-distance-in-requires
 distance-in-requires c κs = search needs
 
 returns : tie.Need-returns
-returns c = let d = c .before in let n = d .before in let a = n .before .args in side-not-covered (a .edges .now) (a .growths .now) (distanceIn (a .row .now)) (a .y) (a .s) _ _ (n .near .ensures .0) (d .distance-in .ensures .0) (c .if1 .taken)
+returns c =
+    let d = c .before in
+    let n = d .before in
+    let a = n .before .args in
+    side-not-covered (a .edges .now) (a .growths .now) (distanceIn (a .row .now)) (a .y) (a .s) _ _ (n .near .ensures .0) (d .distance-in .ensures .0)
+    (c .if1 .taken)
 
 across-requires : tie.Need-across-requires
 across-requires c κs = search needs
@@ -33,7 +38,18 @@ share-requires : tie.Need-share-requires
 share-requires c κs = search needs
 
 returns-2 : tie.Need-returns-2
-returns-2 c = let w = c .before in let g = w .before in let f = g .before in let z = f .before in let t = z .before in let d = t .before in let n = d .before in let a = n .before .args in side-covered (a .edges .now) (a .growths .now) (distanceIn (a .row .now)) (a .y) (a .s) _ _ (n .near .ensures .0) (d .distance-in .ensures .0) (t .if1 .left) _ _ _ _ _ (z .across .ensures .0) (f .distance-in2 .ensures .0) (w .weight .ensures .0) (g .number .ensures .0) (c .share .ensures)
+returns-2 c =
+    let w = c .before in
+    let g = w .before in
+    let f = g .before in
+    let z = f .before in
+    let t = z .before in
+    let d = t .before in
+    let n = d .before in
+    let a = n .before .args in
+    side-covered (a .edges .now) (a .growths .now) (distanceIn (a .row .now)) (a .y) (a .s) _ _ (n .near .ensures .0) (d .distance-in .ensures .0)
+    (t .if1 .left) _ _ _ _ _ (z .across .ensures .0) (f .distance-in2 .ensures .0) (w .weight .ensures .0) (g .number .ensures .0)
+    (c .share .ensures)
 
 pub side-at-spec : {M : Type 1} → statement M
 side-at-spec =

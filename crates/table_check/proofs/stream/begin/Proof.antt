@@ -12,11 +12,19 @@ head-in-range-requires c κs = search needs
 
 positive-requires : tie.Need-positive-requires
 unfolding sizesRight
-positive-requires c κs = let s = c .before in let z = first-passed (s .args .v) (s .args .e) 1 0 (s .args .edges .now) (s .pre) in let w = sizes-in _ _ _ _ (z .0) in w .e-max
+positive-requires c κs =
+    let s = c .before in
+    let z = first-passed (s .args .v) (s .args .e) 1 0 (s .args .edges .now) (s .pre) in
+    let w = sizes-in _ _ _ _ (z .0) in
+    w .e-max
 
 in-reach-requires : tie.Need-in-reach-requires
 unfolding sizesRight
-in-reach-requires c κs = let s = c .before .before in let z = first-passed (s .args .v) (s .args .e) 1 0 (s .args .edges .now) (s .pre) in let w = sizes-in _ _ _ _ (z .0) in (w .v-max, w .e-max)
+in-reach-requires c κs =
+    let s = c .before .before in
+    let z = first-passed (s .args .v) (s .args .e) 1 0 (s .args .edges .now) (s .pre) in
+    let w = sizes-in _ _ _ _ (z .0) in
+    (w .v-max, w .e-max)
 
 returns : tie.Need-returns
 unfolding begun

@@ -21,7 +21,14 @@ same-length c = search needs
 
 returns : tie.Need-returns
 unfolding advanced
-returns c = rw (c .before .row-right .ensures, c .before .before .before .distances-in-range .ensures, c .before .before .before .before .before .before .cover .ensures, c .before .before .before .before .before .before .before .number .ensures .0)
+returns c =
+    rw (
+      c .before .row-right .ensures,
+      c .before .before .before .distances-in-range .ensures,
+      c .before .before .before .before .before .before
+          .cover .ensures,
+      c .before .before .before .before .before .before .before .number .ensures .0,
+    )
 
 pub next-spec : {M : Type 1} → statement M
 next-spec =

@@ -16,7 +16,12 @@ distance-requires : tie.Need-distance-requires
 distance-requires c κs = search needs
 
 returns : tie.Need-returns
-returns c = let s = c .before .before .before in (c .distance .ensures .0 ∙ ap distanceOf (search needs) ∙ distance-at (s .args .row .now) (s .args .u) (c .before .before .if1 .taken), search needs)
+returns c =
+    let s = c .before .before .before in (
+      c .distance .ensures .0 ∙ ap distanceOf (search needs)
+          ∙ distance-at (s .args .row .now) (s .args .u) (c .before .before .if1 .taken),
+      search needs,
+    )
 
 returns-2 : tie.Need-returns-2
 returns-2 c = (distance-outside _ _ (c .if1 .left), search needs)
