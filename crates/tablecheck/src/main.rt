@@ -2,11 +2,12 @@
 // are read one at a time. docs/TABLE-FILE.md has the form of a file.
 
 ghost use mathlib.Core.Path.{_≡_};
+ghost use mathlib.Core.Logic.{_≢_};
 ghost use mathlib.Core.Bool.{true};
 ghost use Prim.Native.Nat.{_+_, _*_, _≤_, _<_, min};
-ghost use lib.ListN.{length};
+ghost use lib.ListN.{length, replicate};
 ghost use Rattle.table_check.specs.Verdict.{sizesRight};
-ghost use Rattle.tablecheck.specs.File.{fileSizes, fileWords};
+ghost use Rattle.tablecheck.specs.File.{fileSizes, fileWords, verdictNumber, RowsRead};
 use graph::words;
 use libc::STDIN_FILENO;
 use libc::STDOUT_FILENO;
@@ -115,7 +116,9 @@ fn pass_over(bytes: &mut [u8], count: usize) -> bool
 // What a table gets is a number: 0 yes, 1 no, 4 refused 4, 2 refused 1; 3 refused 1 where input ends inside it; 5 where there is no table.
 
 // The number of a verdict.
-fn number(a: Verdict) -> usize {
+fn number(a: Verdict) -> usize
+    ensures { λ r. ⌜ r ≡ verdictNumber a ⌝ }
+{
     match a {
         Verdict::Yes => 0,
         Verdict::No => 1,
@@ -136,7 +139,11 @@ fn rows(
     growths: &[i64],
     row: &mut [i64],
 ) -> usize
-    requires { ⌜ (length (now bytes) ≡ 8192) × (length (now row) ≤ 1024) × (length (now defects) ≤ 1024) × (e ≤ 4096) × (sizesRight v e (now edges) ≡ true) ⌝ }
+    requires { ⌜ (length (now bytes) ≡ 8192) × (v ≤ 1024) × (e ≤ 4096) × (length (now row) ≡ v) × (length (now defects) ≤ 1024)
+        × (length (now duals) ≡ length (now defects)) × (length (now growths) ≡ 2 * e)
+        × (sizesRight v e (now edges) ≡ true) × (now m ≡ replicate 1024 0) ⌝ }
+    ensures { λ x. ⌜ (x ≢ 3 → RowsRead v e (now (edges .entry)) (now (virtuals .entry)) (now (defects .entry)) (now (duals .entry))
+        (now (growths .entry)) x) ⌝ }
 {
     let mut k = stream::begin(v, e, edges, virtuals, defects, duals, growths);
     let mut i = 0;
@@ -194,7 +201,8 @@ fn checked(
     growths: &[i64],
     row: &mut [i64],
 ) -> usize
-    requires { ⌜ (length (now bytes) ≡ 8192) × (length (now row) ≤ 1024) × (length (now defects) ≤ 1024) × (e ≤ 4096) ⌝ }
+    requires { ⌜ (length (now bytes) ≡ 8192) × (v ≤ 1024) × (e ≤ 4096) × (length (now row) ≡ v) × (length (now defects) ≤ 1024)
+        × (length (now duals) ≡ length (now defects)) × (length (now growths) ≡ 2 * e) ⌝ }
 {
     if !refuse::sizes_right(v, e, edges) {
         return 4;
@@ -226,7 +234,8 @@ fn lists(
     growths: &mut [i64],
     row: &mut [i64],
 ) -> usize
-    requires { ⌜ (length (now bytes) ≡ 8192) × (length (now row) ≤ 1024) × (length (now defects) ≤ 1024) × (e ≤ 4096) ⌝ }
+    requires { ⌜ (length (now bytes) ≡ 8192) × (v ≤ 1024) × (e ≤ 4096) × (length (now row) ≡ v) × (length (now defects) ≤ 1024)
+        × (length (now duals) ≡ length (now defects)) × (length (now growths) ≡ 2 * e) ⌝ }
 {
     if read_lists(bytes, edges, virtuals, defects, duals, growths) {
         checked(bytes, v, e, edges, virtuals, defects, duals, growths, row)

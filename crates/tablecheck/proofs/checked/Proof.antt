@@ -20,8 +20,12 @@ rows-requires c κs = (
   search needs,
   search needs,
   search needs,
-  sym (c .before .before .before .before .sizes-right .ensures)
-      ∙ not-false _ (c .before .before .before .if1 .left),
+  search needs,
+  search needs,
+  search needs,
+  sym
+      (c .before .before .before .before .sizes-right .ensures) ∙ not-false _ (c .before .before .before .if1 .left),
+  refl,
 )
 
 same-length : tie.Need-same-length
