@@ -1,6 +1,6 @@
 #!/usr/bin/env python3
 """The program tablecheck against an independent reading of request N13: stored tables, random runs and tables spoiled at
-one place, files cut or filled with noise; and fb_check_table against the same.
+one place, files cut or filled with noise; the tool and the exported call against the same.
 
     tests/tables/test_tables.py            in seconds
     tests/tables/test_tables.py 100000     so many random tables
@@ -9,13 +9,17 @@ import os
 import random
 import subprocess
 import sys
+import tempfile
 import unittest
 
 HERE = os.path.dirname(os.path.abspath(__file__))
 ROOT = os.path.dirname(os.path.dirname(HERE))
-sys.path.insert(0, HERE)
+sys.dont_write_bytecode = True
+sys.path[:0] = [HERE, os.path.join(ROOT, 'tools'), os.path.join(ROOT, 'python')]
 import cases  # noqa: E402
+import cluster_growth  # noqa: E402
 import reading  # noqa: E402
+from cardtool import table_file  # noqa: E402
 
 PROGRAM = os.path.join(ROOT, 'target', 'bin', 'tablecheck')
 STORED = os.path.join(ROOT, 'crates', 'tablecheck')
@@ -94,6 +98,75 @@ class Program(unittest.TestCase):
         for size in (1, 7, 8, 9, 100, 5000):
             data = rng.randbytes(size)
             self.assertEqual(told(data), list(reading.lines(data)))
+
+
+# how the tool and the reading begin to say which rule fails
+RULES = {
+    'weights': 'has weight 0',
+    'reach': 'reaches no virtual vertex',
+    'distances': 'the distance to vertex',
+    'pairs': 'their dual variables sum to',
+    'virtual vertices': 'its nearest virtual vertex',
+    'table': 'the growth is',
+}
+
+
+class Tool(unittest.TestCase):
+    def test_the_rule_that_fails_first(self):
+        seen = set()
+        for t in cases.seeded(77, 1500):
+            table, wanted = table_file.tables_in(reading.words(*t))[0], reading.verdict(*t)
+            if table is None or table.out_of_range():
+                self.assertEqual(wanted, 'refused 4')
+            else:
+                rule = table.fails()
+                self.assertEqual(wanted, 'no' if rule else 'yes')
+                if rule:
+                    seen.add(rule.split(':')[0])
+                    self.assertIn(RULES[rule.split(':')[0]], reading.fault(*t))
+        self.assertEqual(seen, set(RULES))
+
+    def test_it_writes_what_it_reads(self):
+        for t in cases.seeded(78, 200):
+            data = reading.words(*t)
+            table = table_file.tables_in(data)[0]
+            if table is not None:
+                self.assertEqual(table_file.encoded(table), data)
+
+    @unittest.skipUnless(os.path.exists(PROGRAM), 'tablecheck is not built')
+    def test_captured_tables_are_handed_over(self):
+        with tempfile.TemporaryDirectory() as folder:
+            names = [os.path.join(folder, name) for name in ('table.csv', 'duals.csv', 'out')]
+            for right, status, said in ((2, 0, '1 yes'), (1, 1, '1 no   table: edge 1, right side has growth 2, not 1')):
+                with open(names[0], 'w') as f:
+                    f.write(f'edge,left,right\n0,0,2\n1,2,{right}\n2,2,0\n')
+                with open(names[1], 'w') as f:
+                    f.write('vertex,dual\n1,2\n2,2\n')
+                card = [sys.executable, os.path.join(ROOT, 'tools', 'card.py')]
+                example = os.path.join(ROOT, 'examples', 'p1.txt')
+                handed = subprocess.run(
+                    [*card, 'handover', example, '--table', names[0], '--duals', names[1], '-o', names[2]]
+                )
+                self.assertEqual(handed.returncode, 0)
+                done = subprocess.run([*card, 'verdict', names[2]], stdout=subprocess.PIPE, text=True)
+                self.assertEqual((done.returncode, done.stdout), (status, said + '\n'))
+
+
+@unittest.skipUnless(cluster_growth.library.find(), 'the library is not built: tools/build-library.sh')
+class Exported(unittest.TestCase):
+    def test_it_says_what_the_reading_says(self):
+        for t in cases.seeded(14, 500):
+            v, e, edges, virtuals, defects, duals, growths, distances = t
+            answer = cluster_growth.check_table(
+                v,
+                [tuple(edges[3 * i:3 * i + 3]) for i in range(e)],
+                virtuals,
+                defects,
+                duals,
+                [tuple(growths[2 * i:2 * i + 2]) for i in range(e)],
+                [distances[i * v:i * v + v] for i in range(len(defects))],
+            )
+            self.assertEqual(str(answer), reading.verdict(*t))
 
 
 def many(count):
