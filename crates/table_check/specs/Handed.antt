@@ -1,6 +1,5 @@
 -- What a lab hands over: the words, and the graph and the numbers that they give.
 use Prim.Native.Nat.{ℕ, zero, suc, _*_}
-use mathlib.Core.Bool.{Bool}
 use mathlib.Core.List.{List, map}
 use lib.IntN.{ℤ, pos, negsuc}
 use lib.Dec.{leb}

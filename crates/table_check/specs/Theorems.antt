@@ -8,7 +8,6 @@ use lib.ListN.{length}
 use lib.IntN.{ℤ}
 use Rattle.table_check.specs.Handed.{handed}
 use Rattle.table_check.specs.Verdict.{Right, sizesRight, lengthsRight, tableRefusal, tableVerdict}
-use Rattle.table_check.specs.declared.Verdict.{Verdict}
 use Rattle.table_check.specs.declared.Verdict.the-variants.{Yes, No, Refused}
 use Rattle.table_check.specs.Streamed.{afterRows, ended}
 use Rattle.table_check.specs.laws.Streamed.{streamed-verdict}

@@ -1,4 +1,4 @@
-use mathlib.Core.Path.{sym, ap, refl}
+use mathlib.Core.Path.{sym, ap}
 use Rattle.host_check.specs.Told.{verdictNumbers}
 use Rattle.host.specs.laws.Words.{tells-as}
 use Rattle.host.specs.Words.{answerNumbers}

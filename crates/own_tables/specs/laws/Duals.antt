@@ -1,16 +1,13 @@
 -- The dual variables of the vertices, as the history and as the check have them.
-use Prim.Native.Nat.{ℕ, zero, suc, _<_}
+use Prim.Native.Nat.{ℕ, suc, _<_}
 use native.Mathlib.Omega.{arith}
 use native.Mathlib.Decide.{ℕ-discrete}
-use mathlib.Core.Path.{_≡_, refl, sym, ap, _∙_}
-use mathlib.Core.Logic.{_≢_, by-cases}
-use mathlib.Core.Bool.{Bool, true, false}
-use mathlib.Core.List.{List, [], _∷_, map}
-use lib.IntN.{ℤ, pos, negsuc}
-use lib.Dec.{eqb}
-use lib.ListN.{length, getD}
+use mathlib.Core.Path.{_≡_, refl, sym, ap}
+use mathlib.Core.Logic.{by-cases}
+use mathlib.Core.List.{[], _∷_, map}
+use lib.IntN.{pos}
+use lib.ListN.{length}
 use borrow.Author.Tests.{eq-eqb, ne-eqb}
-use Rattle.graph.specs.Basic.{if_then_else_}
 use Rattle.graph.specs.Word.{toNat}
 use Rattle.table.specs.History.{Entry, History, entryAt, dualAt, natural}
 use Rattle.table_check.specs.Verdict.{dualOf}

@@ -1,39 +1,39 @@
 -- A run's own table is right, and nothing refuses it.
-use Prim.Native.Nat.{ℕ, zero, suc, _+_, _*_, _/_, _%_, _≤_, _<_}
+use Prim.Native.Nat.{ℕ, suc, _+_, _*_, _/_, _%_, _≤_, _<_}
 use native.Mathlib.Omega.{arith}
-use native.Mathlib.Decide.{ℕ-discrete, decLt}
+use native.Mathlib.Decide.{decLt}
 use native.Mathlib.Nat.{div-add-mod', mod-lt, mul-le-mul-right}
 use mathlib.Core.Path.{_≡_, refl, sym, ap, _∙_}
 use mathlib.Core.Logic.{_≢_, by-cases}
-use mathlib.Core.Bool.{Bool, true, false, _&&_, not}
+use mathlib.Core.Bool.{true}
 use mathlib.Core.List.{List, [], _∷_, map}
 use lib.IntN.{ℤ, pos, negsuc}
 use lib.Dec.{leb, ltb, eqb}
-use lib.ListN.{length, getD, take, drop, length-map, List·getD-map, List·getD-eq-default}
+use lib.ListN.{length, getD, drop, length-map, List·getD-map}
 use lib.Seq.{ext-getD, getD-take, getD-drop}
-use borrow.Author.Tests.{leb-true, le-leb, lt-ltb, le-ltb, ltb-true, eq-eqb}
-use Rattle.graph.specs.Basic.{if_then_else_, all, below, member, distinct}
-use Rattle.graph.specs.Word.{toNat, wordAt}
-use Rattle.graph.specs.State.{State, defectVertex, vertexCount, sideCount, nodeCount, classOf, parentOf, dualOf, vertexHolderAt, growthAt}
-use Rattle.graph.specs.Open.{Edge, dualLimit, growthLimit, sizesOk, edgeOk, graphOf}
-use Rattle.graph.specs.Opening.{edgesIn, edgesFrom, virtualsFrom}
+use borrow.Author.Tests.{le-leb, lt-ltb, le-ltb, eq-eqb}
+use Rattle.graph.specs.Basic.{all, below, member, distinct}
+use Rattle.graph.specs.Word.{toNat}
+use Rattle.graph.specs.State.{defectVertex, sideCount, nodeCount, classOf, dualOf, vertexHolderAt}
+use Rattle.graph.specs.Open.{Edge, dualLimit, growthLimit, sizesOk, edgeOk}
+use Rattle.graph.specs.Opening.{edgesIn}
 use Rattle.graph.specs.laws.Size.{SizesIn, sizes-in}
 use Rattle.graph.specs.laws.Scan.{list-from}
-use Rattle.graph.specs.laws.Opened.{getD-tabled, getD-any, Accepted, accepted}
+use Rattle.graph.specs.laws.Opened.{getD-tabled, Accepted, accepted}
 use Rattle.graph.specs.laws.Members.{both, by-test, length-below, distinct-cons}
 use Rattle.memory.specs.laws.Open.{edges-count}
 use Rattle.calls.specs.Calls.{growthTable}
 use Rattle.reachable.specs.laws.prepare.Preparation.{invariant-numbers}
 use Rattle.reachable.specs.laws.WithoutBlossoms.{defect-vertex-held}
-use Rattle.distance.specs.Graph.{Graph, WellFormed, Virtual}
+use Rattle.distance.specs.Graph.{Virtual}
 use Rattle.distance.specs.Distance.{unreachable, dist}
 use Rattle.distance.specs.Nearest.{ReachesVirtual, nearestVirtual}
 use Rattle.distance.specs.Table.{tableFromDistances}
 use Rattle.distance.specs.Theorems.{distance-bounded, nearest-virtual-vertex, nearest-virtual-in-reach}
-use Rattle.distance.specs.laws.Distance.{unreachable-is, dist-capped}
+use Rattle.distance.specs.laws.Distance.{dist-capped}
 use Rattle.opened_graph.specs.OpenedGraph.{openedGraph, PositiveWeights}
 use Rattle.opened_graph.specs.laws.Opening.{weights-positive}
-use Rattle.table.specs.History.{Entry, History, noEntry, entryAt, dualAt, natural, dualsOf}
+use Rattle.table.specs.History.{Entry, noEntry, entryAt, dualAt, natural, dualsOf}
 use Rattle.table.specs.Runs.{Run, end, history}
 use Rattle.table.specs.Theorems.{table-is-from-distances}
 use Rattle.table.specs.laws.Depth.{DefectsOnly, vertex-inside, far-off}
@@ -41,7 +41,7 @@ use Rattle.table.specs.laws.Feasible.{nodes-apart}
 use Rattle.table.specs.laws.Runs.{defects-only, end-matches}
 use Rattle.table_check.specs.declared.Verdict.the-variants.{Yes}
 use Rattle.table_check.specs.Handed.{distanceLimit, distanceOf, distanceIn, rowOf, Handed, handed}
-use Rattle.table_check.specs.Verdict.{defectAt, dualAt as dualGiven, defectCount, dualOf as dualByVertex, dualsByVertex, Right, sizesRight, lengthsRight, graphInRange, defectsInRange, distancesInRange, numbersRight, tableRefusal, tableVerdict}
+use Rattle.table_check.specs.Verdict.{dualOf as dualByVertex, dualsByVertex, Right, sizesRight, lengthsRight, graphInRange, defectsInRange, distancesInRange, numbersRight, tableRefusal, tableVerdict}
 use Rattle.table_check.specs.Theorems.{yes-exactly}
 use Rattle.table_check.specs.laws.Members.{place-of}
 use Rattle.own_tables.specs.Own.{distanceWord, Own}

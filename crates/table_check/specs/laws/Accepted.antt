@@ -1,8 +1,8 @@
 -- What holds where nothing refuses the call.
-use Prim.Native.Nat.{ℕ, zero, suc, _+_, _*_, _≤_, _<_}
+use Prim.Native.Nat.{ℕ, _*_, _≤_}
 use native.Mathlib.Omega.{arith}
-use mathlib.Core.Path.{_≡_, refl, sym, ap, _∙_}
-use mathlib.Core.Bool.{Bool, true, false, _&&_, not}
+use mathlib.Core.Path.{_≡_, refl}
+use mathlib.Core.Bool.{true, _&&_, not}
 use mathlib.Core.List.{List, map}
 use lib.IntN.{ℤ}
 use lib.Dec.{leb, ltb, eqb}
@@ -13,7 +13,7 @@ use Rattle.graph.specs.Word.{toNat}
 use Rattle.graph.specs.Open.{dualLimit, growthLimit, sizesOk, edgeOk, openRefusal}
 use Rattle.graph.specs.Opening.{edgesIn, edgesFrom, virtualsFrom}
 use Rattle.graph.specs.laws.State.{passed, and-left, and-right}
-use Rattle.graph.specs.laws.Members.{distinct-length, by-test}
+use Rattle.graph.specs.laws.Members.{distinct-length}
 use Rattle.graph.specs.laws.Size.{sizes-in}
 use Rattle.memory.specs.laws.Open.{first-passed, edges-count}
 use Rattle.distance.specs.Graph.{WellFormed}

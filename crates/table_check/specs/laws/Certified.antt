@@ -1,20 +1,20 @@
 -- The certificate of a row is exact: a row has it just where its entries are the distances.
-use Prim.Native.Nat.{ℕ, zero, suc, _+_, _*_, _≤_, _<_}
+use Prim.Native.Nat.{ℕ, _+_, _*_, _≤_, _<_}
 use native.Mathlib.Omega.{arith}
 use native.Mathlib.Decide.{ℕ-discrete, decLt}
-use mathlib.Core.Path.{_≡_, refl, sym, ap, _∙_}
+use mathlib.Core.Path.{_≡_, sym, _∙_}
 use mathlib.Core.Logic.{_≢_, by-cases}
-use mathlib.Core.Bool.{Bool, true, false, _&&_, _||_}
+use mathlib.Core.Bool.{true, _&&_, _||_}
 use mathlib.Core.List.{List}
 use lib.IntN.{ℤ}
 use lib.Dec.{eqb, leb}
-use lib.ListN.{length, replicate, length-replicate}
+use lib.ListN.{replicate, length-replicate}
 use borrow.Author.Tests.{eqb-true, eq-eqb, leb-true, le-leb}
 use Rattle.graph.specs.Basic.{allBelow}
 use Rattle.graph.specs.Opening.{edgesIn}
 use Rattle.graph.specs.laws.State.{and-left, and-right}
 use Rattle.graph.specs.laws.Members.{both, or-cases, or-left, or-right, all-below-at, all-below-from}
-use Rattle.distance.specs.Graph.{Graph, WellFormed, Positive, sides, near, across, weight}
+use Rattle.distance.specs.Graph.{WellFormed, Positive, sides, near, across, weight}
 use Rattle.distance.specs.Distance.{unreachable, dist, DistanceCertificate}
 use Rattle.distance.specs.Theorems.{certificate-is-distance, distance-certificate}
 use Rattle.distance.specs.laws.Side.{across-placed}

@@ -2,36 +2,34 @@
 use Prim.Native.Nat.{ℕ, zero, suc, _+_, _*_, _≤_, _<_}
 use native.Mathlib.Omega.{arith}
 use native.Mathlib.Decide.{ℕ-discrete, decLt}
-use mathlib.Core.Path.{_≡_, refl, sym, ap, _∙_}
+use mathlib.Core.Path.{_≡_, refl, sym, _∙_}
 use mathlib.Core.Logic.{_≢_, by-cases}
-use mathlib.Core.Bool.{Bool, true, false, _&&_, _||_}
-use mathlib.Core.List.{List, [], _∷_, map}
-use lib.IntN.{ℤ, pos, negsuc}
+use mathlib.Core.Bool.{Bool, true, false, _&&_}
+use mathlib.Core.List.{List, [], _∷_}
+use lib.IntN.{ℤ, negsuc}
 use lib.Dec.{eqb, leb, ltb}
-use lib.ListN.{length, getD, take, drop, replicate, length-replicate, length-take, length-drop, List·getD-eq-default}
-use borrow.Author.Tests.{eqb-true, eq-eqb, leb-true, le-leb, lt-ltb, ltb-true, leb-false}
+use lib.ListN.{length, getD, take, drop, replicate, length-replicate, length-take}
+use borrow.Author.Tests.{eqb-true, eq-eqb, leb-true, le-leb, lt-ltb, ltb-true}
 use Rattle.graph.specs.Basic.{all, member, allBelow}
-use Rattle.graph.specs.Word.{toNat, wordAt}
-use Rattle.graph.specs.Open.{dualLimit}
+use Rattle.graph.specs.Word.{wordAt}
 use Rattle.graph.specs.Opening.{virtualsFrom}
 use Rattle.graph.specs.laws.State.{and-left, and-right}
 use Rattle.graph.specs.laws.Number.{word-below}
-use Rattle.graph.specs.laws.Members.{by-test, clash, both, or-cases, or-left, or-right, member-at, all-at, all-first, all-others, all-below-at, all-below-from}
+use Rattle.graph.specs.laws.Members.{by-test, both, or-cases, or-left, or-right, member-at, all-at, all-first, all-others, all-below-at, all-below-from}
 use Rattle.memory.specs.laws.Open.{virtuals-count, virtuals-get}
-use Rattle.distance.specs.Graph.{Graph, WellFormed, Positive, Virtual, sides, near, across, weight}
+use Rattle.distance.specs.Graph.{WellFormed, Positive, Virtual}
 use Rattle.distance.specs.Distance.{unreachable, dist}
 use Rattle.distance.specs.Nearest.{VirtualInReach}
 use Rattle.distance.specs.Reach.{HasMark}
 use Rattle.distance.specs.Table.{share}
-use Rattle.distance.specs.laws.Side.{across-placed}
 use Rattle.table_check.specs.Handed.{distanceOf, distanceIn, rowOf}
 use Rattle.table_check.specs.Verdict.{distancesInRange}
-use Rattle.table_check.specs.Tests.{nearIn, acrossIn, weightIn, marked, marksBy, coversAt, coverMarks, coveredBy, certified, pairAt, virtualAt, sideAt, freeAt, rowRight, rowsRight, positiveIn, allMarked, tested}
-use Rattle.table_check.specs.laws.Words.{numbers-at, numbers-long, distance-outside}
-use Rattle.table_check.specs.laws.Marks.{marked-has, has-marked, not-marked, no-marks, marks-length, marks-there, marks-kept, marks-from}
-use Rattle.table_check.specs.laws.Wiring.{graphIn, sides-are, size-is, near-is, across-is, weight-is, virtual-member, member-virtual}
-use Rattle.table_check.specs.laws.Members.{place-of, apart-places}
-use Rattle.table_check.specs.laws.Accepted.{Accepted, formed, defects-few}
+use Rattle.table_check.specs.Tests.{nearIn, acrossIn, weightIn, marked, coversAt, coverMarks, coveredBy, certified, pairAt, virtualAt, sideAt, freeAt, rowRight, rowsRight, positiveIn, allMarked, tested}
+use Rattle.table_check.specs.laws.Words.{distance-outside}
+use Rattle.table_check.specs.laws.Marks.{marked-has, not-marked, no-marks, marks-length, marks-there, marks-kept, marks-from}
+use Rattle.table_check.specs.laws.Wiring.{graphIn, sides-are, size-is, near-is, weight-is, virtual-member, member-virtual}
+use Rattle.table_check.specs.laws.Members.{place-of}
+use Rattle.table_check.specs.laws.Accepted.{Accepted, formed}
 use Rattle.table_check.specs.laws.Reached.{marked-reach, reach-marked}
 use Rattle.table_check.specs.laws.Certified.{certified-shortest, shortest-certified}
 

@@ -1,13 +1,12 @@
 -- Marks, step by step.
-use Prim.Native.Nat.{ℕ, zero, suc, _+_, _-_, _*_, _≤_, _<_}
+use Prim.Native.Nat.{ℕ, suc, _+_, _-_, _*_, _≤_, _<_}
 use native.Mathlib.Omega.{arith}
 use native.Mathlib.Numerals.{add-one}
-use mathlib.Core.Path.{_≡_, refl, sym, ap, _∙_}
+use mathlib.Core.Path.{_≡_, refl}
 use mathlib.Core.Bool.{Bool, true, false}
 use mathlib.Core.List.{List}
 use lib.IntN.{ℤ}
-use lib.ListN.{length, set, length-set, List·getD-eq-default}
-use Rattle.graph.specs.Basic.{if_then_else_}
+use lib.ListN.{length, List·getD-eq-default}
 use Rattle.table_check.specs.Tests.{marked, markIf, marksBy, spreadsAt, spreadSide, spreadSides, spreadNew, spreadUntil}
 
 pub marked-outside : (m : List ℕ) (u : ℕ) → length m ≤ u → false ≡ marked m u

@@ -1,14 +1,14 @@
 -- Which vertices have marks.
-use Prim.Native.Nat.{ℕ, zero, suc, _+_, _≤_, _<_}
+use Prim.Native.Nat.{ℕ, zero, suc, _≤_, _<_}
 use native.Mathlib.Omega.{arith}
 use native.Mathlib.Decide.{ℕ-discrete}
 use mathlib.Core.Path.{_≡_, refl, sym, ap, _∙_}
-use mathlib.Core.Logic.{_≢_, by-cases}
+use mathlib.Core.Logic.{by-cases}
 use mathlib.Core.Bool.{Bool, true, false}
 use mathlib.Core.List.{List, [], _∷_}
 use lib.ListN.{length, getD, set, take, drop, replicate, length-set}
 use lib.Seq.{getD-set-same, getD-set-other}
-use borrow.Author.Tests.{lt-ltb, ltb-true, le-ltb, ltb-false}
+use borrow.Author.Tests.{lt-ltb, ltb-true}
 use Rattle.graph.specs.laws.Members.{by-test, clash}
 use Rattle.graph.specs.laws.Opened.{getD-zeros}
 use Rattle.distance.specs.Reach.{HasMark}

@@ -1,15 +1,14 @@
 -- Where the entries of a list stand; the dual variable of a vertex.
-use Prim.Native.Nat.{ℕ, zero, suc, _+_, _≤_, _<_}
+use Prim.Native.Nat.{ℕ, zero, suc, _<_}
 use native.Mathlib.Omega.{arith}
-use native.Mathlib.Decide.{ℕ-discrete}
-use mathlib.Core.Path.{_≡_, refl, sym, ap, _∙_}
-use mathlib.Core.Logic.{_≢_, by-cases}
-use mathlib.Core.Bool.{Bool, true, false}
+use mathlib.Core.Path.{_≡_, refl, sym, ap}
+use mathlib.Core.Logic.{_≢_}
+use mathlib.Core.Bool.{true}
 use mathlib.Core.List.{List, [], _∷_}
 use lib.Dec.{eqb}
 use lib.ListN.{length, getD}
 use borrow.Author.Tests.{eq-eqb, ne-eqb, eqb-true}
-use Rattle.graph.specs.Basic.{if_then_else_, member, distinct}
+use Rattle.graph.specs.Basic.{member, distinct}
 use Rattle.graph.specs.laws.Members.{by-test, clash, member-nil, member-cons, member-at, distinct-head, distinct-tail}
 use Rattle.table_check.specs.Verdict.{dualOf}
 

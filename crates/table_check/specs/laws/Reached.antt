@@ -2,19 +2,19 @@
 use Prim.Native.Nat.{ℕ, zero, suc, _+_, _*_, _≤_, _<_}
 use native.Mathlib.Omega.{arith}
 use native.Mathlib.Decide.{ℕ-discrete}
-use mathlib.Core.Path.{_≡_, refl, sym, ap, _∙_}
-use mathlib.Core.Logic.{_↔_, by-cases}
-use mathlib.Core.Bool.{Bool, true, false, _&&_, not}
-use mathlib.Core.List.{List, map}
+use mathlib.Core.Path.{_≡_, refl, sym, _∙_}
+use mathlib.Core.Logic.{by-cases}
+use mathlib.Core.Bool.{true, false, not}
+use mathlib.Core.List.{List}
 use lib.IntN.{ℤ}
 use lib.Dec.{ltb}
-use lib.ListN.{length, getD, set, replicate, length-set, length-replicate}
+use lib.ListN.{length, getD, replicate, length-replicate}
 use borrow.Author.Tests.{not-true, ltb-true}
-use Rattle.graph.specs.Basic.{all, member, allBelow}
-use Rattle.graph.specs.Word.{toNat, wordAt}
+use Rattle.graph.specs.Basic.{all, member}
+use Rattle.graph.specs.Word.{wordAt}
 use Rattle.graph.specs.Opening.{edgesIn, virtualsFrom}
 use Rattle.graph.specs.laws.State.{and-left, and-right}
-use Rattle.graph.specs.laws.Members.{by-test, clash, both, member-at, all-at, all-below-at, all-below-from}
+use Rattle.graph.specs.laws.Members.{by-test, clash, member-at, all-at, all-below-at, all-below-from}
 use Rattle.distance.specs.Graph.{Graph, WellFormed, Virtual, sides, near, across, trivial}
 use Rattle.distance.specs.Nearest.{ReachesVirtual, VirtualInReach}
 use Rattle.distance.specs.Reach.{HasMark, ReachMarks, AllSpread}

@@ -1,26 +1,26 @@
 -- The tests pass just where the table is right.
-use Prim.Native.Nat.{ℕ, zero, suc, _+_, _*_, _≤_, _<_}
+use Prim.Native.Nat.{ℕ, _+_, _*_, _≤_, _<_}
 use native.Mathlib.Omega.{arith}
 use native.Mathlib.Decide.{ℕ-discrete, decLt}
-use mathlib.Core.Path.{_≡_, refl, sym, ap, _∙_}
+use mathlib.Core.Path.{_≡_, sym, ap, _∙_}
 use mathlib.Core.Logic.{_≢_, _↔_, by-cases}
-use mathlib.Core.Bool.{Bool, true, false, _&&_, _||_}
+use mathlib.Core.Bool.{true, _&&_, _||_}
 use mathlib.Core.List.{List, map}
 use lib.IntN.{ℤ}
 use lib.Dec.{eqb, leb, ltb}
 use lib.ListN.{length, getD, length-map, List·getD-eq-default}
 use lib.Seq.{ext-getD}
 use borrow.Author.Tests.{eqb-true, eq-eqb, leb-true, le-leb, lt-ltb, ltb-true, ltb-false}
-use Rattle.graph.specs.Basic.{all, below, allBelow, same, distinct}
+use Rattle.graph.specs.Basic.{below, allBelow, same}
 use Rattle.graph.specs.Word.{toNat, wordAt}
 use Rattle.graph.specs.Open.{dualLimit}
 use Rattle.graph.specs.laws.State.{and-left, and-right}
 use Rattle.graph.specs.laws.Shape.{same-refl, same-eq}
 use Rattle.graph.specs.laws.Opened.{getD-tabled}
 use Rattle.graph.specs.laws.Members.{both, or-cases, or-left, or-right, all-at, all-below-at, all-below-from, length-below}
-use Rattle.distance.specs.Graph.{Graph, WellFormed, Positive, Virtual, sides, near, across, weight}
+use Rattle.distance.specs.Graph.{Graph, WellFormed, Virtual, sides, near, weight}
 use Rattle.distance.specs.Distance.{unreachable, dist}
-use Rattle.distance.specs.Nearest.{VirtualInReach, nearestVirtual}
+use Rattle.distance.specs.Nearest.{nearestVirtual}
 use Rattle.distance.specs.Table.{dual, Covers, share, growth, tableFromDistances}
 use Rattle.distance.specs.Feasible.{Feasible}
 use Rattle.distance.specs.Theorems.{nearest-virtual-least, nearest-virtual-vertex, nearest-virtual-in-reach, growth-where-covered, growth-where-free}
@@ -33,7 +33,7 @@ use Rattle.table_check.specs.Tests.{nearIn, acrossIn, weightIn, tested}
 use Rattle.table_check.specs.laws.Choice.{test-same}
 use Rattle.table_check.specs.laws.Words.{numbers-at, numbers-long}
 use Rattle.table_check.specs.laws.Wiring.{graphIn, sides-are, size-is, near-is, across-is, weight-is}
-use Rattle.table_check.specs.laws.Members.{apart-places, dual-of-defect, defect-of-dual}
+use Rattle.table_check.specs.laws.Members.{dual-of-defect, defect-of-dual}
 use Rattle.table_check.specs.laws.Accepted.{Accepted, formed}
 use Rattle.table_check.specs.laws.Facts.{Facts, given, defect-in, find-below, tested-facts, facts-tested}
 

@@ -1,26 +1,24 @@
 -- Row by row is the whole.
-use Prim.Native.Nat.{ℕ, zero, suc, _+_, _*_, _≤_, _<_}
+use Prim.Native.Nat.{ℕ, zero, suc, _+_, _*_}
 use native.Mathlib.Omega.{arith}
 use native.Mathlib.Nat.{suc-mul}
 use mathlib.Core.Path.{_≡_, refl, sym, ap, _∙_}
-use mathlib.Core.Bool.{Bool, true, false, _&&_, not}
+use mathlib.Core.Bool.{Bool, true, false, _&&_}
 use mathlib.Core.List.{List, [], _∷_, _++_, map}
 use lib.IntN.{ℤ}
-use lib.Dec.{leb, eqb}
+use lib.Dec.{leb}
 use lib.ListN.{length, take, drop, replicate}
 use lib.Seq.{take-all, take-add}
 use Rattle.graph.specs.Basic.{if_then_else_, all, allBelow}
-use Rattle.graph.specs.Word.{toNat, wordAt}
+use Rattle.graph.specs.Word.{toNat}
 use Rattle.graph.specs.Open.{dualLimit, growthLimit}
 use Rattle.graph.specs.laws.Members.{by-test}
 use Rattle.distance.specs.Distance.{unreachable}
-use Rattle.table_check.specs.Handed.{distanceOf, distanceIn, rowOf, handed}
-use Rattle.table_check.specs.Verdict.{sizesRight, lengthsRight, graphInRange, defectsInRange, distancesInRange, numbersRight, tableRefusal, right, verdictBy, tableVerdict}
-use Rattle.table_check.specs.Tests.{positiveIn, allMarked, rowRight, coverMarks, coveredBy, freeAt, rowsRight, tested}
-use Rattle.table_check.specs.Streamed.{Known, headInRange, begun, advanced, afterRows, ended}
-use Rattle.table_check.specs.declared.Verdict.{Verdict}
-use Rattle.table_check.specs.declared.Verdict.the-variants.{Yes, No, Refused}
-use Rattle.table_check.specs.laws.Accepted.{Accepted, accepted-of, lengths}
+use Rattle.table_check.specs.Handed.{distanceOf, distanceIn, rowOf}
+use Rattle.table_check.specs.Verdict.{sizesRight, lengthsRight, graphInRange, defectsInRange, distancesInRange, numbersRight, tableRefusal, verdictBy, tableVerdict}
+use Rattle.table_check.specs.Tests.{positiveIn, allMarked, rowRight, coveredBy, freeAt, rowsRight, tested}
+use Rattle.table_check.specs.Streamed.{headInRange, begun, advanced, afterRows, ended}
+use Rattle.table_check.specs.laws.Accepted.{accepted-of, lengths}
 use Rattle.table_check.specs.laws.Right.{tested-right}
 
 and-assoc : (a b c : Bool) → (a && b) && c ≡ a && (b && c)

@@ -1,23 +1,21 @@
 -- The graph that the words give, side by side.
-use Prim.Native.Nat.{ℕ, zero, suc, _+_, _-_, _*_, _/_, _%_, _≤_, _<_}
+use Prim.Native.Nat.{ℕ, zero, suc, _+_, _-_, _*_, _/_, _%_, _<_}
 use native.Mathlib.Omega.{arith}
-use mathlib.Core.Path.{_≡_, refl, sym, ap, _∙_}
-use mathlib.Core.Bool.{Bool, true, false}
+use mathlib.Core.Path.{_≡_, refl, ap, _∙_}
+use mathlib.Core.Bool.{true, false}
 use mathlib.Core.List.{List, [], _∷_, map}
 use lib.IntN.{ℤ}
 use lib.ListN.{length, getD, length-map, List·getD-map}
-use Rattle.graph.specs.Basic.{if_then_else_, member, below}
-use Rattle.graph.specs.Word.{toNat, wordAt}
-use Rattle.graph.specs.Open.{Edge, endsOf, flagIn, openRefusal}
+use Rattle.graph.specs.Basic.{member}
+use Rattle.graph.specs.Open.{Edge, endsOf, flagIn}
 use Rattle.graph.specs.Opening.{givenAt, edgeAt, edgesIn, edgesFrom, virtualsFrom}
 use Rattle.graph.specs.laws.State.{by-parity}
 use Rattle.graph.specs.laws.Shape.{length-ends}
 use Rattle.graph.specs.laws.Opened.{getD-any, getD-tabled}
 use Rattle.graph.specs.laws.Members.{by-test}
 use Rattle.memory.specs.laws.Open.{edges-count, edges-get}
-use Rattle.distance.specs.Graph.{Graph, WellFormed, Virtual, sides, opposite, near, across, weight}
+use Rattle.distance.specs.Graph.{Graph, Virtual, sides, opposite, near, across, weight}
 use Rattle.opened_graph.specs.OpenedGraph.{openedGraph}
-use Rattle.opened_graph.specs.laws.Opening.{well-formed}
 use Rattle.table_check.specs.Tests.{nearIn, acrossIn, weightIn}
 
 ends-left : (es : List Edge) (i : ℕ) (d : Edge) → i < length es → getD (endsOf es) (2 * i) 0 ≡ getD es i d .left

@@ -1,21 +1,20 @@
 -- Words that give numbers and distances, and lists of them.
 use Prim.Native.Nat.{ℕ, zero, suc, _+_, _*_, _/_, _%_, _≤_, _<_}
 use native.Mathlib.Omega.{arith}
-use native.Mathlib.Nat.{div-add-mod', zero-add, add-zero}
+use native.Mathlib.Nat.{div-add-mod', add-zero}
 use mathlib.Core.Path.{_≡_, refl, sym, ap, _∙_}
-use mathlib.Core.Bool.{Bool, true, false, _&&_}
+use mathlib.Core.Bool.{true, false, _&&_}
 use mathlib.Core.List.{List, map}
 use lib.Arith.{digits-div, digits-mod}
 use lib.IntN.{ℤ, pos, negsuc, natAbs}
 use lib.Signed.{nonNeg}
-use lib.Dec.{eqb, leb, ltb}
+use lib.Dec.{eqb, ltb}
 use lib.ListN.{length, getD, length-map, List·getD-eq-default}
-use borrow.Author.Tests.{le-leb, lt-leb, eq-eqb, ne-eqb, eqb-true, eqb-false, lt-ltb, ltb-true}
+use borrow.Author.Tests.{le-leb, lt-leb, eq-eqb, eqb-true, eqb-false, lt-ltb, ltb-true}
 use Rattle.graph.specs.Basic.{all}
 use Rattle.graph.specs.Word.{toNat, wordAt}
 use Rattle.graph.specs.laws.State.{and-left, and-right}
 use Rattle.graph.specs.laws.Members.{clash, by-test, both, all-weaker}
-use Rattle.graph.specs.laws.Scan.{and-false}
 use Rattle.graph.specs.laws.Number.{word-entry}
 use Rattle.graph.specs.laws.Opened.{getD-any}
 use Rattle.distance.specs.Distance.{unreachable}

@@ -1,7 +1,5 @@
-use mathlib.Core.Bool.{true}
-use Rattle.tablecheck.specs.File.{fileSizes}
 use Rattle.tablecheck.specs.laws.File.{Fits, sizes-fit}
-use mathlib.Core.Path.{_≡_, refl, sym, _∙_, ap}
+use mathlib.Core.Path.{sym, _∙_}
 use native.Mathlib.Omega.{arith}
 use borrow.Author.Tests.{not-false}
 use Rattle.tablecheck.specs.laws.File.{sizes-fit}

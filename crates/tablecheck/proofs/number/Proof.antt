@@ -1,4 +1,4 @@
-use mathlib.Core.Path.{_≡_, refl, sym, _∙_, ap}
+use mathlib.Core.Path.{sym, ap}
 use Rattle.tablecheck.specs.File.{verdictNumber}
 use borrow.Author.Needs.{needs}
 use Rattle.tablecheck.proofs.number.Statement.{statement}

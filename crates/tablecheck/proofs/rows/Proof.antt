@@ -1,12 +1,11 @@
 use Rattle.tablecheck.specs.File.{verdictNumber}
 use Rattle.tablecheck.specs.laws.Read.{so-begun}
 use borrow.Author.Needs.{needs}
-use mathlib.Core.Path.{_≡_, refl, sym, _∙_, ap}
+use mathlib.Core.Path.{_≡_, refl, _∙_, ap}
 use native.Mathlib.Omega.{arith}
-use Prim.Native.Nat.{_-_, _*_, _≤_}
-use lib.ListN.{length, replicate}
-use Rattle.table_check.specs.Streamed.{Known}
-use Rattle.tablecheck.specs.laws.Read.{SoFar, so-none, so-more, so-all}
+use Prim.Native.Nat.{_-_, _≤_}
+use lib.ListN.{length}
+use Rattle.tablecheck.specs.laws.Read.{SoFar, so-more, so-all}
 use Rattle.tablecheck.proofs.rows.Statement.{statement}
 use Rattle.tablecheck.proofs.rows.Tie as tie
 

@@ -1,5 +1,4 @@
-use borrow.Author.Needs.{needs}
-use mathlib.Core.Path.{_≡_, refl, sym, _∙_, ap}
+use mathlib.Core.Path.{refl}
 use Rattle.tablecheck.specs.File.{fileSizes}
 use Rattle.tablecheck.proofs.sizes_fit.Statement.{statement}
 use Rattle.tablecheck.proofs.sizes_fit.Tie as tie

@@ -3,8 +3,8 @@ use Prim.Native.Nat.{ℕ, zero, suc, _+_, _-_, _*_, _≤_, _<_}
 use native.Mathlib.Omega.{arith}
 use native.Mathlib.Numerals.{add-one}
 use native.Mathlib.Nat.{suc-mul, mul-le-mul-right}
-use mathlib.Core.Path.{_≡_, refl, sym, ap, _∙_}
-use mathlib.Core.Bool.{Bool, true, _&&_}
+use mathlib.Core.Path.{_≡_, refl, ap, _∙_}
+use mathlib.Core.Bool.{Bool, true}
 use mathlib.Core.List.{List, [], _++_}
 use lib.IntN.{ℤ}
 use lib.Dec.{eqb}
@@ -13,7 +13,7 @@ use lib.Seq.{take-all, drop-at, take-append-le, drop-append-le}
 use borrow.Author.Tests.{eq-eqb}
 use Rattle.graph.specs.laws.Members.{both}
 use Rattle.table_check.specs.Handed.{rowOf}
-use Rattle.table_check.specs.Verdict.{sizesRight, lengthsRight, tableVerdict}
+use Rattle.table_check.specs.Verdict.{sizesRight, lengthsRight}
 use Rattle.table_check.specs.Streamed.{Known, begun, advanced, afterRows, ended}
 use Rattle.table_check.specs.Theorems.{row-by-row}
 use Rattle.tablecheck.specs.File.{verdictNumber, RowsRead}

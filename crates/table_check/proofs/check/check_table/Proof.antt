@@ -1,7 +1,6 @@
-use mathlib.Core.Path.{_≡_, refl, sym, _∙_, ap}
-use native.Mathlib.Omega.{arith}
+use mathlib.Core.Path.{_≡_, sym, _∙_}
 use Rattle.table_check.specs.Verdict.{verdictBy, tableVerdict, tableRefusal}
-use borrow.Author.Tests.{eq-eqb, ne-eqb}
+use borrow.Author.Tests.{ne-eqb}
 use Rattle.table_check.specs.laws.Accepted.{accepted-of, defects-few}
 use Rattle.table_check.specs.laws.Right.{tested-right}
 use borrow.Author.Needs.{needs}

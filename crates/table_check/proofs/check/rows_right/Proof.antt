@@ -2,12 +2,11 @@ use Rattle.table_check.specs.Tests.{rowRight}
 use borrow.Author.Needs.{needs}
 use mathlib.Core.Path.{_≡_, refl, sym, _∙_, ap}
 use native.Mathlib.Omega.{arith}
-use Prim.Native.Nat.{_-_, _*_, _≤_}
+use Prim.Native.Nat.{_-_, _≤_}
 use Rattle.graph.specs.Basic.{allBelow}
 use Rattle.graph.specs.laws.Scan.{all-more, all-fails}
-use mathlib.Core.Bool.{true, false}
-use Prim.Native.Nat.{ℕ, _+_}
-use mathlib.Core.List.{List}
+use mathlib.Core.Bool.{true}
+use Prim.Native.Nat.{ℕ}
 use lib.ListN.{length}
 use Rattle.table_check.specs.Handed.{distanceIn, rowOf}
 use Rattle.table_check.specs.Tests.{coveredBy}

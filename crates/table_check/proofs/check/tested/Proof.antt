@@ -1,5 +1,4 @@
 use Rattle.table_check.specs.Tests.{tested}
-use mathlib.Core.Path.{_≡_, refl, sym, _∙_, ap}
 use Rattle.table_check.specs.laws.Choice.{both-then, not-both}
 use borrow.Author.Needs.{needs}
 use Rattle.table_check.proofs.check.tested.Statement.{statement}

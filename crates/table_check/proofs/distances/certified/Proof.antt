@@ -1,6 +1,5 @@
 use borrow.Author.Needs.{needs}
 use Rattle.table_check.specs.Tests.{certified, precededMarks}
-use mathlib.Core.Path.{_≡_, refl, sym, _∙_, ap}
 use Rattle.table_check.proofs.distances.certified.Statement.{statement}
 use Rattle.table_check.proofs.distances.certified.Tie as tie
 

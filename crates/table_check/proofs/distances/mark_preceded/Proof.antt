@@ -1,7 +1,7 @@
 use borrow.Author.Needs.{needs}
 use Rattle.table_check.specs.Tests.{nearIn, precedesAt, marksBy}
 use Rattle.table_check.specs.Handed.{distanceIn}
-use mathlib.Core.Path.{_≡_, refl, sym, _∙_, ap}
+use mathlib.Core.Path.{_≡_, _∙_}
 use native.Mathlib.Omega.{arith}
 use Prim.Native.Nat.{_-_, _*_, _≤_}
 use Rattle.table_check.specs.laws.Loops.{marks-none, marks-more}

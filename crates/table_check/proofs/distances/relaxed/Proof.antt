@@ -1,12 +1,12 @@
 use borrow.Author.Needs.{needs}
 use Rattle.table_check.specs.Tests.{relaxedAt}
 use Rattle.table_check.specs.Handed.{distanceIn}
-use mathlib.Core.Path.{_≡_, refl, sym, _∙_, ap}
+use mathlib.Core.Path.{_≡_, refl, sym, _∙_}
 use native.Mathlib.Omega.{arith}
 use Prim.Native.Nat.{_-_, _*_, _≤_}
 use Rattle.graph.specs.Basic.{allBelow}
 use Rattle.graph.specs.laws.Scan.{all-more, all-fails}
-use mathlib.Core.Bool.{true, false}
+use mathlib.Core.Bool.{true}
 use Rattle.table_check.proofs.distances.relaxed.Statement.{statement}
 use Rattle.table_check.proofs.distances.relaxed.Tie as tie
 

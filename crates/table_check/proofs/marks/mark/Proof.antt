@@ -1,5 +1,5 @@
 use lib.Seq.{set-out}
-use mathlib.Core.Path.{_≡_, refl, sym, _∙_, ap}
+use mathlib.Core.Path.{sym}
 use native.Mathlib.Omega.{arith}
 use borrow.Author.Needs.{needs}
 use Rattle.table_check.proofs.marks.mark.Statement.{statement}

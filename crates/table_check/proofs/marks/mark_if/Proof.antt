@@ -1,5 +1,4 @@
 use Rattle.table_check.specs.Tests.{markIf}
-use mathlib.Core.Path.{_≡_, refl, sym, _∙_, ap}
 use borrow.Author.Needs.{needs}
 use Rattle.table_check.proofs.marks.mark_if.Statement.{statement}
 use Rattle.table_check.proofs.marks.mark_if.Tie as tie

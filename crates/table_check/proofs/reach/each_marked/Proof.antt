@@ -1,11 +1,11 @@
 use borrow.Author.Needs.{needs}
 use Rattle.table_check.specs.Tests.{marked}
-use mathlib.Core.Path.{_≡_, refl, sym, _∙_, ap}
+use mathlib.Core.Path.{_≡_, refl, sym, _∙_}
 use native.Mathlib.Omega.{arith}
-use Prim.Native.Nat.{_-_, _*_, _≤_}
+use Prim.Native.Nat.{_-_, _≤_}
 use Rattle.graph.specs.Basic.{allBelow}
 use Rattle.graph.specs.laws.Scan.{all-more, all-fails}
-use mathlib.Core.Bool.{true, false}
+use mathlib.Core.Bool.{true}
 use Rattle.table_check.proofs.reach.each_marked.Statement.{statement}
 use Rattle.table_check.proofs.reach.each_marked.Tie as tie
 

@@ -1,8 +1,7 @@
 use Rattle.table_check.specs.Tests.{allMarked}
-use mathlib.Core.Path.{_≡_, refl, sym, _∙_, ap}
+use mathlib.Core.Path.{_≡_, _∙_, ap}
 use native.Mathlib.Omega.{arith}
-use Prim.Native.Nat.{_-_, _*_, _≤_}
-use lib.ListN.{take, drop, replicate}
+use Prim.Native.Nat.{_-_}
 use Prim.Native.Nat.{ℕ}
 use mathlib.Core.List.{List}
 use Rattle.table_check.specs.laws.Marks.{zeros-part}

@@ -1,5 +1,4 @@
 use Rattle.table_check.specs.Tests.{allMarked}
-use mathlib.Core.Path.{_≡_, refl, sym, _∙_, ap}
 use borrow.Author.Needs.{needs}
 use Rattle.table_check.proofs.reach.reach_by.Statement.{statement}
 use Rattle.table_check.proofs.reach.reach_by.Tie as tie

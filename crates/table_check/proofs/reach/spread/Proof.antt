@@ -1,8 +1,8 @@
 use borrow.Author.Needs.{needs}
 use Rattle.table_check.specs.Tests.{spreadUntil}
-use mathlib.Core.Path.{_≡_, refl, sym, _∙_, ap}
+use mathlib.Core.Path.{_≡_, sym, _∙_, ap}
 use native.Mathlib.Omega.{arith}
-use Prim.Native.Nat.{_-_, _*_, _≤_}
+use Prim.Native.Nat.{_-_, _≤_}
 use Rattle.table_check.specs.laws.Loops.{until-more, until-ends, until-over}
 use lib.ListN.{length}
 use Rattle.table_check.proofs.reach.spread.Statement.{statement}

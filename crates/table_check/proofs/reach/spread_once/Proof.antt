@@ -1,6 +1,6 @@
 use borrow.Author.Needs.{needs}
 use Rattle.table_check.specs.Tests.{spreadNew, spreadSides}
-use mathlib.Core.Path.{_≡_, refl, sym, _∙_, ap}
+use mathlib.Core.Path.{_≡_, sym, _∙_}
 use native.Mathlib.Omega.{arith}
 use Prim.Native.Nat.{_-_, _*_, _≤_}
 use Rattle.table_check.specs.laws.Loops.{spread-none, spread-more, spread-new, spread-old}

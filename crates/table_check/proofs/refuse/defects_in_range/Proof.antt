@@ -1,6 +1,4 @@
-use mathlib.Core.Path.{_≡_, refl, sym, _∙_, ap}
-use native.Mathlib.Omega.{arith}
-use mathlib.Core.Bool.{true, false}
+use mathlib.Core.Path.{sym, _∙_}
 use Rattle.graph.specs.Opening.{virtualsFrom}
 use Rattle.table_check.specs.Verdict.{defectsInRange}
 use Rattle.table_check.specs.laws.Words.{below-more}

@@ -1,4 +1,3 @@
-use mathlib.Core.Path.{_≡_, refl, sym, _∙_, ap}
 use Rattle.table_check.specs.Verdict.{sizesRight}
 use Rattle.graph.specs.laws.Size.{sizes-in}
 use Rattle.memory.specs.laws.Open.{first-passed}

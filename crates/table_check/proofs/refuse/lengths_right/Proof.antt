@@ -1,7 +1,6 @@
 use lib.ListN.{length}
 use Rattle.table_check.specs.Verdict.{lengthsRight}
 use Rattle.table_check.specs.laws.Words.{rows-fit}
-use mathlib.Core.Path.{_≡_, refl, sym, _∙_, ap}
 use borrow.Author.Needs.{needs}
 use Rattle.table_check.proofs.refuse.lengths_right.Statement.{statement}
 use Rattle.table_check.proofs.refuse.lengths_right.Tie as tie

@@ -1,9 +1,5 @@
 use Rattle.table_check.specs.laws.Streamed.{numbers-split}
-use mathlib.Core.Path.{_≡_, refl, sym, _∙_, ap}
-use Rattle.table_check.specs.Verdict.{sizesRight, numbersRight}
-use Rattle.graph.specs.Open.{sizesOk}
-use Rattle.graph.specs.laws.Size.{sizes-in}
-use Rattle.memory.specs.laws.Open.{first-passed}
+use mathlib.Core.Path.{sym}
 use borrow.Author.Needs.{needs}
 use Rattle.table_check.proofs.refuse.numbers_right.Statement.{statement}
 use Rattle.table_check.proofs.refuse.numbers_right.Tie as tie

@@ -2,9 +2,9 @@ use lib.Dec.{ltb}
 use borrow.Author.Needs.{needs}
 use Rattle.table_check.specs.Tests.{coversAt, coverMarks, marksBy}
 use Rattle.table_check.specs.Handed.{distanceIn}
-use mathlib.Core.Path.{_≡_, refl, sym, _∙_, ap}
+use mathlib.Core.Path.{_≡_, refl, _∙_, ap}
 use native.Mathlib.Omega.{arith}
-use Prim.Native.Nat.{_-_, _*_, _≤_}
+use Prim.Native.Nat.{_-_, _≤_}
 use Rattle.table_check.specs.laws.Loops.{marks-none, marks-more}
 use lib.ListN.{length}
 use Rattle.table_check.proofs.rows.cover.Statement.{statement}

@@ -1,6 +1,5 @@
 use borrow.Author.Needs.{needs}
 use Rattle.table_check.specs.Tests.{rowRight}
-use mathlib.Core.Path.{_≡_, refl, sym, _∙_, ap}
 use Rattle.table_check.proofs.rows.row_right.Statement.{statement}
 use Rattle.table_check.proofs.rows.row_right.Tie as tie
 

@@ -1,6 +1,5 @@
 use Rattle.distance.specs.laws.Table.{share-outward, share-inward, share-across}
-use mathlib.Core.Path.{_≡_, refl, sym, _∙_, ap}
-use native.Mathlib.Omega.{arith}
+use mathlib.Core.Path.{sym}
 use borrow.Author.Needs.{needs}
 use Rattle.table_check.proofs.rows.share.Statement.{statement}
 use Rattle.table_check.proofs.rows.share.Tie as tie

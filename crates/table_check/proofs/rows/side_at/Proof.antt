@@ -1,9 +1,5 @@
 use Rattle.table_check.specs.laws.Side.{side-not-covered, side-covered}
 use Rattle.table_check.specs.Handed.{distanceIn}
-use Rattle.table_check.specs.Tests.{sideAt}
-use mathlib.Core.Path.{_≡_, refl, sym, _∙_, ap}
-use native.Mathlib.Omega.{arith}
-use borrow.Author.Tests.{le-leb, lt-leb}
 use borrow.Author.Needs.{needs}
 use Rattle.table_check.proofs.rows.side_at.Statement.{statement}
 use Rattle.table_check.proofs.rows.side_at.Tie as tie

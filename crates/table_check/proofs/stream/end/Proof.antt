@@ -1,4 +1,3 @@
-use mathlib.Core.Path.{_≡_, refl, sym, _∙_, ap}
 use Rattle.table_check.specs.Streamed.{ended}
 use borrow.Author.Needs.{needs}
 use Rattle.table_check.proofs.stream.end.Statement.{statement}

@@ -1,5 +1,4 @@
-use mathlib.Core.Path.{_≡_, refl, sym, _∙_, ap}
-use Rattle.table_check.specs.Streamed.{Known, advanced}
+use Rattle.table_check.specs.Streamed.{advanced}
 use borrow.Author.Needs.{needs}
 use Rattle.table_check.proofs.stream.next.Statement.{statement}
 use Rattle.table_check.proofs.stream.next.Tie as tie

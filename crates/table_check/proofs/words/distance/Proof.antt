@@ -3,7 +3,7 @@ use lib.IntN.{natAbs}
 use lib.Signed.{nonNeg}
 use mathlib.Core.Bool.{true, false}
 use Rattle.table_check.specs.laws.Words.{distance-near, distance-far, distance-none, distance-negative}
-use mathlib.Core.Path.{_≡_, refl, sym, _∙_, ap}
+use mathlib.Core.Path.{_≡_, sym, _∙_, ap}
 use native.Mathlib.Omega.{arith}
 use borrow.Author.Needs.{needs}
 use Rattle.table_check.proofs.words.distance.Statement.{statement}

@@ -1,7 +1,6 @@
 use Rattle.table_check.specs.Handed.{distanceOf}
 use Rattle.table_check.specs.laws.Words.{distance-at, distance-outside}
-use mathlib.Core.Path.{_≡_, refl, sym, _∙_, ap}
-use native.Mathlib.Omega.{arith}
+use mathlib.Core.Path.{_∙_, ap}
 use borrow.Author.Needs.{needs}
 use Rattle.table_check.proofs.words.distance_in.Statement.{statement}
 use Rattle.table_check.proofs.words.distance_in.Tie as tie
