@@ -1,7 +1,7 @@
 // Marks on vertices: a list of numbers, above 0 at a vertex that has a mark.
 
 ghost use mathlib.Core.Path.{_≡_};
-ghost use lib.ListN.{getD, set};
+ghost use lib.ListN.{set};
 ghost use Rattle.table_check.specs.Tests.{marked, markIf};
 
 // Whether vertex u has one.

@@ -2,7 +2,7 @@
 
 ghost use mathlib.Core.Path.{_≡_};
 ghost use Prim.Native.Nat.{_*_, _≤_, _<_};
-ghost use lib.ListN.{length, replicate};
+ghost use lib.ListN.{replicate};
 ghost use Rattle.graph.specs.Basic.{allBelow};
 ghost use Rattle.table_check.specs.Tests.{marked, spreadsAt, spreadSide, spreadSides, spreadNew, spreadUntil, virtualMarks, allMarked};
 use crate::marks;

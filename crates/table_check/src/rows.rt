@@ -4,7 +4,6 @@ ghost use mathlib.Core.Path.{_≡_};
 ghost use Prim.Native.Nat.{_*_, _≤_, _<_};
 ghost use lib.ListN.{length};
 ghost use Rattle.graph.specs.Basic.{allBelow};
-ghost use Rattle.graph.specs.Word.{wordAt};
 ghost use Rattle.distance.specs.Table.{share};
 ghost use Rattle.table_check.specs.Handed.{distanceIn};
 ghost use Rattle.table_check.specs.Tests.{pairAt, virtualAt, sideAt, rowRight, coverMarks, freeAt};

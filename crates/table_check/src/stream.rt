@@ -3,7 +3,6 @@
 ghost use mathlib.Core.Path.{_≡_};
 ghost use mathlib.Core.Bool.{true};
 ghost use Prim.Native.Nat.{_≤_};
-ghost use lib.ListN.{length, replicate};
 ghost use Rattle.table_check.specs.Verdict.{sizesRight};
 ghost use Rattle.table_check.specs.Streamed.{begun, advanced, ended};
 use crate::Verdict;
