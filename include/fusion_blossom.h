@@ -33,6 +33,7 @@ extern "C" {
 #define FB_MOST_WEIGHT 1000000       /* weights, from 0 */
 #define FB_MOST_DUAL 1000000000      /* dual variables and overgrown amounts */
 #define FB_MOST_GROWTH 1100000000000 /* growth of a side */
+#define FB_MOST_DISTANCE 1023000000  /* distances that are handed over; -1 where there is no way */
 #define FB_MOST_VALUE 999999999      /* values of a sheet, from 0: ten-thousandths; beyond them refused 17 */
 
 /* Words to lend. */
@@ -69,6 +70,7 @@ enum {
     FB_VERTEX = 10,   /* a vertex */
     FB_REFUSED = 11,  /* the number of the refusal */
     FB_OPENED = 12,   /* fb_open_sheet: how many positive values became 0 */
+    FB_VERDICT = 13,  /* fb_check_table: 1 yes, 0 no */
 };
 
 /* What a refusal's number means. */
@@ -113,6 +115,17 @@ size_t fb_open_sheet(int64_t *block, size_t block_length, const int64_t *scratch
                      size_t edges_length, const int64_t *sheet, size_t sheet_length, const int64_t *virtuals,
                      size_t virtuals_length, size_t v, size_t e, size_t n, size_t l, size_t *answer,
                      size_t answer_length);
+
+/* A table from another decoder: the graph, its defects with their dual variables, the growth of each side (edge by
+   edge: left, right), and for each defect in turn the distances to all v vertices. Everything is only read. FB_VERDICT
+   and 1 for yes: weights are positive and every vertex reaches a virtual one, the distances are the shortest, the dual
+   variables of two defects sum to at most their distance, none is above the distance to its nearest virtual vertex, and
+   the growths are those that follow from distances and dual variables; 0 for no. Tested first, in this order: 4 for the
+   sizes, 1 for a list of a wrong length, 4 for a number out of range or a defect listed twice. */
+size_t fb_check_table(const int64_t *edges, size_t edges_length, const int64_t *virtuals, size_t virtuals_length,
+                      const int64_t *defects, size_t defects_length, const int64_t *duals, size_t duals_length,
+                      const int64_t *growths, size_t growths_length, const int64_t *distances, size_t distances_length,
+                      size_t v, size_t e, size_t *answer, size_t answer_length);
 
 /* The next node is a defect at a vertex, in a grow state: FB_NODE. */
 size_t fb_insert_defect(int64_t *block, size_t block_length, int64_t *scratch, size_t scratch_length, size_t vertex,

@@ -26,6 +26,7 @@ from .answers import (
     ShrinkStopPeer,
     TouchingVirtual,
     Unlimited,
+    Verdict,
     Vertex,
 )
 from .block import Block, Node
@@ -35,6 +36,7 @@ from .matching import Matching, match
 from .refusals import Refused, sentence
 from .sheet import decimal, ten_thousandths
 from .sizes import block_words, enough_store, scratch_words
+from .verdict import check_table
 
 __all__ = [
     'Answer',
@@ -63,8 +65,10 @@ __all__ = [
     'Table',
     'TouchingVirtual',
     'Unlimited',
+    'Verdict',
     'Vertex',
     'block_words',
+    'check_table',
     'decimal',
     'enough_store',
     'match',

@@ -148,6 +148,16 @@ class Opened:
 
 
 @dataclass(frozen=True)
+class Verdict:
+    """A table from another decoder is right, or is not."""
+
+    yes: bool
+
+    def __str__(self) -> str:
+        return 'yes' if self.yes else 'no'
+
+
+@dataclass(frozen=True)
 class Moved:
     """`advance` moved the node's dual variable by so much: below 0 it shrank, 0 for a node that stays."""
 
@@ -158,7 +168,7 @@ class Moved:
 
 
 Length = Union[Free, Unlimited, Conflict, TouchingVirtual, NeedExpand, ShrinkStop, ShrinkStopPeer]
-Answer = Union[Length, Done, NewNode, Prepared, Vertex, Refusal, Opened]
+Answer = Union[Length, Done, NewNode, Prepared, Vertex, Refusal, Opened, Verdict]
 
 # the case that stands first in an answer, as in include/fusion_blossom.h, and what its values make
 CASES: Dict[int, Callable[..., Answer]] = {
@@ -175,6 +185,7 @@ CASES: Dict[int, Callable[..., Answer]] = {
     10: Vertex,
     11: Refusal,
     12: Opened,
+    13: lambda yes: Verdict(bool(yes)),
 }
 
 

@@ -27,6 +27,8 @@ class Call(NamedTuple):
 OPEN = Call('fb_open', (WORDS, WORDS, SIZE, SIZE, SIZE, SIZE))  # edges, virtual vertices, V, E, N, L
 # edges, whose third words are written, sheet, virtual vertices, V, E, N, L
 OPEN_SHEET = Call('fb_open_sheet', (WORDS, WORDS, WORDS, SIZE, SIZE, SIZE, SIZE))
+# edges and virtual vertices, which stand where block and scratch do; defects, dual variables, growths, distances, V, E
+CHECK_TABLE = Call('fb_check_table', (WORDS, WORDS, WORDS, WORDS, SIZE, SIZE))
 
 CALLS: Dict[str, Call] = {
     'insert_defect': Call('fb_insert_defect', (SIZE, SIZE)),

@@ -5,7 +5,7 @@ import ctypes
 import os
 from typing import Callable, Dict, Iterator, Optional
 
-from .calls import CALLS, OPEN, OPEN_SHEET
+from .calls import CALLS, CHECK_TABLE, OPEN, OPEN_SHEET
 
 NAME = 'libfusion_blossom.so'
 VARIABLE = 'FUSION_BLOSSOM_LIBRARY'
@@ -46,6 +46,7 @@ class Library:
         self.path = found
         self.open = self.declare(shared, OPEN)
         self.open_sheet = self.declare(shared, OPEN_SHEET)
+        self.check_table = self.declare(shared, CHECK_TABLE)
         self.calls: Dict[str, Callable[..., int]] = {name: self.declare(shared, call) for name, call in CALLS.items()}
 
     def declare(self, shared: ctypes.CDLL, call) -> Callable[..., int]:

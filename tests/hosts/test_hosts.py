@@ -75,7 +75,7 @@ class Header(unittest.TestCase):
         cases = dict(re.findall(r'(FB_\w+) = (\d+)', header()[header().index('/* Cases of an answer') :]))
         self.assertEqual(sorted(map(int, cases.values())), sorted(answers.CASES))
         declared = {name: text for name, text in re.findall(r'size_t (fb_\w+)\(([^)]*)\)', header())}
-        rows = {c.symbol: c for c in [calls.OPEN, calls.OPEN_SHEET, *calls.CALLS.values()]}
+        rows = {c.symbol: c for c in [calls.OPEN, calls.OPEN_SHEET, calls.CHECK_TABLE, *calls.CALLS.values()]}
         self.assertEqual(set(declared), set(rows))
         for symbol, row in rows.items():
             self.assertEqual(len(row.types()), declared[symbol].count(',') + 1, symbol)

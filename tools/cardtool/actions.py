@@ -2,9 +2,9 @@
 import json
 import sys
 
-from . import check, dem, dem_graph, json_form, match, page, picture, records, shots, show, tables
+from . import check, dem, dem_graph, json_form, match, page, picture, records, shots, show, table_file, tables
 from .faults import BadInput, NoAnswer
-from .files import judge, placed, read, script_in, write, write_script
+from .files import judge, placed, read, script_in, write, write_bytes, write_script
 from .plain import complain, say
 from .run import Run
 from .script import LIBRARY_SIZES
@@ -80,6 +80,31 @@ def do_check(args, name):
     for line in lines:
         say(line)
     return 0 if equal else 1
+
+
+def do_handover(args, name):
+    script = script_in(args.file)
+    table = tables.captured(read(args.table), script.graph) if args.table else None
+    if args.duals:
+        if table is None:
+            raise BadInput('dual variables from elsewhere are for a table from elsewhere: --table')
+        nodes = list(tables.captured_duals(read(args.duals), script.graph).items())
+    else:
+        checked = check.Checked(script)
+        nodes = [(vertex, y) for vertex, _, y in checked.book.nodes]
+        table = checked.read() if table is None else table
+    missing = [e for e in range(len(script.graph.edges)) if e not in table]
+    if missing:
+        raise BadInput(f'the table has no row for edge {missing[0]}')
+    write_bytes(args.out, table_file.encoded(table_file.of_run(script.graph, nodes, table)))
+    return 0
+
+
+def do_verdict(args, name):
+    lines, right = table_file.report(read(args.file))
+    for line in lines:
+        say(line)
+    return 0 if right else 1
 
 
 def do_explain(args, name):

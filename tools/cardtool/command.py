@@ -35,6 +35,25 @@ COMMANDS = {
             ),
         },
     ),
+    'handover': (
+        actions.do_handover,
+        'the table, the dual variables and the distances as a table file for tablecheck',
+        {
+            '--table': dict(
+                metavar='TABLE', help='a table from elsewhere: text, CSV or JSON with edge, left and right'
+            ),
+            '--duals': dict(
+                metavar='DUALS',
+                help='dual variables from elsewhere: text, CSV or JSON with vertex and dual; no call is made then',
+            ),
+            **OUT,
+        },
+    ),
+    'verdict': (
+        actions.do_verdict,
+        'the verdicts of tablecheck on a table file, and which rule fails first (found by the tool, not proved)',
+        {},
+    ),
     'explain': (
         actions.do_explain,
         'how the growths of one edge follow from distances and dual variables',

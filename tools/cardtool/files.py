@@ -31,6 +31,16 @@ def write(path, words):
             f.write(words)
 
 
+def write_bytes(path, data):
+    """The same with bytes."""
+    if path in (None, '-'):
+        sys.stdout.buffer.write(data)
+        sys.stdout.buffer.flush()
+    else:
+        with open(path, 'wb') as f:
+            f.write(data)
+
+
 def write_script(path, script, as_json, comments=()):
     """Writes a script as text, or as JSON where that is asked for or the name says so."""
     if as_json or path is not None and path.endswith('.json'):

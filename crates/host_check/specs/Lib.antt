@@ -1,0 +1,2 @@
+-- What the contract of the exported check of a table cites.
+pub mod Told

@@ -1,0 +1,3 @@
+-- The proof behind Theorems.
+pub mod Duals
+pub mod Own

@@ -1,0 +1,69 @@
+use borrow.Author.Needs.{needs}
+use Rattle.table_check.specs.Tests.{positiveIn}
+use borrow.Author.Tests.{lt-ltb, le-ltb}
+use mathlib.Core.Path.{_≡_, refl, sym}
+use native.Mathlib.Omega.{arith}
+use Prim.Native.Nat.{_-_, _*_, _≤_}
+use Rattle.graph.specs.Basic.{allBelow}
+use Rattle.graph.specs.laws.Scan.{all-more, all-fails}
+use mathlib.Core.Bool.{true}
+use Rattle.table_check.proofs.check.positive.Statement.{statement}
+use Rattle.table_check.proofs.check.positive.Tie as tie
+
+abbrev Inv-loop : tie.InvT-loop
+Inv-loop e edges s₀ s = (s ≤ 2 * e) × (allBelow (positiveIn edges) s ≡ true)
+
+abbrev μ-loop : tie.MeasureT-loop
+μ-loop e edges s₀ s = 2 * e - s
+
+loop-holds : tie.Need-loop-holds Inv-loop μ-loop
+unfolding allBelow
+loop-holds c = (omega arith, refl)
+
+mul-loop : tie.Need-mul-loop Inv-loop μ-loop
+mul-loop c = search needs
+
+weight-requires : tie.Need-weight-requires Inv-loop μ-loop
+weight-requires c κs = search needs
+
+add-s : tie.Need-add-s Inv-loop μ-loop
+add-s c = search needs
+
+loop-less : tie.Need-loop-less Inv-loop μ-loop
+loop-less c = search needs
+
+loop-again : tie.Need-loop-again Inv-loop μ-loop
+unfolding positiveIn
+loop-again c =
+    let s = c .before .before .before in
+    let a = s .before .args in (
+      search needs,
+      all-more (positiveIn (a .edges .now)) (s .loop .s) (s .loop .inv .1)
+          (lt-ltb 0 _ (rw (c .before .weight .ensures .0) at (c .if1 .taken))),
+    )
+
+returns : tie.Need-returns Inv-loop μ-loop
+unfolding positiveIn
+returns c =
+    let s = c .before .before .before in
+    let a = s .before .args in
+    sym (all-fails (positiveIn (a .edges .now)) (2 * a .e) (s .loop .s) (search needs)
+    (le-ltb 0 _ (rw (c .before .weight .ensures .0) at (c .if1 .left))))
+
+returns-2 : tie.Need-returns-2 Inv-loop μ-loop
+returns-2 c = let a = c .before .before .args in let e : c .before .loop .s ≡ 2 * a .e = omega arith in sym (rw e at (c .before .loop .inv .1))
+
+pub positive-spec : {M : Type 1} → statement M
+positive-spec =
+    tie.close
+    (tie.spec
+    Inv-loop
+    μ-loop
+    loop-holds
+    mul-loop
+    weight-requires
+    add-s
+    loop-less
+    loop-again
+    returns
+    returns-2)
