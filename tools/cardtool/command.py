@@ -19,35 +19,25 @@ from .plain import complain, plain
 
 OUT = {'-o': dict(dest='out', metavar='OUT', help='the file that is written')}
 JSON = {'--json': dict(action='store_true', help='as JSON')}
+ELSEWHERE = {
+    '--table': dict(metavar='TABLE', help='a table from elsewhere: text, CSV or JSON with edge, left and right'),
+    '--duals': dict(
+        metavar='DUALS',
+        help='dual variables from elsewhere: text, CSV or JSON with vertex and dual; no call is made then',
+    ),
+}
 COMMANDS = {
     'run': (actions.do_run, 'every call with its answer', {**JSON, **OUT}),
     'table': (actions.do_table, 'the growth table after the last call, as CSV', {**JSON, **OUT}),
     'check': (
         actions.do_check,
         'compares the table with the one from distances and dual variables',
-        {
-            '--table': dict(
-                metavar='TABLE', help='a table from elsewhere: text, CSV or JSON with edge, left and right'
-            ),
-            '--duals': dict(
-                metavar='DUALS',
-                help='dual variables from elsewhere: text, CSV or JSON with vertex and dual; no call is made then',
-            ),
-        },
+        ELSEWHERE,
     ),
     'handover': (
         actions.do_handover,
         'the table, the dual variables and the distances as a table file for tablecheck',
-        {
-            '--table': dict(
-                metavar='TABLE', help='a table from elsewhere: text, CSV or JSON with edge, left and right'
-            ),
-            '--duals': dict(
-                metavar='DUALS',
-                help='dual variables from elsewhere: text, CSV or JSON with vertex and dual; no call is made then',
-            ),
-            **OUT,
-        },
+        {**ELSEWHERE, **OUT},
     ),
     'verdict': (
         actions.do_verdict,

@@ -16,7 +16,12 @@ use Rattle.table_check.specs.declared.Verdict.the-variants.{Yes, No, Refused}
 
 -- a name that opens all definitions of the verdict: under `unfolding everything` it computes
 unfoldable pub everything : ℕ
-unfolding Graph.everything Word.toNat Opening.givenAt Opening.edgeAt Opening.edgesFrom Opening.virtualsFrom Distance.everything OpenedGraph.openedGraph Handed.distanceOf Handed.distanceIn Handed.handed Verdict.dualOf Verdict.dualsByVertex Verdict.positive Verdict.inReach Verdict.shortest Verdict.pairsFeasible Verdict.virtualsFeasible Verdict.tableAfresh Verdict.right Verdict.sizesRight Verdict.lengthsRight Verdict.graphInRange Verdict.defectsInRange Verdict.distancesInRange Verdict.numbersRight Verdict.tableRefusal Verdict.verdictBy Verdict.tableVerdict
+unfolding
+    Graph.everything Word.toNat Opening.givenAt Opening.edgeAt Opening.edgesFrom Opening.virtualsFrom Distance.everything
+    OpenedGraph.openedGraph Handed.distanceOf Handed.distanceIn Handed.handed Verdict.dualOf Verdict.dualsByVertex Verdict.positive
+    Verdict.inReach Verdict.shortest Verdict.pairsFeasible Verdict.virtualsFeasible Verdict.tableAfresh Verdict.right Verdict.sizesRight
+    Verdict.lengthsRight Verdict.graphInRange Verdict.defectsInRange Verdict.distancesInRange Verdict.numbersRight Verdict.tableRefusal
+    Verdict.verdictBy Verdict.tableVerdict
 everything = 0
 
 -- The verdict on vertices 0 to 3 in a row, edges of weight 4, 0 and 3 virtual, and defects at 1 and 2 with dual variables 2 and 2: by the growths and
