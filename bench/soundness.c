@@ -1,11 +1,12 @@
 // Times the soundness test on a block of the largest sizes with full lists: V 1,024, E 4,096, N 1,024, L 65,536.
 // Node 1,023 is a blossom that holds every side and lists it; nodes 0 to 1,022 are defects that lie in it, each with a list of 56 sides.
+// All nodes stand in the active list.
 #include <stdint.h>
 #include <stdio.h>
 #include <stdlib.h>
 #include <time.h>
 
-enum { V = 1024, E = 4096, N = 1024, L = 65536, LENGTH = 16 + 4 * V + 11 * E + 7 * N + L };
+enum { V = 1024, E = 4096, N = 1024, L = 65536, LENGTH = 16 + 4 * V + 11 * E + 8 * N + L };
 
 size_t memory_refusal(const int64_t *block, size_t blocks, const int64_t *scratch, size_t scratches);
 
@@ -21,8 +22,8 @@ static void fill(void) {
     int64_t *flags = b + 16, *vholder = flags + V, *vgrandson = vholder + V, *first = vgrandson + V;
     int64_t *end = first + V, *growth = end + 2 * E, *holder = growth + 2 * E, *grandson = holder + 2 * E, *at = grandson + 2 * E;
     int64_t *weight = at + 2 * E, *class = weight + E, *state = class + N, *parent = state + N, *dual = parent + N;
-    int64_t *start = dual + N, *blen = start + N, *olen = blen + N, *store = olen + N;
-    b[0] = V, b[1] = E, b[2] = N, b[3] = L, b[4] = N;
+    int64_t *start = dual + N, *blen = start + N, *olen = blen + N, *store = olen + N, *active = store + L;
+    b[0] = V, b[1] = E, b[2] = N, b[3] = L, b[4] = N, b[5] = N;
     for (int e = 0; e < E; e++) {
         end[2 * e] = e % V;
         end[2 * e + 1] = (e + 1 + e / V * 7) % V;
@@ -41,6 +42,7 @@ static void fill(void) {
     p = 0;
     for (int n = 0; n < N; n++) {
         int last = n == N - 1;
+        active[n] = N - 1 - n;
         class[n] = last ? V : n;
         state[n] = last;
         parent[n] = last ? 0 : N;
@@ -65,7 +67,7 @@ int main(void) {
         if (s < best) best = s;
     }
     printf("soundness of %d words, lists full: best %.1f us, mean %.1f us over %d runs\n", LENGTH, best * 1e6, (seconds() - all) / runs * 1e6, runs);
-    b[LENGTH - 1] = 1024 * 5; // the last overgrown vertex again: found only at the end of the block
-    printf("with its last entry a repeat: refused %zu\n", memory_refusal(b, LENGTH, t, 6 * E));
+    b[LENGTH - 1] = b[LENGTH - 2]; // the last node of the active list again: found only at the end of the block
+    printf("with its last word a repeat: refused %zu\n", memory_refusal(b, LENGTH, t, 6 * E));
     return 0;
 }

@@ -1,5 +1,5 @@
 // Links the archive of crate `stream`: ARCHIVE names it, by default target/staticlib/libstream.a of the repository. LIBRARY names
-// the archive of crate `host`, the calls on lent memory; without it the library is neither compared nor measured. CORES names the
+// the archive of the library, the calls on lent memory; without it the library is neither compared nor measured. CORES names the
 // archive that bench/cores.sh makes, for measuring calls without the test of the memory.
 use std::{env, path::PathBuf};
 

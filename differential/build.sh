@@ -1,7 +1,7 @@
 # Builds the archive of crate `stream` and the bench; sets `bench` to its program. Read by the other scripts; those that set
 # `with_library` get the calls on lent memory too, and those that set `with_cores` the calls without the test of the memory.
 #   ARCHIVE         another archive with the call cardrun_lines (default: what `rt staticlib stream` writes)
-#   LIBRARY         another archive with the calls on lent memory (default: what `rt staticlib host` writes)
+#   LIBRARY         another archive with the calls on lent memory (default: what tools/build-library.sh makes)
 #   CORES           another archive of bench/cores (default: what bench/cores.sh makes)
 #   FB_SRC          the folder of the three Rust files (default: ../shared/docs/src beside the repository)
 #   CARGO_REGISTRY  where Debian's librust packages put their sources
@@ -20,8 +20,8 @@ if [ ! -d "$registry/parking_lot-0.12.1" ] && [ -z "$CARGO_REGISTRY" ]; then
 fi
 if [ -n "$with_library" ]; then
     if [ -z "$LIBRARY" ]; then
-        (cd "$root" && rt staticlib host) > "$root/target/differential.log" 2>&1 || { tail "$root/target/differential.log"; exit 1; }
-        LIBRARY=$root/target/staticlib/libhost.a
+        "$root/tools/build-library.sh" > "$root/target/differential.log" 2>&1 || { tail "$root/target/differential.log"; exit 1; }
+        LIBRARY=$root/target/lib/libfusion_blossom.a
     fi
     export LIBRARY
 else

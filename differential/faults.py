@@ -1,8 +1,9 @@
 #!/usr/bin/env python3
-"""faults.py [RUNS]: the comparison must notice faults. Each edit below goes into a copy of the Rust; run.sh on it must find differences,
-or library-run.sh where only the state shows the fault.
+"""faults.py [RUNS] [WORD]: the comparison must notice faults. Each edit below goes into a copy of the Rust; run.sh on it must find differences,
+library-run.sh where only the state shows the fault, or rounds-run.sh where it is in the calls for all clusters.
+With WORD only the faults whose name has it.
 
-Needs what run.sh and library-run.sh need, and their archives built before. FB_SRC as for run.sh.
+Needs what these need, and their archives built before. FB_SRC as for run.sh.
 """
 import os, re, shutil, subprocess, sys, tempfile
 
@@ -33,6 +34,21 @@ FAULTS = [
 IN_STATES = [
     ('a released vertex keeps its grandson', '                            vertex.propagated_grandson_dual_node = None;\n', '', 0),
 ]
+IN_ROUNDS = [
+    ('a round grows first, then shrinks',
+     'if matches!(dual_node.grow_state, DualNodeGrowState::Shrink) {\n                self.grow_dual_node(&dual_node_ptr, -length);\n            }\n        }\n        // then grow those needed\n',
+     'if matches!(dual_node.grow_state, DualNodeGrowState::Grow) {\n                self.grow_dual_node(&dual_node_ptr, length);\n            }\n        }\n'
+     '        for i in 0..self.active_list.len() {\n'
+     '            let dual_node_ptr = self.active_list[i].upgrade_force().read_recursive().origin.upgrade_force();\n'
+     '            let dual_node = dual_node_ptr.read_recursive();\n'
+     '            if matches!(dual_node.grow_state, DualNodeGrowState::Shrink) {\n                self.grow_dual_node(&dual_node_ptr, -length);\n            }\n        }\n'
+     '        if length > 0 {\n            return;\n        }\n', 0),
+    ('the group leaves out its second conflict', '            list.push(max_update_length);\n        }\n    }\n',
+     '            if list.len() != 1 {\n                list.push(max_update_length);\n            }\n        }\n    }\n', 0),
+    ('the active list is not renewed', '        self.active_list = updated_active_list;\n', '        let _ = updated_active_list;\n', 0),
+]
+# a fault whose text stands in another file than dual_module_serial
+ELSEWHERE = {'the group leaves out its second conflict': 'dual_module'}
 
 
 def edited(text, old, new, place):
@@ -43,22 +59,25 @@ def edited(text, old, new, place):
 
 def main():
     runs = sys.argv[1] if len(sys.argv) > 1 else '2000'
+    chosen = [f for f in FAULTS + IN_STATES + IN_ROUNDS if len(sys.argv) < 3 or sys.argv[2] in f[0]]
     missed = 0
     work = tempfile.mkdtemp()
     env = dict(os.environ, FB_SRC=os.path.join(work, 'src'), FOUND=os.path.join(work, 'found'))
-    for name, archive in (('ARCHIVE', 'libstream.a'), ('LIBRARY', 'libhost.a')):
+    for name, archive in (('ARCHIVE', 'libstream.a'), ('LIBRARY', '../lib/libfusion_blossom.a')):
         env.setdefault(name, os.path.join(ROOT, 'target', 'staticlib', archive))
     env.setdefault('CARGO_TARGET_DIR', os.path.join(ROOT, 'target', 'faults'))
     try:
-        for name, old, new, place in FAULTS + IN_STATES:
-            script, times = ('library-run.sh', '60') if (name, old, new, place) in IN_STATES else ('run.sh', runs)
+        for name, old, new, place in chosen:
+            script, times = ('run.sh', runs)
+            if name in [f[0] for f in IN_STATES + IN_ROUNDS]:
+                script, times = ('library-run.sh' if name in [f[0] for f in IN_STATES] else 'rounds-run.sh', '60')
             shutil.rmtree(env['FB_SRC'], ignore_errors=True)
             os.mkdir(env['FB_SRC'])
             for m in ('dual_module_serial', 'dual_module', 'util'):
                 path = os.path.join(SRC, 'src--src--%s.rs.txt' % m)
                 text = open(path if os.path.exists(path) else os.path.join(SRC, m + '.rs')).read()
                 with open(os.path.join(env['FB_SRC'], m + '.rs'), 'w') as f:
-                    f.write(edited(text, old, new, place) if m == 'dual_module_serial' else text)
+                    f.write(edited(text, old, new, place) if m == ELSEWHERE.get(name, 'dual_module_serial') else text)
             p = subprocess.run([os.path.join(HERE, script), times, '1'], env=env, capture_output=True, text=True)
             found = re.search(r'^different: (\d+)$', p.stdout, re.M)
             n = int(found.group(1)) if found else -1
@@ -69,7 +88,7 @@ def main():
             missed += n <= 0
     finally:
         shutil.rmtree(work, ignore_errors=True)
-    print('%d of %d faults noticed' % (len(FAULTS + IN_STATES) - missed, len(FAULTS + IN_STATES)))
+    print('%d of %d faults noticed' % (len(chosen) - missed, len(chosen)))
     sys.exit(missed > 0)
 
 

@@ -2,11 +2,11 @@
  *
  * Vertices are the stabilizers of 15 rows and 14 columns and two virtual ones at the left and right side; edges are
  * data qubits, each of weight 2. Random qubits flip; the stabilizers that see an odd number of flips are defects. All
- * defects grow together: in a round each is asked how far it may grow, and all grow by the least length of them. Those
- * that meet are paired, one that meets a side is matched with it, and one that meets a paired one goes to its nearest
- * side. Weights are even and all growing defects have grown equally far, so no gap between two of them is odd, and a
- * conflict is a meeting (fusion_blossom.h, FB_CONFLICT); the host checks that, and that its correction leaves no
- * defect. */
+ * defects grow together, in rounds: the group is asked how far all may grow, and all grow by that length, or the
+ * conflicts are listed. Those that meet are paired, one that meets a side is matched with it, and one that meets a
+ * paired one goes to its nearest side. Weights are even and all growing defects have grown equally far, so no gap
+ * between two of them is odd, and a conflict is a meeting (fusion_blossom.h, FB_CONFLICT); the host checks that, and
+ * that its correction leaves no defect. */
 #define _POSIX_C_SOURCE 200809L /* clock_gettime */
 #include <stdint.h>
 #include <stdio.h>
@@ -27,8 +27,8 @@ enum {
 enum { BLOCK = FB_BLOCK(V, E, N, L), SCRATCH = FB_SCRATCH(E), WEIGHT = 2 };
 enum { GROWING = -1, SIDE = -2 }; /* what a defect is matched with, if with no node */
 
-static int64_t block[BLOCK], scratch[SCRATCH], edges[3 * E], table[2 * E];
-static size_t answer[FB_ANSWER];
+static int64_t block[BLOCK], second[BLOCK], scratch[SCRATCH], edges[3 * E], table[2 * E];
+static size_t answer[FB_ANSWER], entries[FB_ENTRIES(N)];
 static int flips[V], fixes[V]; /* how often a flipped or a corrected qubit touches the stabilizer */
 static int vertex_of[N], partner[N], reached[N]; /* of each node: its vertex, its match, how far it has grown */
 static int defects, pairs, sides, cost, calls, rounds;
@@ -94,18 +94,12 @@ static void match_side(int n) {
     rest(n, SIDE);
 }
 
-/* Asks one growing node, and matches it if it has met something. A node that meets one of those paired in this round
- * asks again in the next. */
-static void ask(int n, const int *before, size_t *least, int *met) {
-    fb_max_update_length(block, BLOCK, scratch, SCRATCH, n, FB_UP, true, answer, FB_ANSWER), calls++;
-    if (answer[0] == FB_FREE) {
-        if (answer[2] < *least) *least = answer[2];
-        return;
-    }
-    expect(answer[0] == FB_CONFLICT || answer[0] == FB_VIRTUAL, "length");
-    int peer = answer[0] == FB_CONFLICT ? (int)answer[1] : SIDE;
-    *met = 1;
-    if (peer == SIDE)
+/* Matches a growing node with what it has met. One that meets a node paired in this round is met again in the next. */
+static void settle(const size_t *entry, const int *before) {
+    expect(entry[0] == FB_CONFLICT || entry[0] == FB_VIRTUAL, "an entry of the group");
+    int virtual_met = entry[0] == FB_VIRTUAL, n = (int)entry[virtual_met ? 1 : 3], peer = (int)entry[1];
+    if (partner[n] != GROWING) return;
+    if (virtual_met)
         expect(reached[n] == to_side(vertex_of[n]), "a side that is not reached"), match_side(n);
     else if (partner[peer] == GROWING)
         match_pair(n, peer);
@@ -113,23 +107,26 @@ static void ask(int n, const int *before, size_t *least, int *met) {
         match_side(n);
 }
 
-/* Either some are matched, or all that still grow do so by the least length. Whether any grows. */
+/* All that still grow do so by a length. */
+static void grow_all(size_t length) {
+    fb_grow_all(block, BLOCK, second, BLOCK, scratch, SCRATCH, (int64_t)length, answer, FB_ANSWER), calls++;
+    expect(answer[0] == FB_DONE, "a round");
+    for (int n = 0; n < defects; n++)
+        if (partner[n] == GROWING) reached[n] += (int)length;
+}
+
+/* Either some are matched, or all that still grow do so by the length of the group. Whether any grows. */
 static int play_round(void) {
     static int before[N];
-    size_t least = SIZE_MAX;
-    int met = 0, growing = 0;
+    int growing = 0;
+    fb_group_max_update_length(block, BLOCK, second, BLOCK, scratch, SCRATCH, entries, FB_ENTRIES(N), answer,
+                               FB_ANSWER);
+    calls++, rounds++;
+    if (answer[0] == FB_FREE) return grow_all(answer[2]), 1;
+    expect(answer[0] == FB_GROUP && answer[2] == 0, "the group's length");
     for (int n = 0; n < defects; n++) before[n] = partner[n];
-    for (int n = 0; n < defects; n++)
-        if (partner[n] == GROWING) ask(n, before, &least, &met);
-    for (int n = 0; n < defects; n++) {
-        if (partner[n] != GROWING) continue;
-        growing = 1;
-        if (met) continue;
-        fb_grow(block, BLOCK, scratch, SCRATCH, n, (int64_t)least, answer, FB_ANSWER), calls++;
-        expect(answer[0] == FB_DONE, "grow");
-        reached[n] += (int)least;
-    }
-    rounds++;
+    for (size_t k = 0, count = answer[1]; k < count; k++) settle(entries + FB_ENTRY * k, before);
+    for (int n = 0; n < defects; n++) growing |= partner[n] == GROWING;
     return growing;
 }
 
@@ -156,7 +153,7 @@ int main(int argc, char **argv) {
     fb_open(block, BLOCK, scratch, SCRATCH, edges, 3 * E, virtuals, 2, V, E, N, L, answer, FB_ANSWER), calls++;
     expect(answer[0] == FB_DONE, "open");
     insert_defects();
-    while (play_round()) {}
+    while (defects && play_round()) {}
     fb_read_table(block, BLOCK, scratch, SCRATCH, table, 2 * E, answer, FB_ANSWER), calls++;
     expect(answer[0] == FB_DONE, "read table");
     double took = seconds() - start;

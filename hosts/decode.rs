@@ -1,6 +1,6 @@
 //! Decodes a planar surface-code patch of distance 15 with the exported calls, as decode.c does and with the same
-//! result: all defects grow together, those that meet are paired, one that meets a side or a paired one is matched with
-//! its nearest side. The calls are declared in fusion_blossom.h.
+//! result: all defects grow together in rounds, those that meet are paired, one that meets a side or a paired one is
+//! matched with its nearest side. The calls are declared in fusion_blossom.h.
 use std::time::Instant;
 
 const D: usize = 15;
@@ -13,20 +13,21 @@ const N: usize = 256;
 const L: usize = 2 * (2 * E + V); // FB_STORE: enough for defects alone
 const WEIGHT: usize = 2;
 
-// Cases of an answer, states and a direction, as fusion_blossom.h has them with FB_ in front.
+// Cases of an answer, states and the numbers of an entry, as fusion_blossom.h has them with FB_ in front.
 const FREE: usize = 0;
 const CONFLICT: usize = 2;
 const VIRTUAL: usize = 3;
+const GROUP: usize = 14;
 const DONE: usize = 7;
 const NODE: usize = 8;
 const STAY: usize = 0;
 const GROW: usize = 1;
-const UP: usize = 1;
+const ENTRY: usize = 5;
 
 type Words = *mut i64;
 type Told = *mut usize;
 
-// Block, scratch and answer, each with its length, stand around the values of every call.
+// Block, second block where it is lent, scratch and answer, each with its length, stand around the values of a call.
 extern "C" {
     fn fb_open(
         b: Words, bl: usize, s: Words, sl: usize, edges: *const i64, el: usize, virtuals: *const i64, vl: usize, v: usize,
@@ -34,18 +35,22 @@ extern "C" {
     ) -> usize;
     fn fb_insert_defect(b: Words, bl: usize, s: Words, sl: usize, v: usize, state: usize, a: Told, al: usize) -> usize;
     fn fb_set_grow_state(b: Words, bl: usize, s: Words, sl: usize, n: usize, state: usize, a: Told, al: usize) -> usize;
-    fn fb_max_update_length(
-        b: Words, bl: usize, s: Words, sl: usize, node: usize, direction: usize, first: bool, a: Told, al: usize,
+    fn fb_group_max_update_length(
+        b: Words, bl: usize, second: Words, cl: usize, s: Words, sl: usize, entries: Told, el: usize, a: Told, al: usize,
     ) -> usize;
-    fn fb_grow(b: Words, bl: usize, s: Words, sl: usize, node: usize, length: i64, a: Told, al: usize) -> usize;
+    fn fb_grow_all(
+        b: Words, bl: usize, second: Words, cl: usize, s: Words, sl: usize, length: i64, a: Told, al: usize,
+    ) -> usize;
     fn fb_read_table(b: Words, bl: usize, s: Words, sl: usize, list: Words, ll: usize, a: Told, al: usize) -> usize;
 }
 
-/// Block and scratch, lent to each call, its last answer, and how many calls were made.
+/// The memory that is lent to the calls, the last answer, the entries of the group, and how many calls were made.
 struct Card {
     block: Vec<i64>,
+    second: Vec<i64>,
     scratch: Vec<i64>,
     answer: [usize; 5],
+    entries: Vec<usize>,
     calls: usize,
 }
 
@@ -67,8 +72,15 @@ impl Card {
     }
 
     fn open(edges: &[i64], ends: &[i64]) -> Card {
-        let words = 16 + 4 * V + 11 * E + 7 * N + L;
-        let mut c = Card { block: vec![0; words], scratch: vec![0; 6 * E], answer: [0; 5], calls: 0 };
+        let words = 16 + 4 * V + 11 * E + 8 * N + L;
+        let mut c = Card {
+            block: vec![0; words],
+            second: vec![0; words],
+            scratch: vec![0; 6 * E],
+            answer: [0; 5],
+            entries: vec![0; ENTRY * N],
+            calls: 0,
+        };
         call!(c, fb_open, edges.as_ptr(), edges.len(), ends.as_ptr(), ends.len(), V, E, N, L);
         c.told(DONE, "open");
         c
@@ -84,15 +96,32 @@ impl Card {
         self.told(DONE, "set state");
     }
 
-    /// The answer: its case, and the length or the peer.
-    fn length(&mut self, node: usize) -> (usize, usize) {
-        call!(self, fb_max_update_length, node, UP, true);
-        (self.answer[0], if self.answer[0] == FREE { self.answer[2] } else { self.answer[1] })
+    /// How far all may grow, or the entries of the conflicts.
+    fn group(&mut self) -> Result<usize, Vec<[usize; ENTRY]>> {
+        self.calls += 1;
+        let (b, s, t, e) = (&mut self.block, &mut self.second, &mut self.scratch, &mut self.entries);
+        let (told, a) = (e.as_mut_ptr(), self.answer.as_mut_ptr());
+        // SAFETY: as above.
+        unsafe {
+            fb_group_max_update_length(
+                b.as_mut_ptr(), b.len(), s.as_mut_ptr(), s.len(), t.as_mut_ptr(), t.len(), told, e.len(), a, 5,
+            )
+        };
+        if self.answer[0] == FREE {
+            return Ok(self.answer[2]);
+        }
+        let count = self.told(GROUP, "the group's length");
+        assert_eq!(self.answer[2], 0, "no node shrinks");
+        Err(self.entries.chunks(ENTRY).take(count).map(|e| e.try_into().unwrap()).collect())
     }
 
-    fn grow(&mut self, node: usize, length: usize) {
-        call!(self, fb_grow, node, length as i64);
-        self.told(DONE, "grow");
+    fn grow_all(&mut self, length: usize) {
+        self.calls += 1;
+        let (b, s, t) = (&mut self.block, &mut self.second, &mut self.scratch);
+        let (by, a) = (length as i64, self.answer.as_mut_ptr());
+        // SAFETY: as above.
+        unsafe { fb_grow_all(b.as_mut_ptr(), b.len(), s.as_mut_ptr(), s.len(), t.as_mut_ptr(), t.len(), by, a, 5) };
+        self.told(DONE, "a round");
     }
 
     fn table(&mut self) -> Vec<i64> {
@@ -177,35 +206,43 @@ impl Decoder {
         self.card.rest(n);
     }
 
-    /// Either some are matched, or all that still grow do so by the least length. Whether any grows.
+    /// Matches a growing node with what it has met.
+    fn settle(&mut self, entry: [usize; ENTRY], before: &[Match]) {
+        let [case, first, _, third, _] = entry;
+        let n = if case == VIRTUAL { first } else { third };
+        if self.state[n] != Match::Growing {
+            return;
+        }
+        match case {
+            VIRTUAL => {
+                assert_eq!(self.reached[n], to_side(self.vertex[n]), "a side that is not reached");
+                self.side(n);
+            }
+            CONFLICT if self.state[first] == Match::Growing => self.pair(n, first),
+            CONFLICT if before[first] != Match::Growing => self.side(n),
+            CONFLICT => {} // paired in this round: met again in the next
+            _ => panic!("an entry of the group: case {case}, value {first}"),
+        }
+    }
+
+    /// Either some are matched, or all that still grow do so by the length of the group. Whether any grows.
     fn round(&mut self) -> bool {
-        let before = self.state.clone();
-        let (mut least, mut met) = (usize::MAX, false);
-        for n in 0..self.vertex.len() {
-            if self.state[n] != Match::Growing {
-                continue;
-            }
-            let (case, value) = self.card.length(n);
-            met |= case != FREE;
-            match case {
-                FREE => least = least.min(value),
-                VIRTUAL => {
-                    assert_eq!(self.reached[n], to_side(self.vertex[n]), "a side that is not reached");
-                    self.side(n);
-                }
-                CONFLICT if self.state[value] == Match::Growing => self.pair(n, value),
-                CONFLICT if before[value] != Match::Growing => self.side(n),
-                CONFLICT => {} // paired in this round: asked again in the next
-                _ => panic!("length: case {case}, value {value}"),
-            }
-        }
-        let growing: Vec<usize> = (0..self.vertex.len()).filter(|n| self.state[*n] == Match::Growing).collect();
-        for n in growing.iter().filter(|_| !met) {
-            self.card.grow(*n, least);
-            self.reached[*n] += least;
-        }
         self.rounds += 1;
-        !growing.is_empty()
+        match self.card.group() {
+            Ok(length) => {
+                self.card.grow_all(length);
+                for n in (0..self.vertex.len()).filter(|n| self.state[*n] == Match::Growing) {
+                    self.reached[n] += length;
+                }
+            }
+            Err(entries) => {
+                let before = self.state.clone();
+                for entry in entries {
+                    self.settle(entry, &before);
+                }
+            }
+        }
+        self.state.contains(&Match::Growing)
     }
 }
 
@@ -252,7 +289,7 @@ fn main() {
     for n in 0..count {
         assert_eq!(d.card.insert_defect(d.vertex[n]), n, "a defect's node");
     }
-    while d.round() {}
+    while count > 0 && d.round() {}
     let table = d.card.table();
     let took = start.elapsed();
     assert!(table.chunks(2).all(|g| g[0] + g[1] <= WEIGHT as i64), "an edge past its weight");

@@ -4,12 +4,14 @@
  *
  * Memory is the host's: a block of FB_BLOCK(V, E, N, L) words, which holds the graph and all that is stored of it
  * (docs/LAYOUT.md), and a scratch of FB_SCRATCH(E) words. Both may hold anything before fb_open; the scratch may hold
- * anything before any call. No two stretches that are lent to one call may overlap.
+ * anything before any call. Three calls take a second block of the same length, which may hold anything. No two
+ * stretches that are lent to one call may overlap.
  *
  * Every call writes its answer to the front of `answer`, a list of at least 5 numbers, and gives back how many numbers
  * that are: first the case, then its values. A list of 2 to 4 numbers is refused 1; in a list of 0 or 1 numbers nothing
  * can be told: then nothing happens, and 0 is given back. A refusal, FB_REFUSED and its number, leaves all memory
- * unchanged for 1 to 9 and 17; 10 to 12, and 13 after preparing, leave what preparation leaves.
+ * unchanged for 1 to 9, 14 and 17; 10 to 12, and 13 after preparing, leave what preparation leaves. A call for all
+ * clusters that is refused leaves the block unchanged whatever the number.
  *
  * hosts/decode.c and hosts/decode.rs are hosts that work, hosts/lines.c is one for records.
  */
@@ -37,8 +39,9 @@ extern "C" {
 #define FB_MOST_VALUE 999999999      /* values of a sheet, from 0: ten-thousandths; beyond them refused 17 */
 
 /* Words to lend. */
-#define FB_BLOCK(v, e, n, l) (16 + 4 * (v) + 11 * (e) + 7 * (n) + (l))
+#define FB_BLOCK(v, e, n, l) (16 + 4 * (v) + 11 * (e) + 8 * (n) + (l))
 #define FB_SCRATCH(e) (6 * (e))
+#define FB_ENTRIES(n) (5 * (n)) /* numbers of the list of entries */
 
 /* List store L with which no call is refused 9: FB_STORE for defects alone, FB_STORE_BLOSSOMS for at most so many
    blossoms between two fb_clear, none of more than so many members. The lists of all outermost nodes together have at
@@ -50,6 +53,7 @@ extern "C" {
 enum { FB_STAY = 0, FB_GROW = 1, FB_SHRINK = 2 }; /* grow states */
 enum { FB_DOWN = 0, FB_UP = 1 };                  /* directions: to shrink, to grow */
 enum { FB_ANSWER = 5 };                           /* numbers that a list for an answer needs */
+enum { FB_ENTRY = 5 };                            /* numbers of an entry of fb_group_max_update_length */
 
 /* Cases of an answer, with the values behind them.
 
@@ -71,6 +75,7 @@ enum {
     FB_REFUSED = 11,  /* the number of the refusal */
     FB_OPENED = 12,   /* fb_open_sheet: how many positive values became 0 */
     FB_VERDICT = 13,  /* fb_check_table: 1 yes, 0 no */
+    FB_GROUP = 14,    /* how many conflicts and how many stops stand in the list of entries */
 };
 
 /* What a refusal's number means. */
@@ -90,7 +95,7 @@ static inline const char *fb_refusal_sentence(size_t number) {
         "shrinking by more than the dual variable, the top overgrown amount or the growth of a side",
         "a dual variable, overgrown amount or growth would pass its limit",
         "a full edge to a free vertex, or a side of growth 0: prepare first",
-        "no such refusal",
+        "a round of a length below 1",
         "no such refusal",
         "no such refusal",
         "no value of the sheet is positive, or one is out of range",
@@ -173,6 +178,35 @@ size_t fb_read_table(const int64_t *block, size_t block_length, const int64_t *s
  * how many. */
 size_t fb_contacts(const int64_t *block, size_t block_length, const int64_t *scratch, size_t scratch_length,
                    int64_t *list, size_t list_length, size_t *answer, size_t answer_length);
+
+/* All clusters at once. The active list has the nodes that were inserted, and those that left Stay, in that order,
+   each once; renewal takes off the nodes in Stay. fb_prepare_all, fb_group_max_update_length and fb_grow_all renew it
+   and then work on one node after the other, those in Shrink first, then those in Grow, each in the order of the list.
+   They are tried on `second`, a block of the same length, and copied back only if no node is refused: a refusal, the
+   number met first, leaves block and entries as they were. After 1 and 2 of the memory that is lent, and 14, second and
+   scratch are untouched too; otherwise second ends equal to the block, word for word, and scratch all zero. On a block
+   that calls have made no node is refused 2, 6 or 13. */
+
+/* The active list is renewed: FB_DONE. */
+size_t fb_renew_active_list(int64_t *block, size_t block_length, size_t *answer, size_t answer_length);
+
+/* Every active node is prepared in the direction of its grow state: FB_DONE. Refused 1, 2; of a node 6, 9, 2. */
+size_t fb_prepare_all(int64_t *block, size_t block_length, int64_t *second, size_t second_length, int64_t *scratch,
+                      size_t scratch_length, size_t *answer, size_t answer_length);
+
+/* How far all active nodes may move, prepared first: FB_FREE or FB_UNLIMITED, empty if one of them has an empty
+   boundary, or FB_GROUP. With no active node it is unlimited and not empty. The list has FB_ENTRIES(N) numbers; an
+   entry is the case of an answer, FB_CONFLICT to FB_STOP_PEER, and four values, 0 where there is none. First stand
+   the conflicts, FB_CONFLICT to FB_EXPAND, in the order of the active list, then the stops by rising node; the rest of
+   the list is kept, and all of it where the answer is not FB_GROUP. Refused 1, 2; of a node 6, 9, 2, 13. */
+size_t fb_group_max_update_length(int64_t *block, size_t block_length, int64_t *second, size_t second_length,
+                                  int64_t *scratch, size_t scratch_length, size_t *entries, size_t entries_length,
+                                  size_t *answer, size_t answer_length);
+
+/* A round: every node in Shrink shrinks by the length, then every node in Grow grows by it: FB_DONE. Refused 1, 2, 14
+   for a length below 1; of a node 6, 9, 10, 11, 12, 2. */
+size_t fb_grow_all(int64_t *block, size_t block_length, int64_t *second, size_t second_length, int64_t *scratch,
+                   size_t scratch_length, int64_t length, size_t *answer, size_t answer_length);
 
 /* Records in, lines out, as the program cardrun has them (target/lib/libcardrun_lines.a; at most V 64, E 128, N 32, L
    2,000): the lines of the records go to the front of `lines`, up to the first that does not fit; the bytes behind them

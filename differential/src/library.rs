@@ -37,10 +37,10 @@ mod c {
 }
 
 /// Memory that is lent, and the last answer.
-struct Lent {
-    block: Vec<i64>,
-    scratch: Vec<i64>,
-    answer: [usize; 5],
+pub struct Lent {
+    pub block: Vec<i64>,
+    pub scratch: Vec<i64>,
+    pub answer: [usize; 5],
 }
 
 /// What the records before the first call give: V, E, N, L, the edges and the virtual vertices.
@@ -51,12 +51,12 @@ fn given(records: &[Record]) -> ([usize; 4], Vec<i64>, Vec<i64>) {
 }
 
 fn memory([v, e, n, l]: [usize; 4]) -> (Vec<i64>, Vec<i64>) {
-    (vec![0; 16 + 4 * v + 11 * e + 7 * n + l], vec![0; 6 * e])
+    (vec![0; 16 + 4 * v + 11 * e + 8 * n + l], vec![0; 6 * e])
 }
 
 impl Lent {
     /// Opens the graph that the records before the first call give.
-    fn open(records: &[Record]) -> Self {
+    pub fn open(records: &[Record]) -> Self {
         let (sizes, edges, virtuals) = given(records);
         let ([v, e, n, l], (mut block, scratch), mut answer) = (sizes, memory(sizes), [0; 5]);
         unsafe {
@@ -70,7 +70,7 @@ impl Lent {
     }
 
     /// A call; its answer is left in `answer`.
-    fn ask(&mut self, kind: u16, f: &[i32], circle: &[i64]) -> usize {
+    pub fn ask(&mut self, kind: u16, f: &[i32], circle: &[i64]) -> usize {
         let (b, bl, t, tl) = (self.block.as_mut_ptr(), self.block.len(), self.scratch.as_mut_ptr(), self.scratch.len());
         let (a, al) = (self.answer.as_mut_ptr(), 5);
         let x = |i: usize| f[i] as usize;
@@ -90,8 +90,12 @@ impl Lent {
     }
 
     /// The words of the line that records would give.
-    fn line(&self) -> String {
-        let a = &self.answer;
+    pub fn line(&self) -> String {
+        Self::words(&self.answer)
+    }
+
+    /// The words of an answer, or of an entry of the group.
+    pub fn words(a: &[usize]) -> String {
         match a[0] {
             0 => format!("free {}{} {}", if a[1] == 1 { "-" } else { "" }, a[2], a[3]),
             1 => format!("free -1 {}", a[1]),
@@ -104,6 +108,7 @@ impl Lent {
             8 => format!("node {}", a[1]),
             9 => format!("prepared {}", a[1]),
             10 => format!("vertex {}", a[1]),
+            14 => format!("group {} {}", a[1], a[2]),
             _ => format!("refused {}", a[1]),
         }
     }
@@ -131,20 +136,20 @@ impl Lent {
     }
 }
 
-fn circle(kind: u16, a: &[i32]) -> Vec<i64> {
+pub fn circle(kind: u16, a: &[i32]) -> Vec<i64> {
     if kind == 5 { a[1..].iter().map(|&n| n as i64).collect() } else { vec![] }
 }
 
 /// The rows of a block (docs/LAYOUT.md).
-const ROWS: [&str; 19] = [
+const ROWS: [&str; 20] = [
     "header", "flags", "vertex holder", "vertex grandson", "first", "end", "growth", "holder", "grandson", "at", "weight", "class", "grow state", "parent", "dual",
-    "start", "boundary length", "overgrown length", "store",
+    "start", "boundary length", "overgrown length", "store", "active list",
 ];
 
 /// The first word that the Rust's state fills and the block has otherwise.
-fn state_differs(block: &[i64], rust: &[Vec<i64>]) -> Option<String> {
+pub fn state_differs(block: &[i64], rust: &[Vec<i64>]) -> Option<String> {
     let [v, e, n, l] = [0, 1, 2, 3].map(|i| block[i] as usize);
-    let lengths = [&[16, v, v, v, v][..], &[2 * e; 5], &[e], &[n; 7], &[l]].concat();
+    let lengths = [&[16, v, v, v, v][..], &[2 * e; 5], &[e], &[n; 7], &[l, n]].concat();
     let mut from = 0;
     for ((name, len), row) in ROWS.iter().zip(lengths).zip(rust) {
         let port = &block[from..from + row.len()];
@@ -229,7 +234,7 @@ fn agree(s: &streams::Stream, n: &mut Counts) -> Result<(), String> {
 }
 
 /// Whole patches of distance 3 to 15 in several rounds, and the other kinds of graphs, up to V 1,024 and E 4,096.
-fn a_graph(r: &mut Random) -> Graph {
+pub fn a_graph(r: &mut Random) -> Graph {
     let w = r.pick(&[Weights::Same, Weights::Even, Weights::Odd, Weights::Sparse, Weights::Zero]);
     if r.chance(40) {
         return graphs::any_large(r, w);

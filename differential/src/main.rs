@@ -9,6 +9,8 @@ mod port;
 mod random;
 mod records;
 mod reduce;
+#[cfg(library)]
+mod rounds;
 mod sample;
 mod speed;
 mod streams;
@@ -81,12 +83,19 @@ fn main() {
         Some("patches") => patches::run(a.get(2).expect("a file")),
         #[cfg(library)]
         Some("library") => library::compare(number(a.get(2), 2000), number(a.get(3), 1)),
+        #[cfg(library)]
+        Some("rounds") => rounds::compare(number(a.get(2), 2000), number(a.get(3), 1)),
+        #[cfg(library)]
+        Some("rounds-speed") => {
+            rounds::speed();
+            true
+        }
         Some("speed") => {
             speed::table();
             true
         }
         _ => {
-            eprintln!("differential compare [RUNS] [SEED] | one SEED | sample FILE [SEED] | replay FILE | patches FILE | speed | library [RUNS] [SEED]");
+            eprintln!("differential compare [RUNS] [SEED] | one SEED | sample FILE [SEED] | replay FILE | patches FILE | speed | library [RUNS] [SEED] | rounds [RUNS] [SEED] | rounds-speed");
             false
         }
     };

@@ -143,5 +143,8 @@ pub fn table() {
         row(&others.to_string(), &breathe(others, 15, 32, 2000, 2_500));
     }
     #[cfg(library)]
-    crate::library::speed();
+    {
+        crate::library::speed();
+        crate::rounds::speed();
+    }
 }

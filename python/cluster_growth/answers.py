@@ -2,7 +2,7 @@
 from __future__ import annotations
 
 from dataclasses import dataclass
-from typing import Callable, Dict, Sequence, Union
+from typing import Callable, Dict, Sequence, Tuple, Union
 
 
 @dataclass(frozen=True)
@@ -158,6 +158,17 @@ class Verdict:
 
 
 @dataclass(frozen=True)
+class Group:
+    """How many conflicts and how many stops stand in the list of entries."""
+
+    conflicts: int
+    stops: int
+
+    def __str__(self) -> str:
+        return f'group {self.conflicts} {self.stops}'
+
+
+@dataclass(frozen=True)
 class Moved:
     """`advance` moved the node's dual variable by so much: below 0 it shrank, 0 for a node that stays."""
 
@@ -168,7 +179,19 @@ class Moved:
 
 
 Length = Union[Free, Unlimited, Conflict, TouchingVirtual, NeedExpand, ShrinkStop, ShrinkStopPeer]
-Answer = Union[Length, Done, NewNode, Prepared, Vertex, Refusal, Opened, Verdict]
+Answer = Union[Length, Done, NewNode, Prepared, Vertex, Refusal, Opened, Verdict, Group]
+
+
+@dataclass(frozen=True)
+class Conflicts:
+    """What stops the active nodes: conflicts in the order of the active list, and stops by rising node."""
+
+    conflicts: Tuple[Union[Conflict, TouchingVirtual, NeedExpand], ...]
+    stops: Tuple[Union[ShrinkStop, ShrinkStopPeer], ...]
+
+    def __str__(self) -> str:
+        return f'group {len(self.conflicts)} {len(self.stops)}'
+
 
 # the case that stands first in an answer, as in include/fusion_blossom.h, and what its values make
 CASES: Dict[int, Callable[..., Answer]] = {
@@ -186,9 +209,20 @@ CASES: Dict[int, Callable[..., Answer]] = {
     11: Refusal,
     12: Opened,
     13: lambda yes: Verdict(bool(yes)),
+    14: Group,
 }
+
+ENTRY = 5  # numbers of an entry: a case and four values, 0 where there is none
+VALUES = {2: 4, 3: 3, 4: 1, 5: 1, 6: 3}  # values of each case that an entry may have
 
 
 def read(numbers: Sequence[int]) -> Answer:
     """The answer that these numbers tell."""
     return CASES[numbers[0]](*numbers[1:])
+
+
+def read_entries(numbers: Sequence[int], group: Group) -> Conflicts:
+    """What the list of entries tells."""
+    rows = [numbers[ENTRY * k : ENTRY * (k + 1)] for k in range(group.conflicts + group.stops)]
+    told: list = [read(row[: 1 + VALUES[row[0]]]) for row in rows]
+    return Conflicts(tuple(told[: group.conflicts]), tuple(told[group.conflicts :]))

@@ -28,6 +28,7 @@ ROWS = [
     ('boundary_length', 'N'),
     ('overgrown_length', 'N'),
     ('store', 'L'),
+    ('active', 'N'),
 ]
 
 
@@ -84,6 +85,10 @@ class Block:
         return self.field('dual', n)
 
     # ---- what no exported call tells
+
+    def active_list(self) -> List[int]:
+        """The nodes of the active list."""
+        return self.row('active')[: self.words[5]]
 
     def boundary(self, n: int) -> List[int]:
         """The sides in the boundary of a node: edge e has the sides 2 e and 2 e + 1."""

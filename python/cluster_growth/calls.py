@@ -12,17 +12,20 @@ WORDS = (ctypes.c_void_p, ctypes.c_size_t)
 
 
 class Call(NamedTuple):
-    """A call of include/fusion_blossom.h: its parameters between block and scratch, which come first, and the answer,
-    which comes last.
+    """A call of include/fusion_blossom.h: its parameters between the memory that is lent, which comes first, and the
+    answer, which comes last.
     """
 
     symbol: str
     parameters: Tuple[tuple, ...] = ()
+    lent: Tuple[str, ...] = ('block', 'scratch')
 
     def types(self) -> List[type]:
         """The C types of all parameters, in order."""
-        return [t for p in (WORDS, WORDS) + self.parameters + (WORDS,) for t in p]
+        return [t for p in (WORDS,) * len(self.lent) + self.parameters + (WORDS,) for t in p]
 
+
+TRIAL = ('block', 'second', 'scratch')  # what a call for all clusters works on
 
 OPEN = Call('fb_open', (WORDS, WORDS, SIZE, SIZE, SIZE, SIZE))  # edges, virtual vertices, V, E, N, L
 # edges, whose third words are written, sheet, virtual vertices, V, E, N, L
@@ -42,4 +45,8 @@ CALLS: Dict[str, Call] = {
     'representative_vertex': Call('fb_representative_vertex', (SIZE,)),
     'read_table': Call('fb_read_table', (WORDS,)),
     'contacts': Call('fb_contacts', (WORDS,)),
+    'renew_active_list': Call('fb_renew_active_list', (), ('block',)),
+    'prepare_all': Call('fb_prepare_all', (), TRIAL),
+    'group_max_update_length': Call('fb_group_max_update_length', (WORDS,), TRIAL),
+    'grow_all': Call('fb_grow_all', (SIGNED,), TRIAL),
 }

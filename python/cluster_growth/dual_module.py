@@ -7,7 +7,7 @@ from enum import IntEnum
 from typing import Any, Iterable, List, NamedTuple, Optional, Sequence, Tuple, Union
 
 from . import answers, library, sizes
-from .answers import Answer, Length, Moved, Refusal
+from .answers import Answer, Conflicts, Free, Group, Length, Moved, Refusal, Unlimited
 from .block import Block, Node
 from .calls import CALLS, SIGNED, WORDS
 from .refusals import Refused
@@ -121,13 +121,16 @@ class DualModule:
         self.block = Block(self.words)
 
     def _lend(self, vertices: int, edges: int, nodes: int, store: int) -> None:
-        """Memory for block, scratch and answer. Sizes are tested first: where they are out of range, a word will do."""
+        """Memory for all that is lent. Sizes are tested first: where they are out of range, a word will do."""
         fit = sizes.fits(vertices, edges, nodes, store)
         self._block = (ctypes.c_int64 * (sizes.block_words(vertices, edges, nodes, store) if fit else 1))()
         self._scratch = (ctypes.c_int64 * (sizes.scratch_words(edges) if fit else 1))()
+        self._second = (ctypes.c_int64 * len(self._block))()
         self._answer = (ctypes.c_size_t * ROOM)()
-        lent = (self._block, self._scratch)
-        self._lent = [x for memory in lent for x in (ctypes.addressof(memory), len(memory))]
+        self._entries = array('Q', bytes(WORD * sizes.entry_numbers(nodes if fit else 0)))
+        memory = {'block': self._block, 'second': self._second, 'scratch': self._scratch}
+        self._memory = {name: (ctypes.addressof(words), len(words)) for name, words in memory.items()}
+        self._lent = [*self._memory['block'], *self._memory['scratch']]
         self._told = [ctypes.addressof(self._answer), ROOM]
 
     def call(self, name: str, *values) -> Answer:
@@ -138,7 +141,8 @@ class DualModule:
                 given += stretch(value)
             else:
                 given.append(signed(value) if kind is SIGNED else size(value))
-        count = self.library.calls[name](*self._lent, *given, *self._told)
+        lent = [x for memory in CALLS[name].lent for x in self._memory[memory]]
+        count = self.library.calls[name](*lent, *given, *self._told)
         return answers.read(self._answer[:count])
 
     def _accept(self, name: str, answer: Answer) -> Answer:
@@ -186,6 +190,27 @@ class DualModule:
         before = self.block.dual(node) if 0 <= node < self.block.count() else 0
         answer = self._made('advance', node)
         return Moved(self.block.dual(node) - before) if isinstance(answer, answers.Done) else answer
+
+    def renew_active_list(self) -> None:
+        """Nodes in Stay are taken off the active list."""
+        self._made('renew_active_list')
+
+    def active_list(self) -> List[int]:
+        """The active list, read from the block's words: each node once."""
+        return self.block.active_list()
+
+    def prepare_all(self) -> None:
+        """Every active node is prepared in the direction of its state, the shrinking ones first."""
+        self._made('prepare_all')
+
+    def group_max_update_length(self) -> Union[Free, Unlimited, Conflicts]:
+        """How far all active nodes can move, each in the direction of its state, or what stops them."""
+        answer = self._made('group_max_update_length', self._entries)
+        return answers.read_entries(self._entries, answer) if isinstance(answer, Group) else answer
+
+    def grow_all(self, length: int) -> None:
+        """A round: every node in Shrink shrinks by the length, then every node in Grow grows by it."""
+        self._made('grow_all', length)
 
     def clear(self) -> None:
         """All nodes and all growth are removed."""

@@ -15,6 +15,7 @@ SENTENCES = {
     11: 'shrinking by more than the dual variable, the top overgrown amount or the growth of a side',
     12: 'a dual variable, overgrown amount or growth would pass its limit',
     13: 'a full edge to a free vertex, or a side of growth 0: prepare first',
+    14: 'a round of a length below 1',
     17: 'no value of the sheet is positive, or one is out of range',
 }
 
@@ -25,8 +26,8 @@ def sentence(number: int) -> str:
 
 
 class Refused(Exception):
-    """A call that the library turned down. 1 to 9 and 17 leave all memory unchanged; 10 to 13 leave what preparation
-    leaves.
+    """A call that the library turned down. 1 to 9, 14 and 17 leave all memory unchanged; 10 to 13 leave what
+    preparation leaves. A call for all clusters leaves block and entries unchanged whatever the number.
     """
 
     def __init__(self, number: int, call: str = ''):

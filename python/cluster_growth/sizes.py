@@ -20,12 +20,17 @@ SIZES = {
 
 def block_words(vertices: int, edges: int, nodes: int, store: int) -> int:
     """Words of the block."""
-    return 16 + 4 * vertices + 11 * edges + 7 * nodes + store
+    return 16 + 4 * vertices + 11 * edges + 8 * nodes + store
 
 
 def scratch_words(edges: int) -> int:
     """Words of the scratch."""
     return 6 * edges
+
+
+def entry_numbers(nodes: int) -> int:
+    """Numbers of the list of entries."""
+    return 5 * nodes
 
 
 def enough_store(vertices: int, edges: int, blossoms: int = 0, circle: int = 0) -> int:

@@ -43,6 +43,16 @@ def answer(a):
     return '(' + ' '.join([name] + [str(v) for v in values]) + ')'
 
 
+def grouped(a, listed):
+    """The answer of a group, and what it lists."""
+    SEEN[f'group refused {a[1]}' if a[0] == 'refused' else 'group ' + a[0]] += 1
+    if a[0] == 'free':
+        group = f'(groupUnlimited {truth(a[2])})' if a[3] else f'(groupFree {whole(a[1])} {truth(a[2])})'
+    else:
+        group = f'(groupRefused {a[1]})' if a[0] == 'refused' else f'(groupConflicts {a[1]} {a[2]})'
+    return f'{group} {items(answer(x) for x in listed)}'
+
+
 def state(st):
     nodes = st.nodes
     classes = items(f'blossom {n.first}' if n.vertex == M.NONE else f'defectVertex {n.vertex}' for n in nodes)
@@ -53,7 +63,8 @@ def state(st):
     sides = record {{ growth = {nats(st.growth)}; holder = {stored(st.holder)}; grandson = {stored(st.grandson)} }};
     nodes = record {{ class = {classes}; growState = {nats(n.state for n in nodes)}; parent = {stored(n.parent for n in nodes)}; dual = {nats(n.dual for n in nodes)}; boundary = {items(nats(n.boundary) for n in nodes)}; overgrown = {stacks} }};
     nodeLimit = {st.N};
-    storeLimit = {st.L} }}'''
+    storeLimit = {st.L};
+    active = {nats(st.active)} }}'''
 
 
 def line(st, c):
@@ -61,6 +72,7 @@ def line(st, c):
     kind, f = c[0], c[1:]
     if kind == 'table': return f'ReadTable gives growths {nats(M.table(st))}'
     if kind == 'contacts': return f'Contacts gives touching {nats(M.contacts(st))}'
+    if kind == 'group': return f'GroupLength gives grouped {grouped(*M.group_length(st))}'
     call, term = {
         'defect': (M.insert_defect, lambda v, x: f'InsertDefect {v} {x}'),
         'blossom': (M.insert_blossom, lambda x, ms: f'InsertBlossom {x} {nats(ms)}'),
@@ -70,6 +82,9 @@ def line(st, c):
         'grow': (M.grow, lambda n, l: f'Grow {n} {whole(l)}'),
         'advance': (M.advance, lambda n: f'Advance {n}'),
         'representative': (M.representative, lambda n: f'RepresentativeVertex {n}'),
+        'renew': (M.renew_active_list, lambda: 'RenewActiveList'),
+        'prepare_all': (M.prepare_all, lambda: 'PrepareAll'),
+        'round': (M.grow_all, lambda l: f'Round {whole(l)}'),
         'clear': (M.clear, lambda: 'Clear')}[kind]
     return f'{term(*f)} gives answered {answer(call(st, *f))}'
 
@@ -104,6 +119,10 @@ def call(rng, st):
     if x < .38: return 'prepare', i, rng.choice([0, 1, 1, 2 if rng.random() < .2 else 0])
     if x < .48: return 'length', i, rng.choice([0, 1]), rng.random() < .6
     if x < .56: return 'grow', i, rng.choice([1, 2, 3, 4, -1, -2, -3, 0, 1000000000 if rng.random() < .3 else 1])
+    if x < .64: return ('group',)
+    if x < .72: return 'round', rng.choice([1, 1, 1, 2, 2, 3, 4, 0, -1, 1000000000 if rng.random() < .2 else 1])
+    if x < .74: return ('prepare_all',)
+    if x < .76: return ('renew',)
     if x < .92: return 'advance', i
     if x < .94: return 'representative', i
     if x < .96: return 'contacts',
@@ -129,13 +148,15 @@ def unreached(rng):
         if not defects: continue
         for _ in range(rng.randint(1, 6)):
             s, v, i = rng.randrange(2 * st.E), rng.randrange(st.V), rng.randrange(n)
-            k = rng.randrange(6)
+            k = rng.randrange(8)
             if k == 0: st.growth[s] = rng.choice([0, 0, 1, 2, 5, 9])
             elif k == 1: st.holder[s], st.grandson[s] = rng.randrange(n), rng.choice(defects)
             elif k == 2: st.vholder[v] = rng.choice([M.NONE, rng.randrange(n)])
             elif k == 3: st.nodes[i].boundary = rng.sample(range(2 * st.E), rng.randint(0, min(4, 2 * st.E)))
             elif k == 4: st.nodes[i].overgrown = [(u, rng.choice([0, 0, 1, 3])) for u in rng.sample(range(st.V), rng.randint(0, 2))]
-            else: st.nodes[i].dual = rng.choice([0, 1, 2, 7])
+            elif k == 5: st.nodes[i].dual = rng.choice([0, 1, 2, 7])
+            elif k == 6: st.nodes[i].state = rng.randrange(3)
+            else: st.active = rng.sample(range(n), rng.randint(0, n))
         for i, nd in enumerate(st.nodes):  # an outermost node holds what it lists
             if nd.parent == M.NONE and rng.random() < .8:
                 for s in nd.boundary: st.holder[s], st.grandson[s] = i, rng.choice(defects)
@@ -154,7 +175,8 @@ use Rattle.graph.specs.State.{{State, Overgrown, NodeClass, defectVertex, bloss
 use Rattle.graph.specs.Open.{{opened}}
 use Rattle.graph.specs.Sound.{{sound}}
 use Rattle.length.specs.declared.Answer.the-variants.{{NonZeroGrow, Unlimited, Conflicting, TouchingVirtual, BlossomNeedExpand, VertexShrinkStop, VertexShrinkStopPeer, Done, Node, Prepared, Vertex, Refused}}
-use Rattle.calls.specs.Calls.{{InsertDefect, InsertBlossom, SetGrowState, Prepare, MaxUpdateLength, Grow, ReadTable, Advance, Contacts, RepresentativeVertex, Clear, answered, growths, touching, respond}}
+use Rattle.calls.specs.Calls.{{InsertDefect, InsertBlossom, SetGrowState, Prepare, MaxUpdateLength, Grow, ReadTable, Advance, Contacts, RepresentativeVertex, Clear, RenewActiveList, PrepareAll, GroupLength, Round, answered, growths, touching, grouped, respond}}
+use Rattle.calls.specs.declared.group.GroupMaxUpdateLength.the-variants.{{NonZeroGrow as groupFree, Unlimited as groupUnlimited, Conflicts as groupConflicts, Refused as groupRefused}}
 use Rattle.calls.specs.Examples.{{Line, _gives_, edge, given, wanted}}
 use Rattle.calls.specs.Opens.{{everything}}
 
@@ -197,6 +219,7 @@ def state_case(rng, name):
         i = rng.randrange(n)
         lines.append(line(st, rng.choice([('prepare', i, 0), ('prepare', i, 1), ('length', i, 0, False), ('length', i, 1, False), ('length', i, 1, True),
                                           ('length', i, 0, True), ('grow', i, 1), ('grow', i, -1), ('advance', i), ('defect', v, 1),
+                                          ('prepare_all',), ('group',), ('group',), ('round', 1), ('round', 2), ('renew',), ('state', i, rng.randrange(3)),
                                           ('blossom', 1, rng.sample(range(n), 3) if n > 2 else [i])])))
     return case(name, start, lines, st)
 

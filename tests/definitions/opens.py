@@ -5,11 +5,11 @@ Run it from the top of the repository after adding, renaming or removing a defin
 import re
 
 MODULES = {
-    'graph': ['Basic', 'State', 'Open', 'Sound', 'Node'],
+    'graph': ['Basic', 'State', 'Open', 'Sound', 'Active', 'Node'],
     'pass': ['Work', 'Grow', 'Shrink', 'Prepare'],
     'length': ['Answer', 'Scan'],
     'growth': ['Growth'],
-    'calls': ['Refuse', 'Insert', 'Calls'],
+    'calls': ['Refuse', 'Insert', 'Each', 'Round', 'Calls'],
     'records': ['Text', 'Record', 'Lines', 'Run'],
 }
 BELOW = {'graph': [], 'pass': ['graph'], 'length': [], 'growth': [], 'calls': ['pass', 'length', 'growth'], 'records': ['calls']}

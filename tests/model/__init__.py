@@ -19,6 +19,7 @@ from .calls import (
     table,
 )
 from .program import Run, lines
+from .rounds import group_length, grow_all, prepare_all, renew_active_list
 from .soundness import sound
 from .state import DUAL_MAX, GROW, GROWTH_MAX, NONE, SHRINK, STAY, WEIGHT_MAX, Node, State, open_graph, opp
 from .vectors import frames
@@ -38,7 +39,9 @@ __all__ = [
     'clear',
     'contacts',
     'frames',
+    'group_length',
     'grow',
+    'grow_all',
     'insert_blossom',
     'insert_defect',
     'length',
@@ -46,6 +49,8 @@ __all__ = [
     'open_graph',
     'opp',
     'prepare',
+    'prepare_all',
+    'renew_active_list',
     'representative',
     'scan',
     'set_state',

@@ -17,6 +17,12 @@ def bad_node(st, n):
     return not 0 <= n < len(st.nodes)
 
 
+def join_active(st, n):
+    """The node stands in the active list, behind the others unless it stood there already."""
+    if n not in st.active:
+        st.active.append(n)
+
+
 def insert_defect(st, v, state):
     if not 0 <= v < st.V or state not in (0, 1, 2):
         return ('refused', 3)
@@ -32,6 +38,7 @@ def insert_defect(st, v, state):
     for t in st.at[v]:
         st.holder[t] = st.grandson[t] = n
     st.nodes.append(Node(v, NONE, state, boundary=list(st.at[v])))
+    join_active(st, n)
     return ('node', n)
 
 
@@ -57,6 +64,7 @@ def insert_blossom(st, state, circle):
                 st.holder[s] = n
         st.nodes[m].state, st.nodes[m].parent = STAY, n
     st.nodes.append(Node(NONE, circle[0], state, boundary=boundary))
+    join_active(st, n)
     return ('node', n)
 
 
@@ -65,6 +73,8 @@ def set_state(st, n, state):
         return ('refused', 3)
     if st.nodes[n].parent != NONE:
         return ('refused', 6)
+    if st.nodes[n].state == STAY and state != STAY:
+        join_active(st, n)
     st.nodes[n].state = state
     return ('done',)
 
@@ -216,5 +226,5 @@ def clear(st):
     st.defect = [False] * st.V
     st.vholder, st.vgrandson = [NONE] * st.V, [NONE] * st.V
     st.growth, st.holder, st.grandson = [0] * (2 * st.E), [NONE] * (2 * st.E), [NONE] * (2 * st.E)
-    st.nodes = []
+    st.nodes, st.active = [], []
     return ('done',)

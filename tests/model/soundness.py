@@ -27,6 +27,8 @@ def sound(st):
     bad = [fault for i in range(len(st.nodes)) for fault in node_faults(st, i)]
     if sum(lists(st, i) for i in range(len(st.nodes))) > st.L:
         bad.append('store')
+    if len(set(st.active)) != len(st.active) or any(not 0 <= n < len(st.nodes) for n in st.active):
+        bad.append('active list')
     for s in range(2 * st.E):
         if not 0 <= st.growth[s] <= GROWTH_MAX:
             bad.append(f'growth {s}')

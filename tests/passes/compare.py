@@ -15,6 +15,7 @@ TOP = os.path.dirname(os.path.dirname(os.path.dirname(os.path.abspath(__file__))
 sys.path.insert(0, os.path.join(TOP, 'tests'))
 import model as M  # noqa: E402
 from model import passes  # noqa: E402
+from model.words import words  # noqa: E402
 
 PROGRAM = '''// Lends each block of the input to a preparation.
 fn number(b: &[u8], i: usize) -> usize {
@@ -62,6 +63,11 @@ fn tidy(b: &mut [i64]) {
         b[rows + 7 * n + used] = 0;
         used += 1;
     }
+    i = b[5] as usize;
+    while i < n {
+        b[rows + 7 * n + l + i] = 0;
+        i += 1;
+    }
 }
 
 fn sum(b: &[i64], start: usize) -> usize {
@@ -95,26 +101,6 @@ fn main() {
     }
 }
 '''
-
-
-def words(st):
-    """The block of a state, free words zero (docs/LAYOUT.md)."""
-    pad = lambda xs: list(xs) + [0] * (st.N - len(st.nodes))
-    first, at, store, start = [], [], [], []
-    for sides in st.at:
-        first.append(len(at))
-        at += sides
-    for n in st.nodes:
-        start.append(len(store))
-        store += n.boundary + [a * 1024 + v for v, a in n.overgrown]
-    up = lambda xs: [x + 1 for x in xs]
-    rows = [[st.V, st.E, st.N, st.L, len(st.nodes)] + [0] * 11,
-            [int(x) + 2 * int(y) for x, y in zip(st.virtual, st.defect)], up(st.vholder), up(st.vgrandson), first,
-            st.end, st.growth, up(st.holder), up(st.grandson), at, st.weight,
-            pad(n.vertex if n.vertex != M.NONE else st.V + n.first for n in st.nodes), pad(n.state for n in st.nodes),
-            pad(n.parent + 1 for n in st.nodes), pad(n.dual for n in st.nodes), pad(start),
-            pad(len(n.boundary) for n in st.nodes), pad(len(n.overgrown) for n in st.nodes), store + [0] * (st.L - len(store))]
-    return [x for row in rows for x in row]
 
 
 def checksum(ws, h=7):

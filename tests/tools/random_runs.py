@@ -67,11 +67,13 @@ def graph(rng):
 def calls(rng, script):
     """Adds random calls: first defects, then moves of all kinds, on most of them more than once."""
     vertices = script.items[0].fields[0]
-    defects = rng.randint(3, min(120, vertices // 4))
+    defects, rounds = rng.randint(3, min(120, vertices // 4)), rng.choice([0, 0, 2, 4, 8])
     weights = [i.fields[2] for i in script.items if i.word == 'edge']
     add = lambda word, *fields: script.items.append(Item(len(script.items) + 1, word, list(fields)))
     for _ in range(defects):
-        add('defect', rng.randrange(vertices), rng.choice([1, 1, 1, 1, 0, 2]))
+        add('defect', rng.randrange(vertices), rng.choice([1, 1, 1, 1, 0] + [2] * (not rounds)))
+    for _ in range(rounds):
+        add('round', max(1, min(weights) // rng.choice([2, 4])))
     for _ in range(rng.randint(50, 600)):
         n, x = rng.randrange(defects + 2), rng.random()
         if x < 0.5:

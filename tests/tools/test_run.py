@@ -176,6 +176,22 @@ class Openings(unittest.TestCase):
         )
 
     @needs_library
+    def test_all_clusters(self):
+        given = P + 'defect 1 grow; defect 2 grow\ngroup → free 2 0\nround 2 → done\n'
+        given += 'group → group 2 0, conflict 1 1 0 0, conflict 0 0 1 1\nstate 0 shrink; round 2; prepare_all → done\n'
+        given += 'group → group 1 1, virtual 1 1 3 0, stop 0 1 1\nround 0 → refused 14\nstate 0 stay; renew → done\n'
+        status, said, wrong = card('run', '-', given=given)
+        self.assertEqual((status, wrong), (0, ''))
+        said = ' '.join(said.split())
+        for words in (
+            'group → free 2 0 all can move by 2',
+            'group → group 2 0 2 conflicts and 0 stops',
+            'round 0 → refused 14 a round of a length below 1',
+        ):
+            self.assertIn(words, said)
+        self.assertEqual(card('check', '-', given=given)[::2], (0, ''))  # a round is its growths, one by one
+
+    @needs_library
     def test_what_is_worked_out_is_enough(self):
         circle = '; '.join(f'defect {v} grow; advance {k}' for k, v in enumerate(range(3, 66, 6)))
         status, said, wrong = card(

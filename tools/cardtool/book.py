@@ -38,6 +38,9 @@ class Book:
             self.nodes[item.fields[0]][1] = item.fields[1]
         elif item.word == 'grow' and name == 'done':
             self.nodes[item.fields[0]][2] += item.fields[1]
+        elif item.word == 'round' and name == 'done':
+            for n in self.nodes:  # a round is its growths, one by one
+                n[2] += {'grow': item.fields[0], 'shrink': -item.fields[0]}.get(STATES[n[1]], 0)
         elif item.word == 'advance' and name == 'done':
             self.nodes[item.fields[0]][2] += self.limit
         elif item.word == 'clear' and name == 'done':

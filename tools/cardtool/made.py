@@ -3,7 +3,7 @@ import os
 from array import array
 
 from . import package
-from cluster_growth import DualModule, NoLibrary, Refused, library
+from cluster_growth import Conflicts, DualModule, NoLibrary, Refused, library
 
 from .faults import NoAnswer
 from .words import CALLS
@@ -40,7 +40,17 @@ def blossom(module, fields):
     return [str(module.call('insert_blossom', array('q', fields[1:]), fields[0]))]
 
 
-OWN = {'table': table, 'contacts': contacts, 'blossom': blossom}  # calls whose values are not plain numbers
+def group(module, fields):
+    """The answer, and a line for each conflict and each stop."""
+    try:
+        said = module.group_max_update_length()
+    except Refused as e:
+        return [f'refused {e.number}']
+    listed = said.conflicts + said.stops if isinstance(said, Conflicts) else ()
+    return [str(said)] + [str(a) for a in listed]
+
+
+OWN = {'table': table, 'contacts': contacts, 'blossom': blossom, 'group': group}  # calls whose values are not plain numbers
 
 
 def answer(module, item):

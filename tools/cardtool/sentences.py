@@ -2,6 +2,7 @@
 from . import package  # noqa: F401
 from cluster_growth import sentence
 
+from .plain import many
 from .words import DIRECTIONS
 
 
@@ -37,11 +38,18 @@ def edge(run, name, x):
     return f'{left}-{right}: ' + (f'{x[1]} and {x[2]} of {weight}' if name == 'edge' else 'full')
 
 
+def group_free(x):
+    """What a free answer says of all active nodes."""
+    return ('no limit' if x[0] < 0 else f'all can move by {x[0]}') + (', a boundary is empty' if x[1] else '')
+
+
 def words(run, item, answer):
     """An answer in words, or nothing where it speaks for itself."""
     name, *x = answer.split()
     x = [int(n) for n in x]
     if name == 'free':
+        if item.word == 'group':
+            return group_free(x)
         way = DIRECTIONS[item.fields[1]] if item.word == 'length' else 'move'
         return ('no limit' if x[0] < 0 else f'can {way} by {x[0]}') + (', its boundary is empty' if x[1] else '')
     if name == 'conflict':
@@ -52,6 +60,8 @@ def words(run, item, answer):
         return f'blossom {x[0]} has dual variable 0'
     if name == 'stop':
         return f'node {x[0]} has dual variable 0' + (f', and {node(x[1], x[2])} touches it' if x[1:] else '')
+    if name == 'group':
+        return f"{many(x[0], 'conflict')} and {many(x[1], 'stop')}"
     if name == 'refused':
         return 'an ill-formed record: ' + item.reason if item.reason else sentence(x[0])
     if name in ('edge', 'contact'):

@@ -50,6 +50,10 @@ CALLS = {
     'contacts': Word((), 12, 'contacts'),
     'clear': Word((), 13, 'clear'),
     'representative': Word(('node',), None, 'representative_vertex'),
+    'renew': Word((), None, 'renew_active_list'),
+    'prepare_all': Word((), None, 'prepare_all'),
+    'group': Word((), None, 'group_max_update_length'),
+    'round': Word(('length',), None, 'grow_all'),
 }
 WORDS = {**GRAPH, **CALLS}
 KINDS = {w.kind: name for name, w in WORDS.items() if w.kind}

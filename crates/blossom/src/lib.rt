@@ -228,6 +228,7 @@ pub fn insert_blossom(b: &mut [i64], t: &mut [i64], x: usize, circle: &[i64]) ->
     let l = join_circle(b, t, circle, n);
     let class = rows::vertex_count(b) + words::word(circle, 0);
     insert::push_node(b, class, x, t, l);
+    active_list::join(b, n);
     scratch::wipe(t, 0, l);
     Answer::Node(n)
 }

@@ -8,3 +8,7 @@ pub mod Refuse
 pub mod Replies
 pub mod Shapes
 pub mod Sounds
+pub mod Trial
+pub mod Grouped
+pub mod Listed
+pub mod Phase

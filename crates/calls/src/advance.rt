@@ -16,7 +16,7 @@ use graph::rows;
 use length::Answer;
 
 // The direction of a node in grow state x.
-fn direction(x: usize) -> usize
+pub fn direction(x: usize) -> usize
     ensures { λ r. ⌜ (r ≡ toward x) × (r ≤ 1) ⌝ }
 {
     if x == 1 { 1 } else { 0 }

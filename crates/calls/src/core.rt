@@ -19,22 +19,23 @@ use length::Answer;
 use length::scan;
 use store::clear;
 
-// Node n gets the grow state x.
+// Node n gets the grow state x, and joins the active list where it leaves Stay.
 pub fn set_grow_state(b: &mut [i64], n: usize, x: usize) -> Answer
-    requires { ⌜ Formed (now b) ⌝ }
+    requires { ⌜ Formed (now b) × (sound (stateOf (now b)) ≡ true) ⌝ }
     ensures { λ r. ⌜ Replies (now (b .entry)) (now (b .exit)) r (setGrowState (stateOf (now (b .entry))) n x) ⌝ }
 {
     let k = refuse::node_refusal(b, n, 2 < x, false);
     if k != 0 {
         return Answer::Refused(k);
     }
+    active_list::activate(b, n, x);
     node::set_grow_state(b, n, x);
     Answer::Done
 }
 
-// Node n is prepared to grow in direction d.
-pub fn prepare_dual_node_growth(b: &mut [i64], t: &mut [i64], n: usize, d: usize) -> Answer
-    requires { ⌜ Usable (now b) (now t) ⌝ }
+// Node n is prepared to grow in direction d, in which it can be.
+pub fn prepare_toward(b: &mut [i64], t: &mut [i64], n: usize, d: usize) -> Answer
+    requires { ⌜ Steady (now b) (now t) n d ⌝ }
     ensures { λ r. ⌜ Replies (now (b .entry)) (now (b .exit)) r (prepareDualNodeGrowth (stateOf (now (b .entry))) n d) × (now (t .exit) ≡ now (t .entry)) ⌝ }
 {
     let k = refuse::node_refusal(b, n, 1 < d, true);
@@ -43,6 +44,14 @@ pub fn prepare_dual_node_growth(b: &mut [i64], t: &mut [i64], n: usize, d: usize
     }
     let p = prepare::prepare_dual_node_growth(b, t, n, d);
     Answer::Prepared(p)
+}
+
+// Node n is prepared to grow in direction d.
+pub fn prepare_dual_node_growth(b: &mut [i64], t: &mut [i64], n: usize, d: usize) -> Answer
+    requires { ⌜ Usable (now b) (now t) ⌝ }
+    ensures { λ r. ⌜ Replies (now (b .entry)) (now (b .exit)) r (prepareDualNodeGrowth (stateOf (now (b .entry))) n d) × (now (t .exit) ≡ now (t .entry)) ⌝ }
+{
+    prepare_toward(b, t, n, d)
 }
 
 // How far node n may grow in direction d, as it is.
@@ -101,7 +110,7 @@ fn grow_prepared(b: &mut [i64], n: usize, d: usize, l: usize) -> Answer
 }
 
 // Node n is prepared and grows by l in direction d, or is refused.
-fn grow_toward(b: &mut [i64], t: &mut [i64], n: usize, d: usize, l: usize) -> Answer
+pub fn grow_toward(b: &mut [i64], t: &mut [i64], n: usize, d: usize, l: usize) -> Answer
     requires { ⌜ Steady (now b) (now t) n d × (l ≤ 9223372036854775808) ⌝ }
     ensures { λ r. ⌜ Replies (now (b .entry)) (now (b .exit)) r (growToward (stateOf (now (b .entry))) n d l) × (now (t .exit) ≡ now (t .entry)) ⌝ }
 {

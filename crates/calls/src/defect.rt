@@ -111,6 +111,7 @@ pub fn insert_defect(b: &mut [i64], t: &mut [i64], v: usize, x: usize) -> Answer
     let n = rows::node_count(b);
     let l = hold_defect(b, t, v, n);
     insert::push_node(b, v, x, t, l);
+    active_list::join(b, n);
     scratch::wipe(t, 0, l);
     Answer::Node(n)
 }

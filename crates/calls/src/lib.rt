@@ -4,4 +4,5 @@ pub mod refuse; // what refuses a call on a node
 pub mod defect; // insertion of a defect
 pub mod core; // the calls on a sound block with a scratch that is all zero
 pub mod advance; // growth by the length answer
+pub mod group; // what the length of all active nodes answers
 pub mod read; // reading: the growth table, the full edges, the representative vertex

@@ -10,7 +10,7 @@ use lib.ListN.{length, set, getD, take}
 use Rattle.graph.specs.Basic.{all, below}
 use Rattle.graph.specs.State.{State, Overgrown, vertexCount, edgeCount, sideCount, nodeCount, boundaryOf}
 use Rattle.graph.specs.Open.{weightLimit, sidesOf}
-use Rattle.graph.specs.Layout.{vOf, eOf, nOf, lOf, countOf, blockLength, rowsOf, row, stretches, risingTo, stateOf}
+use Rattle.graph.specs.Layout.{vOf, eOf, nOf, lOf, countOf, activeCountOf, blockLength, rowsOf, row, stretches, risingTo, stateOf}
 
 -- ---- what the words have
 
@@ -34,6 +34,8 @@ pub record Counted (b : List ℤ) : Type 0 where
   pub node-limit : stateOf b .nodeLimit ≡ nOf b
   pub store-limit : stateOf b .storeLimit ≡ lOf b
   pub count-max : countOf b ≤ nOf b
+  pub actives : length (stateOf b .active) ≡ activeCountOf b
+  pub active-max : activeCountOf b ≤ nOf b
 
 -- sizes and counts
 pub record LaidOut (b : List ℤ) : Type 0 where

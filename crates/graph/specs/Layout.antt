@@ -1,7 +1,8 @@
 -- Where the parts of a block stand, and the state that a block holds.
--- A block is a row of arrays (docs/LAYOUT.md): the header of 16 words (V, E, N, L, the number of nodes, the rest free); over vertices
+-- A block is a row of arrays (docs/LAYOUT.md): the header of 16 words (V, E, N, L, the number of nodes, the length of the active list,
+-- the rest free); over vertices
 -- flags, holder, grandson and first; over sides end, growth, holder, grandson and at; over edges weight; over nodes class, grow state,
--- parent, dual variable, start, boundary length and overgrown length; and the list store.
+-- parent, dual variable, start, boundary length and overgrown length; the list store; and the active list.
 use Prim.Native.Nat.{ℕ, zero, suc, _+_, _-_, _*_, _/_, _%_}
 use mathlib.Core.Bool.{Bool, true, false, _&&_}
 use mathlib.Core.List.{List, [], _∷_, map, reverse}
@@ -32,13 +33,16 @@ lOf b = wordAt b 3
 abbrev pub countOf : List ℤ → ℕ
 countOf b = wordAt b 4
 
+abbrev pub activeCountOf : List ℤ → ℕ
+activeCountOf b = wordAt b 5
+
 -- the words of each array
 abbrev pub sizes : ℕ → ℕ → ℕ → ℕ → List ℕ
-sizes v e n l = 16 ∷ v ∷ v ∷ v ∷ v ∷ 2 * e ∷ 2 * e ∷ 2 * e ∷ 2 * e ∷ 2 * e ∷ e ∷ n ∷ n ∷ n ∷ n ∷ n ∷ n ∷ n ∷ l ∷ []
+sizes v e n l = 16 ∷ v ∷ v ∷ v ∷ v ∷ 2 * e ∷ 2 * e ∷ 2 * e ∷ 2 * e ∷ 2 * e ∷ e ∷ n ∷ n ∷ n ∷ n ∷ n ∷ n ∷ n ∷ l ∷ n ∷ []
 
 -- the words of a block, and of a scratch: 2 E boundary entries, 2 E noted entries, 2 E marks
 abbrev pub blockLength : ℕ → ℕ → ℕ → ℕ → ℕ
-blockLength v e n l = 16 + 4 * v + 11 * e + 7 * n + l
+blockLength v e n l = 16 + 4 * v + 11 * e + 8 * n + l
 
 abbrev pub scratchLength : ℕ → ℕ
 scratchLength e = 6 * e
@@ -101,6 +105,7 @@ stateFrom r =
       };
       nodeLimit = getD (row r 0) 2 0;
       storeLimit = getD (row r 0) 3 0;
+      active = take (getD (row r 0) 5 0) (row r 19);
     }
 
 unfoldable pub stateOf : List ℤ → State
@@ -133,9 +138,9 @@ unfoldable pub packed : List ℤ → Bool
 packed b =
     packedFrom (lOf b) 0 (take (countOf b) (row (rowsOf b) 15)) (take (countOf b) (row (rowsOf b) 16)) (take (countOf b) (row (rowsOf b) 17))
 
--- 2 unless: no more nodes than N, the stretches of the lists in order, and the state that they give sound
+-- 2 unless: no more nodes and active nodes than N, the stretches of the lists in order, and the state that they give sound
 unfoldable pub blockSound : List ℤ → Bool
-blockSound b = leb (countOf b) (nOf b) && packed b && risingTo (row (rowsOf b) 4) (2 * eOf b) && sound (stateOf b)
+blockSound b = leb (countOf b) (nOf b) && leb (activeCountOf b) (nOf b) && packed b && risingTo (row (rowsOf b) 4) (2 * eOf b) && sound (stateOf b)
 
 -- ---- what every call but open asks of lent memory
 

@@ -3,6 +3,7 @@ pub mod Basic
 pub mod State
 pub mod Open
 pub mod Sound
+pub mod Active
 pub mod Word
 pub mod Rows
 pub mod Layout

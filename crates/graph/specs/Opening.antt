@@ -60,7 +60,7 @@ openedRows v e n l edges virtuals =
     ∷ endsOf edges ∷ zeros (2 * e) ∷ zeros (2 * e) ∷ zeros (2 * e) ∷ joined (map (sidesOf (endsOf edges)) (below v))
     ∷ map (λ (x : Edge). x .weight) edges
     ∷ zeros n ∷ zeros n ∷ zeros n ∷ zeros n ∷ zeros n ∷ zeros n ∷ zeros n
-    ∷ zeros l ∷ []
+    ∷ zeros l ∷ zeros n ∷ []
 
 unfoldable pub openedWords : ℕ → ℕ → ℕ → ℕ → List Edge → List ℕ → List ℕ
 openedWords v e n l edges virtuals = joined (openedRows v e n l edges virtuals)
@@ -80,12 +80,12 @@ OpenCalled b t v e n l edges virtuals b' k =
 -- of the arrays: no node; of the flags the virtual ones; nothing held and nothing grown; all else as it was
 unfoldable pub clearedRows : List (List ℕ) → List (List ℕ)
 clearedRows r =
-    set (row r 0) 4 0
+    set (set (row r 0) 4 0) 5 0
     ∷ map (λ x. x % 2) (row r 1) ∷ zeros (length (row r 2)) ∷ zeros (length (row r 3)) ∷ row r 4
     ∷ row r 5 ∷ zeros (length (row r 6)) ∷ zeros (length (row r 7)) ∷ zeros (length (row r 8)) ∷ row r 9
     ∷ row r 10
     ∷ row r 11 ∷ row r 12 ∷ row r 13 ∷ row r 14 ∷ row r 15 ∷ row r 16 ∷ row r 17
-    ∷ row r 18 ∷ []
+    ∷ row r 18 ∷ row r 19 ∷ []
 
 -- after b₀, the block b is in form and holds the cleared state, in the rows of b₀ cleared
 pub record Cleared (b₀ b : List ℤ) : Type 0 where
@@ -108,6 +108,18 @@ pub record Recounted (b₀ b : List ℤ) (x : ℕ) : Type 0 where
   pub edges : edgeCount (stateOf b) ≡ edgeCount (stateOf b₀)
   pub sides : sideCount (stateOf b) ≡ sideCount (stateOf b₀)
   pub nodes : nodeCount (stateOf b) ≡ x
+  pub node-limit : stateOf b .nodeLimit ≡ stateOf b₀ .nodeLimit
+  pub store-limit : stateOf b .storeLimit ≡ stateOf b₀ .storeLimit
+  pub len : length b ≡ length b₀
+
+-- after b₀, the active list of the block b ends behind x nodes, and all else is as it was
+pub record ActiveRecounted (b₀ b : List ℤ) (x : ℕ) : Type 0 where
+  pub laid : Laid b
+  pub rows : rowsOf b ≡ set (rowsOf b₀) 0 (set (row (rowsOf b₀) 0) 5 x)
+  pub vertices : vertexCount (stateOf b) ≡ vertexCount (stateOf b₀)
+  pub edges : edgeCount (stateOf b) ≡ edgeCount (stateOf b₀)
+  pub sides : sideCount (stateOf b) ≡ sideCount (stateOf b₀)
+  pub nodes : nodeCount (stateOf b) ≡ nodeCount (stateOf b₀)
   pub node-limit : stateOf b .nodeLimit ≡ stateOf b₀ .nodeLimit
   pub store-limit : stateOf b .storeLimit ≡ stateOf b₀ .storeLimit
   pub len : length b ≡ length b₀

@@ -1,7 +1,9 @@
 -- Laws about the definitions of `graph`.
+pub mod Active
 pub mod Count
 pub mod Cut
 pub mod Field
+pub mod Firsts
 pub mod Form
 pub mod Free
 pub mod List

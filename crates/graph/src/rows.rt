@@ -53,6 +53,14 @@ pub fn store_limit(b: &[i64]) -> usize
     words::word(b, 3)
 }
 
+// The length of the active list.
+pub fn active_count(b: &[i64]) -> usize
+    requires { ⌜ Laid (now b) ⌝ }
+    ensures { λ r. ⌜ (r ≡ length (stateOf (now (b .entry)) .active)) × (r ≤ stateOf (now (b .entry)) .nodeLimit) × (r ≤ 1024) ⌝ }
+{
+    words::word(b, 5)
+}
+
 // ---- where a place stands
 
 // Over vertices: flags, holder, grandson, first.
@@ -104,6 +112,18 @@ fn store_place(b: &[i64], i: usize) -> usize
     let e = words::word(b, 1);
     let n = words::word(b, 2);
     16 + 4 * m + 11 * e + 7 * n + i
+}
+
+// The active list.
+fn active_place(b: &[i64], i: usize) -> usize
+    requires { ⌜ Laid (now b) × (i < stateOf (now b) .nodeLimit) ⌝ }
+    ensures { λ r. ⌜ Found (now (b .entry)) 19 i r ⌝ }
+{
+    let m = words::word(b, 0);
+    let e = words::word(b, 1);
+    let n = words::word(b, 2);
+    let l = words::word(b, 3);
+    16 + 4 * m + 11 * e + 7 * n + l + i
 }
 
 // ---- reading and writing a place
@@ -180,5 +200,21 @@ pub fn put_store(b: &mut [i64], i: usize, x: usize)
     ensures { λ r. ⌜ Rowed 18 (now (b .entry)) (now (b .exit)) (set (row (rowsOf (now (b .entry))) 18) i x) ⌝ }
 {
     let p = store_place(b, i);
+    words::put(b, p, x);
+}
+
+// Node i of the active list.
+pub fn active_node(b: &[i64], i: usize) -> usize
+    requires { ⌜ Laid (now b) × (i < length (stateOf (now b) .active)) ⌝ }
+    ensures { λ r. ⌜ (r ≡ getD (stateOf (now (b .entry)) .active) i 0) × (r < 9223372036854775808) ⌝ }
+{
+    words::word(b, active_place(b, i))
+}
+
+pub fn put_active(b: &mut [i64], i: usize, x: usize)
+    requires { ⌜ Laid (now b) × (i < stateOf (now b) .nodeLimit) × (x < 9223372036854775808) ⌝ }
+    ensures { λ r. ⌜ Rowed 19 (now (b .entry)) (now (b .exit)) (set (row (rowsOf (now (b .entry))) 19) i x) ⌝ }
+{
+    let p = active_place(b, i);
     words::put(b, p, x);
 }

@@ -19,7 +19,7 @@ pub fn block_length(v: usize, e: usize, n: usize, l: usize) -> usize
     requires { ⌜ sizesOk v e n l ≡ true ⌝ }
     ensures { λ r. ⌜ r ≡ blockLength v e n l ⌝ }
 {
-    16 + 4 * v + 11 * e + 7 * n + l
+    16 + 4 * v + 11 * e + 8 * n + l
 }
 
 // The words of a scratch.

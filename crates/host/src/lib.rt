@@ -44,7 +44,7 @@ pub extern "C" fn fb_insert_defect(
         return answer::refuse_short(answer);
     }
     let a = lent::insert_defect(block, scratch, vertex, state);
-    answer::tell(answer, a)
+    answer_numbers::tell(answer, a)
 }
 
 // The next node is a blossom of the circle's nodes.
@@ -62,7 +62,7 @@ pub extern "C" fn fb_insert_blossom(
         return answer::refuse_short(answer);
     }
     let a = lent::insert_blossom(block, scratch, state, circle);
-    answer::tell(answer, a)
+    answer_numbers::tell(answer, a)
 }
 
 // A node gets a grow state.
@@ -80,7 +80,7 @@ pub extern "C" fn fb_set_grow_state(
         return answer::refuse_short(answer);
     }
     let a = lent::set_grow_state(block, scratch, node, state);
-    answer::tell(answer, a)
+    answer_numbers::tell(answer, a)
 }
 
 // A node is prepared to grow in a direction.
@@ -98,7 +98,7 @@ pub extern "C" fn fb_prepare(
         return answer::refuse_short(answer);
     }
     let a = lent::prepare_dual_node_growth(block, scratch, node, direction);
-    answer::tell(answer, a)
+    answer_numbers::tell(answer, a)
 }
 
 // How far a node may grow in a direction; `first` says whether it is prepared first.
@@ -117,7 +117,7 @@ pub extern "C" fn fb_max_update_length(
         return answer::refuse_short(answer);
     }
     let a = lent::compute_maximum_update_length_dual_node(block, scratch, node, direction, first);
-    answer::tell(answer, a)
+    answer_numbers::tell(answer, a)
 }
 
 // A node grows by a length: below 0 it shrinks.
@@ -135,7 +135,7 @@ pub extern "C" fn fb_grow(
         return answer::refuse_short(answer);
     }
     let a = lent::grow_dual_node(block, scratch, node, length);
-    answer::tell(answer, a)
+    answer_numbers::tell(answer, a)
 }
 
 // A node grows by all of its own length answer.
@@ -152,7 +152,7 @@ pub extern "C" fn fb_advance(
         return answer::refuse_short(answer);
     }
     let a = lent::advance(block, scratch, node);
-    answer::tell(answer, a)
+    answer_numbers::tell(answer, a)
 }
 
 // Everything but the graph is emptied.
@@ -164,7 +164,7 @@ pub extern "C" fn fb_clear(block: &mut [i64], scratch: &[i64], answer: &mut [usi
         return answer::refuse_short(answer);
     }
     let a = lent::clear(block, scratch);
-    answer::tell(answer, a)
+    answer_numbers::tell(answer, a)
 }
 
 // The representative vertex of a node; block and scratch are only read.
@@ -181,7 +181,7 @@ pub extern "C" fn fb_representative_vertex(
         return answer::refuse_short(answer);
     }
     let a = lent::representative_vertex(block, scratch, node);
-    answer::tell(answer, a)
+    answer_numbers::tell(answer, a)
 }
 
 // The growth of every side is written to a list of two words for each edge.
@@ -198,7 +198,7 @@ pub extern "C" fn fb_read_table(
         return answer::refuse_short(answer);
     }
     let a = lent::read_table(block, scratch, list);
-    answer::tell(answer, a)
+    answer_numbers::tell(answer, a)
 }
 
 // The full edges are written to the front of a list of one word for each edge; when done, the answer has their count behind its case.

@@ -16,7 +16,7 @@ use length::Answer;
 use pass::scratch;
 
 // Every word of the scratch is set to zero.
-fn clear_scratch(t: &mut [i64])
+pub fn clear_scratch(t: &mut [i64])
     ensures { λ r. ⌜ now (t .exit) ≡ zeroScratch (length (now (t .entry))) ⌝ }
 {
     let n = t.len();

@@ -6,13 +6,14 @@ ghost use Prim.Native.Nat.{_<_, _≤_};
 ghost use lib.ListN.{length};
 
 // The sound block (crates/graph/specs/Example.antt has the state that it holds).
-fn sample() -> [i64; 53] {
+fn sample() -> [i64; 55] {
     [
         2,
         1,
         2,
         4,
         1,
+        1,
         0,
         0,
         0,
@@ -22,8 +23,7 @@ fn sample() -> [i64; 53] {
         0,
         0,
         0,
-        0,
-        0, // header: V, E, N, L, nodes
+        0, // header: V, E, N, L, nodes, active nodes
         2,
         1,
         1,
@@ -61,6 +61,8 @@ fn sample() -> [i64; 53] {
         2048,
         7,
         9, // the store: side 0, overgrown vertex 0 with amount 2, two free words
+        0,
+        9, // the active list: node 0, a free word
     ]
 }
 
@@ -73,7 +75,7 @@ fn tell(name: &[u8], k: usize) {
 
 // The block with word i set to x.
 fn with(name: &[u8], i: usize, x: i64)
-    requires { ⌜ i < 53 ⌝ }
+    requires { ⌜ i < 55 ⌝ }
 {
     let mut b = sample();
     b[i] = x;
@@ -87,7 +89,7 @@ fn lengths() {
     tell(b"a sound block", sound::refuse::refusal(&b, &t[0..6]));
     tell(
         b"the block a word short",
-        sound::refuse::refusal(&b[0..52], &t[0..6]),
+        sound::refuse::refusal(&b[0..54], &t[0..6]),
     );
     tell(
         b"the scratch a word short",
@@ -102,7 +104,7 @@ fn lengths() {
 
 // The sizes of the sound block in the header of one that has a word more.
 fn longer() {
-    let mut b = [0i64; 54];
+    let mut b = [0i64; 56];
     b[0] = 2;
     b[1] = 1;
     b[2] = 2;
@@ -181,7 +183,7 @@ fn stacks() {
     with(b"an amount of 1,000,000,001", 50, 1024000001024);
     with(b"a free word of the store negative", 51, -1);
     with(b"a word behind the last node negative", 36, -1);
-    with(b"a free word of the header negative", 5, -1);
+    with(b"a free word of the header negative", 6, -1);
 }
 
 // The block with two words of boundary and no stack.
@@ -195,14 +197,34 @@ fn pair(name: &[u8], x: i64, y: i64) {
     tell(name, sound::refuse::refusal(&b, &t));
 }
 
+// The block with k active nodes, and x, y in the active list.
+fn active(name: &[u8], k: i64, x: i64, y: i64) {
+    let mut b = sample();
+    b[5] = k;
+    b[53] = x;
+    b[54] = y;
+    let t = [0i64; 6];
+    tell(name, sound::refuse::refusal(&b, &t));
+}
+
+fn actives() {
+    active(b"no active node", 0, 0, 9);
+    active(b"active nodes 3 of 2", 3, 0, 0);
+    active(b"active nodes negative", -1, 0, 9);
+    active(b"an active node that is none", 1, 1, 9);
+    active(b"an active node negative", 1, -1, 9);
+    active(b"a node twice in the active list", 2, 0, 0);
+    active(b"a free word of the active list negative", 1, 0, -1);
+}
+
 // How many words of b are not those of the sound block.
 fn changes(b: &[i64]) -> usize
-    requires { ⌜ length (now b) ≡ 53 ⌝ }
+    requires { ⌜ length (now b) ≡ 55 ⌝ }
 {
     let s = sample();
     let mut n = 0;
     let mut i = 0;
-    while i < 53 {
+    while i < 55 {
         n += changed(b, &s, i);
         i += 1;
     }
@@ -259,5 +281,6 @@ fn main() {
     lists();
     stacks();
     pair(b"a side twice in a list", 0, 0);
+    actives();
     openings();
 }

@@ -8,3 +8,5 @@ pub mod Prepare
 pub mod Preparing
 pub mod Ready
 pub mod Scratch
+pub mod Idle
+pub mod Leaves

@@ -1,24 +1,32 @@
 -- What is proved of reachable states and of preparation; each proof cites a law.
-use Prim.Native.Nat.{ℕ, _+_, _≤_, _<_}
+use Prim.Native.Nat.{ℕ, suc, _+_, _≤_, _<_}
 use mathlib.Core.Path.{_≡_}
 use mathlib.Core.Logic.{_≢_, _⊎_}
 use mathlib.Core.Bool.{Bool, true}
-use mathlib.Core.List.{List}
+use mathlib.Core.List.{List, [], _∷_}
+use lib.IntN.{ℤ, pos}
 use lib.ListN.{length}
-use Rattle.graph.specs.Basic.{member}
-use Rattle.graph.specs.State.{State, opposite, vertexCount, sideCount, nodeCount, endAt, growthAt, holderAt, vertexHolderAt, defectAt, virtualAt, parentOf, boundaryOf, overgrownOf, grownOver, weightOver, down}
+use Rattle.graph.specs.Basic.{member, distinct}
+use Rattle.graph.specs.State.{State, opposite, vertexCount, sideCount, nodeCount, endAt, growthAt, holderAt, vertexHolderAt, defectAt, virtualAt, parentOf, growStateOf, boundaryOf, overgrownOf, grownOver, weightOver, stay, down}
 use Rattle.graph.specs.Open.{Edge, opened, openRefusal}
 use Rattle.graph.specs.Sound.{entries, sound}
-use Rattle.graph.specs.laws.Shape.{Shape, sound-entries}
+use Rattle.graph.specs.laws.Shape.{Shape, sound-entries, sound-active}
+use Rattle.graph.specs.laws.Active.{active-once}
 use Rattle.pass.specs.Prepare.{prepareNode}
 use Rattle.length.specs.declared.Answer.the-variants.{Refused}
 use Rattle.calls.specs.Calls.{Call, maxUpdateLength, advance}
+use Rattle.calls.specs.Round.{prepareAll, round, groupLength}
+use Rattle.calls.specs.declared.group.GroupMaxUpdateLength.the-variants.{NonZeroGrow as groupFree, Refused as groupRefused}
+use Rattle.length.specs.laws.Long.{longAs}
 use Rattle.reachable.specs.Reachable.{after, Reachable}
 use Rattle.reachable.specs.Passes.{Ends}
 use Rattle.reachable.specs.Invariant.{BoundaryHeld}
 use Rattle.reachable.specs.laws.prepare.Ends.{prepare-ends, prepare-passes}
 use Rattle.reachable.specs.laws.Calls.{opened-invariant, after-invariant, reachable-invariant}
 use Rattle.reachable.specs.laws.Length.{length-refusal, advance-refusal, not-thirteen}
+use Rattle.reachable.specs.laws.Active.{active-outer}
+use Rattle.reachable.specs.laws.GroupAnswer.{group-refused-nine, group-positive}
+use Rattle.reachable.specs.laws.Refused.{prepare-all-refused, round-refused, by-group-refused}
 use Rattle.reachable.specs.laws.Facts.{free-together, same-growth, prepared-held, prepared-grown}
 
 -- ---- soundness
@@ -97,3 +105,32 @@ module _ (c : State) (r : Reachable c) where
 
   pub advance-never-refused-13 : (n : ℕ) → advance c n .answer ≢ Refused 13
   advance-never-refused-13 n = not-thirteen _ (advance-refusal c (reachable-invariant c r) n)
+
+  -- ---- the active list, and all clusters at once
+
+  -- every node that is not in Stay stands in the active list, once, and lies in no blossom
+  pub active-listed : (n : ℕ) → n < nodeCount c → growStateOf c n ≢ stay → (member n (c .active) ≡ true) × (parentOf c n ≡ 0)
+  active-listed n b ne = (reachable-invariant c r .active-all n b ne, active-outer c (reachable-invariant c r) n b ne)
+
+  pub active-distinct : distinct (c .active) ≡ true
+  active-distinct = active-once c (sound-active c (reachable-sound c r))
+
+  -- a preparation of all is refused 9 only: never 2 or 6
+  pub prepare-all-refused-only-9 : (k : ℕ) → prepareAll c .answer ≡ Refused k → k ≡ 9
+  prepare-all-refused-only-9 = prepare-all-refused c (reachable-invariant c r)
+
+  -- so is the group: never 2, 6 or 13
+  pub group-refused-only-9 : (k : ℕ) → groupLength c .group ≡ groupRefused k → k ≡ 9
+  group-refused-only-9 = group-refused-nine c (reachable-invariant c r)
+
+  -- a round of a length above 0 is refused 9, 10, 11 or 12 only
+  pub round-refused-only-9-to-12 : (l k : ℕ) → round c (pos (suc l)) .answer ≡ Refused k → member k (9 ∷ 10 ∷ 11 ∷ 12 ∷ []) ≡ true
+  round-refused-only-9-to-12 = round-refused c (reachable-invariant c r)
+
+  -- a limited length that the group answers is above 0
+  pub group-length-above-0 : (z : ℤ) (e : Bool) → groupLength c .group ≡ groupFree z e → longAs 1 z ≡ true
+  group-length-above-0 = group-positive c (reachable-invariant c r)
+
+  -- a round by it, on the state that the group leaves, is refused 9 or 12 only
+  pub round-by-group-refused-only-9-or-12 : (z : ℤ) (e : Bool) → groupLength c .group ≡ groupFree z e → (k : ℕ) → round (groupLength c .state) z .answer ≡ Refused k → member k (9 ∷ 12 ∷ []) ≡ true
+  round-by-group-refused-only-9-or-12 = by-group-refused c (reachable-invariant c r)

@@ -4,6 +4,8 @@
 pub mod invariant
 -- the invariant of a state, and soundness in parts
 pub mod state
+-- the active list
+pub mod Active
 -- the two passes
 pub mod shrink
 pub mod grow
@@ -16,6 +18,12 @@ pub mod insert
 -- every call; so every reachable state
 pub mod Calls
 -- what follows
+pub mod Round
+pub mod Relied
+pub mod Group
+pub mod Asked
+pub mod GroupAnswer
+pub mod Refused
 pub mod Length
 pub mod Facts
 pub mod WithoutBlossoms

@@ -9,7 +9,7 @@ use Rattle.graph.specs.Basic.{if_then_else_}
 use Rattle.length.specs.declared.Answer.{Answer}
 use Rattle.length.specs.declared.Answer.the-variants.{NonZeroGrow, Unlimited, Conflicting, TouchingVirtual, BlossomNeedExpand, VertexShrinkStop, VertexShrinkStopPeer, Done, Node, Prepared, Refused, Vertex}
 use Rattle.length.specs.Answer.{flag}
-use Rattle.calls.specs.Calls.{Outcome, answered, growths, touching}
+use Rattle.calls.specs.Calls.{Outcome, answered, growths, touching, grouped}
 use Rattle.records.specs.Text.{ascii, decimal, signedText, spaced}
 
 -- an answer in words
@@ -40,10 +40,12 @@ edgeLines k e (l ∷ r ∷ gs) = line k (ascii "edge" ++ spaced (e ∷ l ∷ r �
 unfoldable pub contactLine : ℕ → ℕ → List ℕ
 contactLine k e = line k (ascii "contact" ++ spaced (e ∷ []))
 
+-- no record asks for the length of all active nodes, so what that gives has no lines
 unfoldable pub linesFor : ℕ → Outcome → List (List ℕ)
 linesFor k (answered a) = line k (wordsOf a) ∷ []
 linesFor k (growths gs) = edgeLines k 0 gs
 linesFor k (touching es) = map (contactLine k) es
+linesFor k (grouped g xs) = []
 
 -- all lines, one behind the other
 unfoldable pub joined : List (List ℕ) → List ℕ

@@ -46,6 +46,14 @@ fn block_refusal(b: &[i64], fits: bool) -> usize
     }
 }
 
+// 0, or the refusal of a block that is lent alone.
+pub fn refusal_alone(b: &[i64]) -> usize
+    ensures { λ r. ⌜ r ≡ blockRefusal (sized (now (b .entry))) (now (b .entry)) ⌝ }
+{
+    let fits = sizes::sized(b);
+    block_refusal(b, fits)
+}
+
 // 0, or the refusal of block and scratch.
 pub fn refusal(b: &[i64], t: &[i64]) -> usize
     ensures { λ r. ⌜ r ≡ memoryRefusal (now (b .entry)) (now (t .entry)) ⌝ }

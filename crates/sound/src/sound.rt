@@ -7,6 +7,7 @@ ghost use Rattle.graph.specs.Sound.{sound};
 ghost use Rattle.graph.specs.Layout.{eOf, rowsOf, row, risingTo, packed, stateOf, sized, blockSound};
 ghost use Rattle.graph.specs.Form.{Laid, Listed};
 ghost use Rattle.graph.specs.laws.SidesAt.{Rising};
+use crate::sound_active;
 use crate::sound_graph;
 use crate::sound_lists;
 use crate::sound_nodes;
@@ -17,10 +18,13 @@ fn state_sound(b: &[i64]) -> bool
     requires { ⌜ Laid (now b) × Listed (now b) × Rising (now b) ⌝ }
     ensures { λ r. ⌜ r ≡ sound (stateOf (now (b .entry))) ⌝ }
 {
-    sound_graph::graph_sound(b) & sound_graph::sides_sound(b) & sound_nodes::nodes_sound(b)
+    sound_graph::graph_sound(b)
+        & sound_graph::sides_sound(b)
+        & sound_nodes::nodes_sound(b)
+        & sound_active::active_sound(b)
 }
 
-// Whether the lists stand in order and the state is sound, where there are no more nodes than N.
+// Whether the lists stand in order and the state is sound, where there are no more nodes and active nodes than N.
 fn laid_sound(b: &[i64]) -> bool
     requires { ⌜ Laid (now b) ⌝ }
     ensures { λ r. ⌜ r ≡ packed (now (b .entry)) && risingTo (row (rowsOf (now (b .entry))) 4) (2 * eOf (now (b .entry))) && sound (stateOf (now (b .entry))) ⌝ }
@@ -38,6 +42,11 @@ pub fn sound(b: &[i64]) -> bool
     ensures { λ r. ⌜ r ≡ blockSound (now (b .entry)) ⌝ }
 {
     let c = words::word(b, 4);
+    let a = words::word(b, 5);
     let n = words::word(b, 2);
-    if c <= n { laid_sound(b) } else { false }
+    if (c <= n) & (a <= n) {
+        laid_sound(b)
+    } else {
+        false
+    }
 }

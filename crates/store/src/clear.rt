@@ -5,7 +5,7 @@ ghost use Prim.Native.Nat.{_+_, _%_, _<_, _≤_};
 ghost use lib.ListN.{length};
 ghost use Rattle.graph.specs.Layout.{rowsOf, row, stateOf};
 ghost use Rattle.graph.specs.Form.{Laid, Formed, Rowed};
-ghost use Rattle.graph.specs.Opening.{zeros, Recounted, Cleared};
+ghost use Rattle.graph.specs.Opening.{zeros, Recounted, ActiveRecounted, Cleared};
 ghost use Rattle.store.specs.laws.Clear.{Rewritten, clearedVertices, clearedSides};
 use graph::rows;
 use graph::words;
@@ -16,6 +16,14 @@ pub fn put_node_count(b: &mut [i64], x: usize)
     ensures { λ r. ⌜ Recounted (now (b .entry)) (now (b .exit)) x ⌝ }
 {
     words::put(b, 4, x);
+}
+
+// The active list ends behind its first x places.
+pub fn put_active_count(b: &mut [i64], x: usize)
+    requires { ⌜ Laid (now b) × (x ≤ stateOf (now b) .nodeLimit) ⌝ }
+    ensures { λ r. ⌜ ActiveRecounted (now (b .entry)) (now (b .exit)) x ⌝ }
+{
+    words::put(b, 5, x);
 }
 
 // A row over vertices becomes zero.
@@ -84,6 +92,7 @@ pub fn clear(b: &mut [i64])
     ensures { λ r. ⌜ Cleared (now (b .entry)) (now (b .exit)) ⌝ }
 {
     put_node_count(b, 0);
+    put_active_count(b, 0);
     clear_vertices(b);
     clear_sides(b);
 }

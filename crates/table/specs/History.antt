@@ -1,15 +1,17 @@
 -- The history that document 01 keeps of a list of calls (its book): each node's vertex, grow state and dual variable, told by the calls and
 -- by the answers of the definitions alone. The growth table of a state never enters it.
-use Prim.Native.Nat.{ℕ}
+use Prim.Native.Nat.{ℕ, suc}
 use mathlib.Core.Bool.{Bool, true, _&&_, not}
 use mathlib.Core.List.{List, [], _∷_, _++_, map}
-use lib.IntN.{ℤ, pos, negsuc, _+ℤ_}
+use lib.IntN.{ℤ, pos, negsuc, negℤ, _+ℤ_}
 use lib.Dec.{eqb}
 use lib.ListN.{getD, set}
 use Rattle.graph.specs.Basic.{if_then_else_, below}
-use Rattle.graph.specs.State.{State, stay}
+use Rattle.graph.specs.State.{State, stay, growing, shrinking}
 use Rattle.calls.specs.Insert.{insertDefect, insertBlossom}
-use Rattle.calls.specs.Calls.{setGrowState, maxUpdateLength, growDualNode, signedFor, toward, advance, clear, Call, InsertDefect, InsertBlossom, SetGrowState, Prepare, MaxUpdateLength, Grow, ReadTable, Advance, Contacts, RepresentativeVertex, Clear, respond}
+use Rattle.calls.specs.Calls.{setGrowState, maxUpdateLength, growDualNode, signedFor, toward, advance, clear, Call, InsertDefect, InsertBlossom, SetGrowState, Prepare, MaxUpdateLength, Grow, ReadTable, Advance, Contacts, RepresentativeVertex, Clear, RenewActiveList, PrepareAll, GroupLength, Round, respond}
+use Rattle.graph.specs.Active.{renewed, activeIn}
+use Rattle.calls.specs.Round.{round}
 use Rattle.table.specs.Answers.{accepted, isDone, limitOf}
 
 -- what is kept of a node; y is a signed number, for nothing here says that it stays above 0
@@ -42,6 +44,13 @@ withAdded h n l = set h n (record { vertex = entryAt h n .vertex; growState = en
 unfoldable pub advanceLength : State → ℕ → ℕ → ℤ
 advanceLength c n x = if eqb x stay then pos 0 else signedFor x (limitOf (maxUpdateLength c n (toward x) true .answer))
 
+-- what a round of length l adds for a node of grow state x
+unfoldable pub roundLength : ℕ → ℤ → ℤ
+roundLength x l = if eqb x growing then l else if eqb x shrinking then negℤ l else pos 0
+
+unfoldable pub withRound : ℤ → Entry → Entry
+withRound l e = record { vertex = e .vertex; growState = e .growState; y = e .y +ℤ roundLength (e .growState) l }
+
 -- the history h after a call on the state c
 unfoldable pub recorded : State → History → Call → History
 -- an accepted defect becomes the next node, with its vertex, its state and y = 0
@@ -54,6 +63,9 @@ recorded c h Clear = if accepted (clear c .answer) then [] else h
 recorded c h (Grow n l) = if isDone (growDualNode c n l .answer) then withAdded h n l else h
 -- so does an advance that is answered done; its direction is the state in the history
 recorded c h (Advance n) = if isDone (advance c n .answer) then withAdded h n (advanceLength c n (entryAt h n .growState)) else h
+-- a round that is answered done adds its length to y for every Grow node and takes it from y for every Shrink node: its growths, one
+-- by one (Theorems: a-round-is-its-growths)
+recorded c h (Round l) = if isDone (round c l .answer) then map (withRound l) h else h
 -- no other call changes it
 recorded c h (InsertBlossom x circle) = h
 recorded c h (Prepare n d) = h
@@ -61,6 +73,9 @@ recorded c h (MaxUpdateLength n d first) = h
 recorded c h ReadTable = h
 recorded c h Contacts = h
 recorded c h (RepresentativeVertex n) = h
+recorded c h RenewActiveList = h
+recorded c h PrepareAll = h
+recorded c h GroupLength = h
 
 -- ---- a list of calls
 
@@ -86,11 +101,19 @@ noBlossom c (Advance n) = true
 noBlossom c Contacts = true
 noBlossom c (RepresentativeVertex n) = true
 noBlossom c Clear = true
+noBlossom c RenewActiveList = true
+noBlossom c PrepareAll = true
+noBlossom c GroupLength = true
+noBlossom c (Round l) = true
 
 -- no blossom is accepted along the list
 unfoldable pub noBlossoms : State → List Call → Bool
 noBlossoms c [] = true
 noBlossoms c (k ∷ ks) = noBlossom c k && noBlossoms (respond c k .state) ks
+
+-- the growths of a round of length l + 1: of each Shrink node of the renewed list, then of each Grow node
+abbrev pub growthsOf : State → ℕ → List Call
+growthsOf c l = RenewActiveList ∷ (map (λ n. Grow n (negsuc l)) (activeIn (renewed c) shrinking) ++ map (λ n. Grow n (pos (suc l))) (activeIn (renewed c) growing))
 
 -- ---- the dual variables of the vertices
 

@@ -9,5 +9,5 @@ use Rattle.table.specs.Answers
 use Rattle.table.specs.History
 
 unfoldable pub everything : ℕ
-unfolding Below.everything Made.edge Reachable.after Distances.everything Answers.accepted Answers.isDone Answers.limitOf History.withGrowState History.withAdded History.advanceLength History.recorded History.historyFrom History.noBlossom History.noBlossoms History.dualAt History.natural History.dualsOf OpenedGraph.openedGraph
+unfolding Below.everything Made.edge Reachable.after Distances.everything Answers.accepted Answers.isDone Answers.limitOf History.withGrowState History.withAdded History.advanceLength History.roundLength History.withRound History.recorded History.historyFrom History.noBlossom History.noBlossoms History.dualAt History.natural History.dualsOf OpenedGraph.openedGraph
 everything = 0

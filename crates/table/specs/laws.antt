@@ -2,7 +2,9 @@
 pub mod Depth
 pub mod Table
 pub mod Feasible
+pub mod Moved
 pub mod History
+pub mod OneByOne
 pub mod Duals
 pub mod Runs
 pub mod Kept

@@ -2,8 +2,8 @@
 use Prim.Native.Nat.{ℕ, _≤_}
 use mathlib.Core.Path.{_≡_}
 use mathlib.Core.Bool.{Bool, true}
-use mathlib.Core.List.{List, [], _∷_, _++_}
-use lib.IntN.{ℤ}
+use mathlib.Core.List.{List, [], _∷_, _++_, map}
+use lib.IntN.{ℤ, pos}
 use lib.Dec.{leb}
 use lib.ListN.{length, drop, getD}
 use Rattle.graph.specs.Basic.{if_then_else_}
@@ -19,6 +19,8 @@ use Rattle.table_claim.specs.Lent.{LentCall, lentOpen, lentDefect, lentB
 use Rattle.table_claim.specs.Lent.{Returned, opening, returns, returnsList, returnsCount}
 use Rattle.table_claim.specs.Lent.{lentSheet, openingSheet}
 use Rattle.host_sheet.specs.Told.{sheetNumbers, SheetTold}
+use Rattle.host_round.specs.Told.{groupNumbers, RenewTold, PrepareAllTold, RoundTold, GroupTold}
+use Rattle.table_claim.specs.Lent.{lentRenew, lentPrepareAll, lentGroup, lentRound, returnsGroup}
 use Rattle.table_claim.specs.Run.{Sizes, fedOne, fed, returned}
 
 -- the list says done: it has room for an answer, and in front the number of that case, 7
@@ -69,6 +71,15 @@ pub data HostStep (b : List ℤ) : LentCall → List ℕ → Reported → List �
   fb-open-sheet : {t edges sheet virtuals edges' b' : List ℤ} {v e n l k : ℕ} {list list' : List ℕ}
       → SheetTold b t v e n l edges sheet virtuals edges' b' list list' k → (SaysOpened list list' → ⊥)
       → HostStep b (lentSheet t v e n l edges sheet virtuals) list (record { told = list'; count = k; words = edges' }) b'
+  fb-renew-active-list : {b' : List ℤ} {k : ℕ} {list list' : List ℕ} → RenewTold b b' list list' k
+      → HostStep b lentRenew list (record { told = list'; count = k; words = [] }) b'
+  fb-prepare-all : {s t b' s' t' : List ℤ} {k : ℕ} {list list' : List ℕ} → PrepareAllTold b s t b' s' t' list list' k
+      → HostStep b (lentPrepareAll s t) list (record { told = list'; count = k; words = [] }) b'
+  fb-grow-all : {s t b' s' t' : List ℤ} {l : ℤ} {k : ℕ} {list list' : List ℕ} → RoundTold b s t l b' s' t' list list' k
+      → HostStep b (lentRound s t l) list (record { told = list'; count = k; words = [] }) b'
+  -- the entries are numbers, told as words
+  fb-group-max-update-length : {s t b' s' t' : List ℤ} {entries entries' : List ℕ} {k : ℕ} {list list' : List ℕ} → GroupTold b s t entries b' s' t' entries' list list' k
+      → HostStep b (lentGroup s t entries) list (record { told = list'; count = k; words = map pos entries' }) b'
 
 -- a line of a protocol: a call, the list that is lent for its answer, and what the host had then
 pub record HostExchange : Type 0 where
@@ -99,6 +110,7 @@ numbersIn (opening k) = openNumbers k
 numbersIn (returns a) = answerNumbers a
 numbersIn (returnsList a words) = answerNumbers a
 numbersIn (returnsCount a k words) = countNumbers a k
+numbersIn (returnsGroup g entries) = groupNumbers g
 numbersIn (openingSheet a edges) = sheetNumbers a
 
 -- and the words of the list that was lent to it, if any
@@ -107,6 +119,7 @@ wordsIn (opening k) = []
 wordsIn (returns a) = []
 wordsIn (returnsList a words) = words
 wordsIn (returnsCount a k words) = words
+wordsIn (returnsGroup g entries) = map pos entries
 wordsIn (openingSheet a edges) = edges
 
 -- the words of that list before the call
@@ -124,6 +137,10 @@ lentWords (lentAdvance t n) = []
 lentWords (lentVertex t n) = []
 lentWords (lentClear t) = []
 lentWords (lentSheet t v e n l edges sheet virtuals) = edges
+lentWords lentRenew = []
+lentWords (lentPrepareAll s t) = []
+lentWords (lentGroup s t entries) = map pos entries
+lentWords (lentRound s t l) = []
 
 -- what the host has after a call in state c: the answer of the definitions, or what a list without room for it is told
 unfoldable pub reported : Sizes → State → LentCall → List ℕ → Reported

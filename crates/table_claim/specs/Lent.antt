@@ -13,6 +13,8 @@ use Rattle.lent.specs.Called.{VertexRead, TableRead, ContactsRead, ContactsCoun
 use Rattle.sheet.specs.declared.SheetOpened.{SheetOpened}
 use Rattle.sheet.specs.declared.SheetOpened.the-variants.{Opened, Refused}
 use Rattle.sheet.specs.Called.{SheetCalled}
+use Rattle.calls.specs.declared.group.GroupMaxUpdateLength.{GroupMaxUpdateLength}
+use Rattle.lent_round.specs.Called.{RenewCalled, PrepareAllCalled, RoundCalled, GroupCalled}
 
 -- a call with all that it is given beside the block: the scratch t first, numbers, and the words of other lent lists
 pub data LentCall : Type 0 where
@@ -29,6 +31,10 @@ pub data LentCall : Type 0 where
   lentVertex : (t : List ℤ) (node : ℕ) → LentCall
   lentClear : (t : List ℤ) → LentCall
   lentSheet : (t : List ℤ) (v e n l : ℕ) (edges sheet virtuals : List ℤ) → LentCall
+  lentRenew : LentCall
+  lentPrepareAll : (second t : List ℤ) → LentCall
+  lentGroup : (second t : List ℤ) (entries : List ℕ) → LentCall
+  lentRound : (second t : List ℤ) (by : ℤ) → LentCall
 
 -- what the host gets from a call
 pub data Returned : Type 0 where
@@ -36,6 +42,7 @@ pub data Returned : Type 0 where
   returns : Answer → Returned
   returnsList : Answer → List ℤ → Returned  -- and what its lent list holds then
   returnsCount : Answer → ℕ → List ℤ → Returned  -- and how many of its words were written
+  returnsGroup : GroupMaxUpdateLength → List ℕ → Returned  -- of the group: its answer, and what its lent entries hold then
   openingSheet : SheetOpened → List ℤ → Returned  -- of an opening from a sheet: its answer, and what the edges hold then
 
 -- From the block b a call leads to the block b', and the host gets r. Reading leaves the block. An opening among the calls is one that is
@@ -60,6 +67,11 @@ pub data Step (b : List ℤ) : LentCall → Returned → List ℤ → Type 0 whe
   sheet-refused : {t edges sheet virtuals edges' b' : List ℤ} {v e n l k : ℕ}
       → SheetCalled b t v e n l edges sheet virtuals edges' b' (Refused k)
       → Step b (lentSheet t v e n l edges sheet virtuals) (openingSheet (Refused k) edges') b'
+  renew-active-list : {b' : List ℤ} {a : Answer} → RenewCalled b b' a → Step b lentRenew (returns a) b'
+  prepare-all : {s t b' s' t' : List ℤ} {a : Answer} → PrepareAllCalled b s t b' s' t' a → Step b (lentPrepareAll s t) (returns a) b'
+  group-length : {s t b' s' t' : List ℤ} {entries entries' : List ℕ} {g : GroupMaxUpdateLength} → GroupCalled b s t entries b' s' t' entries' g
+      → Step b (lentGroup s t entries) (returnsGroup g entries') b'
+  round : {s t b' s' t' : List ℤ} {l : ℤ} {a : Answer} → RoundCalled b s t l b' s' t' a → Step b (lentRound s t l) (returns a) b'
 
 -- ---- lists of calls
 

@@ -27,44 +27,44 @@ use Rattle.table_claim.specs.Hosted.{SaysDone, fb-insert-defect, fb-grow
 use Rattle.table_claim.specs.Demand3.{afresh}
 use Rattle.table_claim.specs.Example.{demand-on-P}
 
-abbrev edges : List Edge
+abbrev pub edges : List Edge
 edges = edge 0 1 4 ∷ edge 1 2 4 ∷ edge 2 3 4 ∷ []
 
-abbrev virtuals : List ℕ
+abbrev pub virtuals : List ℕ
 virtuals = 0 ∷ 3 ∷ []
 
-abbrev words : List ℕ → List ℤ
+abbrev pub words : List ℕ → List ℤ
 words l = map pos l
 
-abbrev edgeWords : List ℤ
+abbrev pub edgeWords : List ℤ
 edgeWords = words (0 ∷ 1 ∷ 4 ∷ 1 ∷ 2 ∷ 4 ∷ 2 ∷ 3 ∷ 4 ∷ [])
 
-abbrev scratch : List ℤ
+abbrev pub scratch : List ℤ
 scratch = words (zeros 18)
 
-abbrev block : List ℤ
-block = words (zeros 133)
+abbrev pub block : List ℤ
+block = words (zeros 137)
 
-abbrev openBlock : List ℤ
+abbrev pub openBlock : List ℤ
 openBlock = words (openedWords 4 3 4 40 edges virtuals)
 
-opening : OpenCalled block scratch 4 3 4 40 edgeWords (words virtuals) openBlock 0
+pub opening : OpenCalled block scratch 4 3 4 40 edgeWords (words virtuals) openBlock 0
 unfolding everythingLent
 opening = (refl, refl)
 
 abbrev rowsWith : ℕ → List (List ℕ)
 rowsWith y =
-    (4 ∷ 3 ∷ 4 ∷ 40 ∷ 1 ∷ zeros 11)
+    (4 ∷ 3 ∷ 4 ∷ 40 ∷ 1 ∷ 1 ∷ zeros 10)
     ∷ (1 ∷ 2 ∷ 0 ∷ 1 ∷ []) ∷ (0 ∷ 1 ∷ 0 ∷ 0 ∷ []) ∷ (0 ∷ 1 ∷ 0 ∷ 0 ∷ []) ∷ (0 ∷ 1 ∷ 3 ∷ 5 ∷ [])
     ∷ (0 ∷ 1 ∷ 1 ∷ 2 ∷ 2 ∷ 3 ∷ []) ∷ (0 ∷ y ∷ y ∷ 0 ∷ 0 ∷ 0 ∷ []) ∷ (0 ∷ 1 ∷ 1 ∷ 0 ∷ 0 ∷ 0 ∷ []) ∷ (0 ∷ 1 ∷ 1 ∷ 0 ∷ 0 ∷ 0 ∷ []) ∷ (0 ∷ 1 ∷ 2 ∷ 3 ∷ 4 ∷ 5 ∷ [])
     ∷ (4 ∷ 4 ∷ 4 ∷ [])
     ∷ (1 ∷ zeros 3) ∷ (1 ∷ zeros 3) ∷ zeros 4 ∷ (y ∷ zeros 3) ∷ zeros 4 ∷ (2 ∷ zeros 3) ∷ zeros 4
-    ∷ (1 ∷ 2 ∷ zeros 38) ∷ []
+    ∷ (1 ∷ 2 ∷ zeros 38) ∷ (0 ∷ zeros 3) ∷ []
 
-abbrev blockWith : ℕ → List ℤ
+abbrev pub blockWith : ℕ → List ℤ
 blockWith y = words (joined (rowsWith y))
 
-inserted : DefectCalled openBlock scratch 1 1 (blockWith 0) scratch (Node 0)
+pub inserted : DefectCalled openBlock scratch 1 1 (blockWith 0) scratch (Node 0)
 unfolding everythingLent
 inserted = record {
   block = record { answer = refl; state = refl; formed = λ e. block-formed (blockWith 0) refl refl; unchanged = λ e. clash true refl e; len = refl };
@@ -91,11 +91,11 @@ not-opened : OpenCalled (blockWith 0) scratch 4 3 5 40 edgeWords (words virtuals
 unfolding everythingLent
 not-opened = (refl, refl)
 
-edges-given : edgesFrom edgeWords ≡ edges
+pub edges-given : edgesFrom edgeWords ≡ edges
 unfolding everythingLent
 edges-given = refl
 
-virtuals-given : virtualsFrom (words virtuals) ≡ virtuals
+pub virtuals-given : virtualsFrom (words virtuals) ≡ virtuals
 unfolding everythingLent
 virtuals-given = refl
 

@@ -2,7 +2,7 @@
 -- calls exported for C (Hosted), the graph and the calls that the records of an input give (Input), a table record and its bytes (Tables), the
 -- program's steps (Program), growths read back from lines (Reading), the dual variable that a vertex carries (Carried). EveryRun has what holds of
 -- every list of calls, Obstacles what a length means in the terms of matching, Printed the theorems about lines; Example and LentExample show that nothing is vacuous. The proofs are in laws/.
--- FromSheet: runs that begin with an opening from a sheet, with SheetExample.
+-- RoundExample has a run with rounds. FromSheet: runs that begin with an opening from a sheet, with SheetExample.
 pub mod Lent
 pub mod Run
 pub mod EveryRun
@@ -20,5 +20,6 @@ pub mod Obstacles
 pub mod Opens
 pub mod Example
 pub mod LentExample
+pub mod RoundExample
 pub mod SheetExample
 pub mod laws

@@ -6,6 +6,8 @@ use Rattle.graph.specs.Layout
 use Rattle.graph.specs.Opening
 use Rattle.pass.specs.Scratch
 use Rattle.lent.specs.Called
+use Rattle.round.specs.Asked
+use Rattle.lent_round.specs.Called as Trial
 use Rattle.records.specs.Opens as Records
 use Rattle.table.specs.Opens as Table
 use Rattle.table_claim.specs.Run
@@ -21,5 +23,5 @@ everything = 0
 
 -- the same, and what the words of a block say
 unfoldable pub everythingLent : ℕ
-unfolding Table.everything Word.toNat Word.wordAt Rows.rows Rows.offset Layout.rowsOf Layout.classFrom Layout.stretches Layout.overgrownFrom Layout.stackFrom Layout.boundaries Layout.stacks Layout.stateFrom Layout.stateOf Layout.sized Layout.risingTo Layout.fitsAt Layout.packedFrom Layout.packed Layout.blockSound Layout.memoryFits Layout.blockRefusal Layout.memoryRefusal Layout.listRefusal Opening.givenAt Opening.edgeAt Opening.edgesFrom Opening.virtualsFrom Opening.fits Opening.joined Opening.firstOf Opening.openedRows Opening.openedWords Opening.openedBlock Scratch.zeroScratch Called.defectWrites Called.growWrites Called.prepareWrites Run.fedOne Run.fed Run.returned Run.returnedFrom Run.answerIn Run.recordedBy Run.historyBy Hosted.made Carried.defectAt Carried.carriedFrom Carried.carried
+unfolding Table.everything Word.toNat Word.wordAt Rows.rows Rows.offset Layout.rowsOf Layout.classFrom Layout.stretches Layout.overgrownFrom Layout.stackFrom Layout.boundaries Layout.stacks Layout.stateFrom Layout.stateOf Layout.sized Layout.risingTo Layout.fitsAt Layout.packedFrom Layout.packed Layout.blockSound Layout.memoryFits Layout.blockRefusal Layout.memoryRefusal Layout.listRefusal Opening.givenAt Opening.edgeAt Opening.edgesFrom Opening.virtualsFrom Opening.fits Opening.joined Opening.firstOf Opening.openedRows Opening.openedWords Opening.openedBlock Scratch.zeroScratch Called.defectWrites Called.growWrites Called.prepareWrites Trial.trialRefusal Trial.groupTrialRefusal Trial.belowOne Trial.roundRefusal Asked.entryNumbers Asked.entryWords Asked.listedFrom Run.fedOne Run.fed Run.returned Run.returnedFrom Run.answerIn Run.recordedBy Run.historyBy Hosted.made Carried.defectAt Carried.carriedFrom Carried.carried
 everythingLent = 0

@@ -27,6 +27,12 @@ use Rattle.table_claim.specs.Lent.{lentSheet, openingSheet}
 use Rattle.sheet.specs.declared.SheetOpened.the-variants.{Opened, Refused as SheetRefused}
 use Rattle.sheet.specs.Sheet.{valuesFrom}
 use Rattle.sheet.specs.Called.{sheetRefusal, sheetAnswer, sheetEdges}
+use Rattle.calls.specs.declared.group.GroupMaxUpdateLength.the-variants.{Refused as groupRefused}
+use Rattle.calls.specs.Calls.{RenewActiveList, PrepareAll, GroupLength, Round}
+use Rattle.calls.specs.Round.{renewActiveList, prepareAll, groupLength, round}
+use Rattle.round.specs.Asked.{listedFrom}
+use Rattle.table.specs.History.{withRound}
+use Rattle.table_claim.specs.Lent.{lentRenew, lentPrepareAll, lentGroup, lentRound, returnsGroup}
 
 -- ---- lengths
 
@@ -43,6 +49,13 @@ scratchFits z t = eqb (length t) (scratchLength (z .edges))
 
 abbrev pub listFits : Sizes → ℕ → List ℤ → List ℤ → Bool
 listFits z m t list = scratchFits z t && eqb (length list) (m * z .edges)
+
+-- a scratch and a second block; these and N entries of 5 words
+abbrev pub trialFits : Sizes → List ℤ → List ℤ → Bool
+trialFits z s t = scratchFits z t && eqb (length s) (blockLength (z .vertices) (z .edges) (z .nodes) (z .store))
+
+abbrev pub groupFits : Sizes → List ℤ → List ℤ → List ℕ → Bool
+groupFits z s t entries = trialFits z s t && eqb (length entries) (5 * z .nodes)
 
 -- ---- what the definitions are asked
 
@@ -67,6 +80,10 @@ fedOne z (lentContacts t list) = ifFits (listFits z 1 t list) Contacts
 fedOne z (lentVertex t n) = ifFits (scratchFits z t) (RepresentativeVertex n)
 fedOne z (lentClear t) = ifFits (scratchFits z t) Clear
 fedOne z (lentSheet t v e n l edges sheet virtuals) = []
+fedOne z lentRenew = RenewActiveList ∷ []
+fedOne z (lentPrepareAll s t) = ifFits (trialFits z s t) PrepareAll
+fedOne z (lentGroup s t entries) = ifFits (groupFits z s t entries) GroupLength
+fedOne z (lentRound s t l) = ifFits (trialFits z s t) (Round l)
 
 unfoldable pub fed : Sizes → List LentCall → List Call
 fed z [] = []
@@ -103,6 +120,12 @@ returned z c (lentClear t) = returns (orRefused (scratchFits z t) (clear c .answ
 returned z c (lentSheet t v e n l edges sheet virtuals) =
     let k = sheetRefusal v e n l edges sheet virtuals (openFits z t v e n l) in
     openingSheet (sheetAnswer k (valuesFrom sheet)) (sheetEdges k (valuesFrom sheet) edges)
+returned z c lentRenew = returns (renewActiveList c .answer)
+returned z c (lentPrepareAll s t) = returns (orRefused (trialFits z s t) (prepareAll c .answer))
+returned z c (lentGroup s t entries) =
+    returnsGroup (if groupFits z s t entries then groupLength c .group else groupRefused 1)
+    (if groupFits z s t entries then listedFrom 0 (groupLength c .listed) entries else entries)
+returned z c (lentRound s t l) = returns (orRefused (trialFits z s t) (round c l .answer))
 
 -- of each call in turn, from state c on
 unfoldable pub returnedFrom : Sizes → State → List LentCall → List Returned
@@ -117,6 +140,8 @@ answerIn (opening k) = if eqb k 0 then Done else Refused k
 answerIn (returns a) = a
 answerIn (returnsList a list) = a
 answerIn (returnsCount a k list) = a
+-- the group has answers of its own; the history asks for none of them
+answerIn (returnsGroup g entries) = Done
 answerIn (openingSheet (Opened k) edges) = Done
 answerIn (openingSheet (SheetRefused k) edges) = Refused k
 
@@ -135,6 +160,10 @@ recordedBy c h (lentTable t list) a = h
 recordedBy c h (lentContacts t list) a = h
 recordedBy c h (lentVertex t n) a = h
 recordedBy c h (lentSheet t v e n l edges sheet virtuals) a = h
+recordedBy c h lentRenew a = h
+recordedBy c h (lentPrepareAll s t) a = h
+recordedBy c h (lentGroup s t entries) a = h
+recordedBy c h (lentRound s t l) a = if isDone a then map (withRound l) h else h
 
 -- line by line, from state c and history h on
 unfoldable pub historyBy : Sizes → State → History → List Exchange → History

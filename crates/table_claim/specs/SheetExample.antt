@@ -32,7 +32,7 @@ sheet = words (2 ∷ 1 ∷ 4 ∷ [])
 abbrev openBlock : List ℤ
 openBlock = words (openedWords 4 3 4 40 (edgesFrom weighedWords) (virtualsFrom virtuals))
 
-from-sheet : SheetCalled (words (zeros 133)) (words (zeros 18)) 4 3 4 40 bare sheet virtuals weighedWords openBlock (Opened 0)
+from-sheet : SheetCalled (words (zeros 137)) (words (zeros 18)) 4 3 4 40 bare sheet virtuals weighedWords openBlock (Opened 0)
 unfolding everythingLent Sheet.everything
 from-sheet = record { leaves = record { answer = refl; edges-are = refl; block = refl } }
 

@@ -1,4 +1,5 @@
 -- The laws from which the claim follows.
+pub mod Rounds
 pub mod Steps
 pub mod EveryRun
 pub mod Input

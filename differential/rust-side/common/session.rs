@@ -24,7 +24,7 @@ pub struct Session {
     sizes: Option<[i32; 4]>,
     edges: Vec<[i32; 3]>,
     virtuals: Vec<i32>,
-    card: Option<Card>,
+    pub(super) card: Option<Card>,
     pub ended: bool,
     pub lines: Vec<u8>,
     /// the largest V, E, N and L

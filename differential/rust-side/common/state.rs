@@ -77,14 +77,28 @@ impl Card {
         rows
     }
 
+    /// The active list, each node at its first place: renewal leaves the first of equal entries.
+    fn active_row(&self) -> Vec<i64> {
+        let mut row = vec![];
+        for p in &self.module.active_list {
+            let n = number(&p.upgrade_force().read_recursive().origin.upgrade_force());
+            if !row.contains(&n) {
+                row.push(n);
+            }
+        }
+        row
+    }
+
     /// The rows of a block, each with as many words as the state fills.
     pub fn rows(&self) -> Vec<Vec<i64>> {
         let s = &self.sz;
         let [flags, vertex_holder, vertex_grandson, first, at] = self.vertex_rows();
         let [end, growth, holder, grandson, weight] = self.edge_rows();
-        let header = vec![s.v as i64, s.e as i64, s.n as i64, s.l, self.nodes.len() as i64];
+        let active = self.active_row();
+        let header = vec![s.v as i64, s.e as i64, s.n as i64, s.l, self.nodes.len() as i64, active.len() as i64];
         let mut rows = vec![header, flags, vertex_holder, vertex_grandson, first, end, growth, holder, grandson, at, weight];
         rows.extend(self.node_rows());
+        rows.push(active);
         rows
     }
 }

@@ -8,7 +8,7 @@ use Rattle.graph.specs.Word.{toNat, wordAt}
 use Rattle.graph.specs.Layout.{stateOf}
 use Rattle.blossom.specs.Circle.{Joinable}
 use Rattle.graph.specs.laws.Number.{word-entry}
-use Rattle.blossom.specs.laws.Blossom.{joined-read, blossom-refused, blossom-joinable, blossom-state-small, blossom-some, blossom-first, blossom-room, blossom-done, blossom-wiped}
+use Rattle.blossom.specs.laws.Blossom.{joined-read, blossom-refused, blossom-joinable, blossom-state-small, blossom-some, blossom-first, blossom-room, blossom-joins, blossom-done, blossom-wiped}
 use borrow.Author.Needs.{needs}
 use Rattle.blossom.proofs.insert_blossom.Statement.{statement}
 use Rattle.blossom.proofs.insert_blossom.Tie as tie
@@ -57,30 +57,38 @@ push-node-requires c κs = let j = c .before .before .before .before .before .be
     let e = g .before .blossom-refusal .ensures in
     (r .0 .block .formed, r .1 .count, omega (arith, c .before .before .word .ensures .0, first g), blossom-state-small (s .pre) (s .args .x) _ l e (g .if1 .left), joined-read (r .0), blossom-room (s .pre) (s .args .x) _ l e (g .if1 .left) _ (j .join-circle .result) (j .before .before .before .node-count .ensures .0) (r .0) (r .1))
 
+join-requires : tie.Need-join-requires
+join-requires c κs = let j = c .before .before .before .before .before .before .before .before .before .before in
+    let r = j .join-circle .ensures in
+    let g = j .before .before .before .before .before in
+    let s = g .before .before .before in
+    let l = map toNat (s .args .circle .now) in
+    blossom-joins (s .pre) (s .args .x) _ l (g .before .blossom-refusal .ensures) (g .if1 .left) _ (j .join-circle .result) (j .before .before .before .node-count .ensures .0) (r .0) _ (c .before .before .push-node .ensures)
+
 wipe-requires : tie.Need-wipe-requires
-wipe-requires c κs = omega (arith, joined-read (c .before .before .before .before .before .before .before .before .before .before .join-circle .ensures .0))
+wipe-requires c κs = omega (arith, joined-read (c .before .before .before .before .before .before .before .before .before .before .before .before .before .join-circle .ensures .0))
 
 -- the scratch is all zero again
-zero : (c : tie.After-t2) → c .before .wipe .last .0 ≡ c .before .before .before .before .before .before .before .before .before .before .before .before .before .before .before .before .before .before .before .before .args .t .now
-zero c = let j = c .before .before .before .before .before .before .before .before .before .before .before .before in
+zero : (c : tie.After-t2) → c .before .wipe .last .0 ≡ c .before .before .before .before .before .before .before .before .before .before .before .before .before .before .before .before .before .before .before .before .before .before .before .args .t .now
+zero c = let j = c .before .before .before .before .before .before .before .before .before .before .before .before .before .before .before in
     let g = j .before .before .before .before .before in
     let s = g .before .before .before in
     blossom-wiped (s .pre) (s .args .x) _ (map toNat (s .args .circle .now)) (g .before .blossom-refusal .ensures) (g .if1 .left) _ (j .join-circle .result) (j .before .before .before .node-count .ensures .0) (j .join-circle .ensures .0) (c .before .wipe .ensures)
 
 same-length-2 : tie.Need-same-length-2
-same-length-2 c = c .before .before .before .before .push-node .ensures .len ∙ c .before .before .before .before .before .before .before .before .before .before .before .before .join-circle .ensures .0 .block .len
+same-length-2 c = c .before .before .before .before .join .ensures .len ∙ c .before .before .before .before .before .before .before .push-node .ensures .len ∙ c .before .before .before .before .before .before .before .before .before .before .before .before .before .before .before .join-circle .ensures .0 .block .len
 
 same-length-3 : tie.Need-same-length-3
 same-length-3 c = ap length (zero c)
 
 returns-2 : tie.Need-returns-2
-returns-2 c = let j = c .before .before .before .before .before .before .before .before .before .before .before .before in
+returns-2 c = let j = c .before .before .before .before .before .before .before .before .before .before .before .before .before .before .before in
     let g = j .before .before .before .before .before in
     let s = g .before .before .before in
     let l = map toNat (s .args .circle .now) in
-    let w = c .before .before .before .before .before .before .before in
+    let w = c .before .before .before .before .before .before .before .before .before .before in
     let k : w .before .vertex-count .result + w .word .result ≡ vertexCount (stateOf (j .join-circle .last .0)) + getD l 0 0 = rw (w .before .vertex-count .ensures .0, w .word .ensures .0 ∙ word-entry (s .args .circle .now) 0) in
-    (blossom-done (s .pre) (s .args .x) _ l (g .before .blossom-refusal .ensures) (g .if1 .left) _ (j .join-circle .result) (j .before .before .before .node-count .ensures .0) (j .join-circle .ensures .0) _ k (c .before .before .before .before .push-node .ensures), zero c)
+    (blossom-done (s .pre) (s .args .x) _ l (g .before .blossom-refusal .ensures) (g .if1 .left) _ (j .join-circle .result) (j .before .before .before .node-count .ensures .0) (j .join-circle .ensures .0) _ k (c .before .before .before .before .before .before .before .push-node .ensures) (c .before .before .before .before .join .ensures), zero c)
 
 pub insert-blossom-spec : {M : Type 1} → statement M
 insert-blossom-spec =
@@ -95,6 +103,7 @@ insert-blossom-spec =
     word-requires
     add-class
     push-node-requires
+    join-requires
     wipe-requires
     same-length-2
     same-length-3

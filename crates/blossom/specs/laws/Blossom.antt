@@ -11,7 +11,7 @@ use lib.Dec.{ltb, eqb}
 use lib.ListN.{length, getD, set, take, length-append, length-set}
 use borrow.Author.Tests.{lt-ltb, le-ltb, eq-eqb, ne-eqb}
 use Rattle.graph.specs.Basic.{fold, all, member, distinct}
-use Rattle.graph.specs.State.{State, blossom, vertexCount, sideCount, nodeCount, holderAt, boundaryOf, withSides, withNodes, withHolder, withGrowState, withParent, withNode}
+use Rattle.graph.specs.State.{State, blossom, vertexCount, sideCount, nodeCount, holderAt, boundaryOf, withSides, withNodes, withHolder, withGrowState, withParent, withNode, down}
 use Rattle.graph.specs.Sound.{entriesOf, entries}
 use Rattle.graph.specs.Word.{numbersAt}
 use Rattle.graph.specs.Layout.{stateOf, classFrom}
@@ -36,7 +36,9 @@ use Rattle.blossom.specs.Circle.{Joinable, JoinedIn, joinedIn}
 use Rattle.calls.specs.Reply.{Usable, RepliesInsert}
 use Rattle.calls.specs.laws.Accepted.{BlossomAccepted, blossom-accepted, entries-passed}
 use Rattle.blossom.specs.laws.Circle.{joinable-room, accepted-joinable}
-use Rattle.calls.specs.laws.Defect.{SameLists, same-refl}
+use Rattle.graph.specs.Active.{joinActive}
+use Rattle.graph.specs.laws.Shape.{sound-active}
+use Rattle.calls.specs.laws.Defect.{SameLists, same-refl, Joins, new-joins, node-active, inserted-joined}
 
 -- ---- preparing
 
@@ -133,7 +135,7 @@ module _ (c : State) (n : ℕ) where
 
   leaves-side : (m : ℕ) (j : Joining) (s : ℕ) → Leaves j → Leaves (joinSide n m j s)
   unfolding joinSide withHolder withSides
-  leaves-side m j s p = if-both Leaves (eqb (holderAt (j .state) s) (m + 1)) (record { graph = p .graph; boundary = p .boundary; overgrown = p .overgrown; count = p .count; nodeLimit = p .nodeLimit; storeLimit = p .storeLimit }) p
+  leaves-side m j s p = if-both Leaves (eqb (holderAt (j .state) s) (m + 1)) (record { graph = p .graph; boundary = p .boundary; overgrown = p .overgrown; count = p .count; nodeLimit = p .nodeLimit; storeLimit = p .storeLimit; active = p .active }) p
 
   leaves-sides : (m : ℕ) (j : Joining) (l : List ℕ) → Leaves j → Leaves (fold (joinSide n m) j l)
   leaves-sides m j l p = fold-keeps (joinSide n m) Leaves (leaves-side m) j l p
@@ -143,10 +145,20 @@ module _ (c : State) (n : ℕ) where
   leaves-step j m p =
       let z : Joining = fold (joinSide n m) j (boundaryOf (j .state) m) in
       let r : Leaves z = leaves-sides m j (boundaryOf (j .state) m) p in
-      record { graph = r .graph; boundary = r .boundary; overgrown = r .overgrown; count = length-set (z .state .nodes .growState) m 0 ∙ r .count; nodeLimit = r .nodeLimit; storeLimit = r .storeLimit }
+      record { graph = r .graph; boundary = r .boundary; overgrown = r .overgrown; count = length-set (z .state .nodes .growState) m 0 ∙ r .count; nodeLimit = r .nodeLimit; storeLimit = r .storeLimit; active = r .active }
 
   leaves-circle : (j : Joining) (circle : List ℕ) → Leaves j → Leaves (fold (joinStep n) j circle)
   leaves-circle j circle p = fold-keeps (joinStep n) Leaves leaves-step j circle p
+
+prepared-active : (c : State) (circle : List ℕ) → fold prepareStep c circle .active ≡ c .active
+unfolding prepareStep
+prepared-active c circle = fold-keeps prepareStep (λ (d : State). d .active ≡ c .active) (λ d m e. prepare-passed d m down .active ∙ e) c circle refl
+
+circle-active : (c : State) (circle : List ℕ) → joinCircle c circle .state .active ≡ c .active
+unfolding joinCircle
+circle-active c circle =
+    let d : State = fold prepareStep c circle in
+    leaves-circle d (nodeCount c) (record { state = d; sides = [] }) circle (same-refl d) .active ∙ prepared-active c circle
 
 -- ---- one side more
 
@@ -376,14 +388,20 @@ module _ {b t : List ℤ} (u : Usable b t) (x k : ℕ) (circle : List ℕ) (e : 
       pub blossom-room : Joinable (stateOf b₃) circle → entries (stateOf b₃) + l ≤ stateOf b₃ .storeLimit
       blossom-room j = omega (arith, joinable-room j, joined-most p, p .block .sides)
 
-      pub blossom-done : {b₄ : List ℤ} (class : ℕ) → class ≡ vertexCount (stateOf b₃) + getD circle 0 0 → Inserted b₃ b₄ (withNode (stateOf b₃) (classFrom (vertexCount (stateOf b₃)) class) x (numbersAt t₃ 0 l)) → RepliesInsert b b₄ (Node n) (insertBlossom (stateOf b) x circle)
+      -- the new node can join the active list
+      pub blossom-joins : {b₄ : List ℤ} (class : ℕ) → Inserted b₃ b₄ (withNode (stateOf b₃) (classFrom (vertexCount (stateOf b₃)) class) x (numbersAt t₃ 0 l)) → Joins b₄ n
+      blossom-joins {b₄} class r = new-joins b b₃ b₄ _ n en (sound-active (stateOf b) (u .sounds)) (p .block .nodes) (ap (λ (c : State). c .active) (p .block .state) ∙ circle-active (stateOf b) circle) (node-active (stateOf b₃) _ x _) r
+
+      pub blossom-done : {b₄ b₅ : List ℤ} (class : ℕ) → class ≡ vertexCount (stateOf b₃) + getD circle 0 0
+          → Inserted b₃ b₄ (withNode (stateOf b₃) (classFrom (vertexCount (stateOf b₃)) class) x (numbersAt t₃ 0 l))
+          → Becomes b₄ b₅ (joinActive (stateOf b₄) n) → RepliesInsert b b₅ (Node n) (insertBlossom (stateOf b) x circle)
       unfolding insertBlossom unless blossomPut
-      blossom-done {b₄} class ec r =
+      blossom-done {b₄} {b₅} class ec r a =
           let j : Joining = joinCircle (stateOf b) circle in
           let y : classFrom (vertexCount (stateOf b₃)) class ≡ blossom (getD circle 0 0) = rw ec (class-blossom (vertexCount (stateOf b₃)) (getD circle 0 0)) in
           let w : numbersAt t₃ 0 l ≡ j .sides = rw (p .count) (first-numbers (p .holding)) in
           let z : withNode (stateOf b₃) (classFrom (vertexCount (stateOf b₃)) class) x (numbersAt t₃ 0 l) ≡ withNode (j .state) (blossom (getD circle 0 0)) x (j .sides) = rw (y, w, p .block .state) in
-          rw (← e, eq-eqb k 0 h) (record { answer = ap Node en; formed = r .formed; state = r .state ∙ z; vertices = r .vertices ∙ p .block .vertices; edges = r .edges ∙ p .block .edges; sides = r .sides ∙ p .block .sides; len = r .len ∙ p .block .len })
+          rw (← e, eq-eqb k 0 h) (inserted-joined (p .block) r a en z)
 
       pub blossom-wiped : {t₅ : List ℤ} → t₅ ≡ wiped t₃ 0 l → t₅ ≡ t
       blossom-wiped {t₅} i = i ∙ rw (p .count) (zero-holding _ (sideCount (stateOf b)) (wipe-first (p .holding))) ∙ sym (u .scratch)

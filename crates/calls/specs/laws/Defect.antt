@@ -12,8 +12,11 @@ use lib.ListN.{length, getD, set, take}
 use lib.Seq.{length-take-le, take-suc, take-all}
 use borrow.Author.Tests.{lt-ltb, eq-eqb, ne-eqb, le-leb, lt-leb}
 use Rattle.graph.specs.Basic.{if_then_else_, fold, any}
-use Rattle.graph.specs.State.{State, defectVertex, vertexCount, sideCount, nodeCount, holderAt, sidesAt, virtualAt, defectAt, vertexHolderAt, withVertices, withSides, withHolder, withGrandson, withDefect, withVertexHolder, withVertexGrandson, withNode, heldSide, heldVertex}
-use Rattle.graph.specs.Sound.{entriesOf, entries}
+use Rattle.graph.specs.State.{State, NodeClass, defectVertex, vertexCount, sideCount, nodeCount, holderAt, sidesAt, virtualAt, defectAt, vertexHolderAt, withVertices, withSides, withHolder, withGrandson, withDefect, withVertexHolder, withVertexGrandson, withNodes, withNode, heldSide, heldVertex}
+use Rattle.graph.specs.Sound.{entriesOf, entries, activeSound}
+use Rattle.graph.specs.Active.{joinActive}
+use Rattle.graph.specs.laws.Shape.{sound-active}
+use Rattle.graph.specs.laws.Active.{active-kept}
 use Rattle.graph.specs.Word.{numbersAt}
 use Rattle.graph.specs.Layout.{stateOf, classFrom}
 use Rattle.graph.specs.Form.{Formed, Becomes}
@@ -159,7 +162,7 @@ module _ {b₀ b₁ b₂ : List ℤ} (v n : ℕ) (p : Becomes b₀ b₁ (withDef
 
 -- ---- the node
 
--- the graph, the nodes' lists and their number, and the limits are the same
+-- the graph, the nodes' lists and their number, the limits and the active list are the same
 pub record SameLists (c d : State) : Type 0 where
   pub graph : d .graph ≡ c .graph
   pub boundary : d .nodes .boundary ≡ c .nodes .boundary
@@ -167,17 +170,18 @@ pub record SameLists (c d : State) : Type 0 where
   pub count : nodeCount d ≡ nodeCount c
   pub nodeLimit : d .nodeLimit ≡ c .nodeLimit
   pub storeLimit : d .storeLimit ≡ c .storeLimit
+  pub active : d .active ≡ c .active
 
 pub same-refl : (c : State) → SameLists c c
-same-refl c = record { graph = refl; boundary = refl; overgrown = refl; count = refl; nodeLimit = refl; storeLimit = refl }
+same-refl c = record { graph = refl; boundary = refl; overgrown = refl; count = refl; nodeLimit = refl; storeLimit = refl; active = refl }
 
 same-hold : (n : ℕ) (c d : State) (t : ℕ) → SameLists c d → SameLists c (holdStep n d t)
 unfolding holdStep heldSide withGrandson withHolder withSides
-same-hold n c d t p = record { graph = p .graph; boundary = p .boundary; overgrown = p .overgrown; count = p .count; nodeLimit = p .nodeLimit; storeLimit = p .storeLimit }
+same-hold n c d t p = record { graph = p .graph; boundary = p .boundary; overgrown = p .overgrown; count = p .count; nodeLimit = p .nodeLimit; storeLimit = p .storeLimit; active = p .active }
 
 same-vertex : (n : ℕ) (c : State) (v : ℕ) → SameLists c (heldVertex (withDefect c v 1) v n (n + 1))
 unfolding heldVertex withVertexGrandson withVertexHolder withDefect withVertices
-same-vertex n c v = record { graph = refl; boundary = refl; overgrown = refl; count = refl; nodeLimit = refl; storeLimit = refl }
+same-vertex n c v = record { graph = refl; boundary = refl; overgrown = refl; count = refl; nodeLimit = refl; storeLimit = refl; active = refl }
 
 same-defect : (n : ℕ) (c : State) (v : ℕ) → SameLists c (heldDefect c v n)
 same-defect n c v = fold-keeps (holdStep n) (SameLists c) (same-hold n c) (heldVertex (withDefect c v 1) v n (n + 1)) (sidesAt c v) (same-vertex n c v)
@@ -185,6 +189,36 @@ same-defect n c v = fold-keeps (holdStep n) (SameLists c) (same-hold n c) (heldV
 same-entries : {c d : State} → SameLists c d → entries d ≡ entries c
 unfolding entries entriesOf
 same-entries p = rw (p .count, p .boundary, p .overgrown)
+
+-- what joining the active list asks of block b and its node n
+abbrev pub Joins : List ℤ → ℕ → Type 0
+Joins b n = Formed b × (activeSound (stateOf b) ≡ true) × (n < nodeCount (stateOf b))
+
+-- a node n that was put behind the nodes of a state with the number of nodes and the active list of a sound one can join
+pub new-joins : (b b₃ b₄ : List ℤ) (d : State) (n : ℕ) → n ≡ nodeCount (stateOf b) → activeSound (stateOf b) ≡ true
+    → nodeCount (stateOf b₃) ≡ nodeCount (stateOf b) → stateOf b₃ .active ≡ stateOf b .active → d .active ≡ stateOf b₃ .active → Inserted b₃ b₄ d → Joins b₄ n
+new-joins b b₃ b₄ d n en s m q e r =
+    let k : nodeCount (stateOf b) ≤ nodeCount (stateOf b₄) = omega (arith, r .nodes, m) in
+    let a : stateOf b₄ .active ≡ stateOf b .active = ap (λ (c : State). c .active) (r .state) ∙ e ∙ q in
+    (r .formed, active-kept (stateOf b) (stateOf b₄) a k s, omega (arith, en, r .nodes, m))
+
+pub node-active : (c : State) (class : NodeClass) (x : ℕ) (l : List ℕ) → withNode c class x l .active ≡ c .active
+unfolding withNode withNodes
+node-active c class x l = refl
+
+-- the reply of an insertion, once the node stands and has joined
+pub inserted-joined : {b b₃ b₄ b₅ : List ℤ} {c d f : State} {n : ℕ} → Becomes b b₃ c → Inserted b₃ b₄ d → Becomes b₄ b₅ (joinActive (stateOf b₄) n)
+    → n ≡ nodeCount (stateOf b) → d ≡ f
+    → RepliesInsert b b₅ (Node n) (record { answer = Node (nodeCount (stateOf b)); state = joinActive f (nodeCount (stateOf b)) })
+inserted-joined p r a en z = record {
+  answer = ap Node en;
+  formed = a .formed;
+  state = a .state ∙ rw (r .state, z, en) refl;
+  vertices = a .vertices ∙ r .vertices ∙ p .vertices;
+  edges = a .edges ∙ r .edges ∙ p .edges;
+  sides = a .sides ∙ r .sides ∙ p .sides;
+  len = a .len ∙ r .len ∙ p .len;
+}
 
 class-defect : (m v : ℕ) → v < m → classFrom m v ≡ defectVertex v
 unfolding classFrom
@@ -224,13 +258,18 @@ module _ {b t : List ℤ} (u : Usable b t) (v x k : ℕ) (e : k ≡ defectRefusa
       pub defect-room : entries (stateOf b₃) + l ≤ stateOf b₃ .storeLimit
       defect-room = omega (arith, el, g .keeps, same-entries still, still .storeLimit, store-room (stateOf b) [] 1 (taken .room), entries-none (stateOf b))
 
-      pub defect-done : {b₄ : List ℤ} → Inserted b₃ b₄ (withNode (stateOf b₃) (classFrom (vertexCount (stateOf b₃)) v) x (numbersAt t₃ 0 l)) → RepliesInsert b b₄ (Node n) (insertDefect (stateOf b) v x)
+      -- the new node can join the active list
+      pub defect-joins : {b₄ : List ℤ} → Inserted b₃ b₄ (withNode (stateOf b₃) (classFrom (vertexCount (stateOf b₃)) v) x (numbersAt t₃ 0 l)) → Joins b₄ n
+      defect-joins {b₄} r = new-joins b b₃ b₄ _ n en (sound-active (stateOf b) (u .sounds)) (still .count) (still .active) (node-active (stateOf b₃) _ x _) r
+
+      pub defect-done : {b₄ b₅ : List ℤ} → Inserted b₃ b₄ (withNode (stateOf b₃) (classFrom (vertexCount (stateOf b₃)) v) x (numbersAt t₃ 0 l))
+          → Becomes b₄ b₅ (joinActive (stateOf b₄) n) → RepliesInsert b b₅ (Node n) (insertDefect (stateOf b) v x)
       unfolding insertDefect unless defectPut
-      defect-done {b₄} r =
+      defect-done {b₄} {b₅} r a =
           let y : classFrom (vertexCount (stateOf b₃)) v ≡ defectVertex v = class-defect (vertexCount (stateOf b₃)) v (omega (arith, p .vertices, taken .inside)) in
           let w : numbersAt t₃ 0 l ≡ sidesAt (stateOf b) v = rw el (first-numbers g) in
           let z : withNode (stateOf b₃) (classFrom (vertexCount (stateOf b₃)) v) x (numbersAt t₃ 0 l) ≡ withNode (heldDefect (stateOf b) v (nodeCount (stateOf b))) (defectVertex v) x (sidesAt (stateOf b) v) = rw (y, w, p .state, en) in
-          rw (← e, eq-eqb k 0 h) (record { answer = ap Node en; formed = r .formed; state = r .state ∙ z; vertices = r .vertices ∙ p .vertices; edges = r .edges ∙ p .edges; sides = r .sides ∙ p .sides; len = r .len ∙ p .len })
+          rw (← e, eq-eqb k 0 h) (inserted-joined p r a en z)
 
       pub defect-wiped : {t₅ : List ℤ} → t₅ ≡ wiped t₃ 0 l → t₅ ≡ t
       defect-wiped {t₅} i = i ∙ rw el (zero-holding _ (sideCount (stateOf b)) (wipe-first g)) ∙ sym (u .scratch)

@@ -11,6 +11,7 @@ use lib.Signed.{nonNeg}
 use lib.Dec.{ltb, eqb}
 use borrow.Author.Tests.{eq-eqb, ne-eqb}
 use Rattle.graph.specs.State.{State, up, down, shrinking, nodeCount, withGrowState}
+use Rattle.graph.specs.Active.{activated}
 use Rattle.graph.specs.Sound.{sound}
 use Rattle.graph.specs.Layout.{stateOf}
 use Rattle.graph.specs.Form.{Formed, Becomes, sidesOk}
@@ -51,12 +52,12 @@ replies-accepted k e p = rw (eq-eqb k 0 e) p
 module _ (b : List ℤ) (n x k : ℕ) (e : k ≡ nodeRefusal (stateOf b) n (ltb shrinking x) false) where
   pub set-refused : Formed b → k ≢ 0 → Replies b b (Refused k) (setGrowState (stateOf b) n x)
   unfolding setGrowState
-  set-refused f h = rw (← e) (replies-refused b (record { answer = Done; state = withGrowState (stateOf b) n x }) k f h)
+  set-refused f h = rw (← e) (replies-refused b (record { answer = Done; state = withGrowState (activated (stateOf b) n x) n x }) k f h)
 
   pub set-accepted : k ≡ 0 → NodeAccepted (stateOf b) n (ltb shrinking x) false
   set-accepted h = node-accepted (stateOf b) n (ltb shrinking x) false (sym e ∙ h)
 
-  pub set-done : {b' : List ℤ} → k ≡ 0 → Becomes b b' (withGrowState (stateOf b) n x) → Replies b b' Done (setGrowState (stateOf b) n x)
+  pub set-done : {b' : List ℤ} → k ≡ 0 → Becomes b b' (withGrowState (activated (stateOf b) n x) n x) → Replies b b' Done (setGrowState (stateOf b) n x)
   unfolding setGrowState
   set-done h p = rw (← e) (replies-accepted k h (record { answer = refl; block = p }))
 
@@ -115,15 +116,15 @@ module _ {b t : List ℤ} {n d : ℕ} (u : Steady b t n d) (wrong : Bool) (a : N
 
 -- ---- prepare
 
-module _ {b t : List ℤ} (u : Usable b t) (n d k : ℕ) (e : k ≡ nodeRefusal (stateOf b) n (ltb up d) (storeShort (stateOf b) (n ∷ []) 1)) where
+module _ {b : List ℤ} (f : Formed b) (n d k : ℕ) (e : k ≡ nodeRefusal (stateOf b) n (ltb up d) (storeShort (stateOf b) (n ∷ []) 1)) where
   pub prepare-refused : k ≢ 0 → Replies b b (Refused k) (prepareDualNodeGrowth (stateOf b) n d)
   unfolding prepareDualNodeGrowth
-  prepare-refused h = rw (← e) (replies-refused b (record { answer = Says.Prepared (prepareNode (stateOf b) n d .passes); state = prepareNode (stateOf b) n d .state }) k (u .formed) h)
+  prepare-refused h = rw (← e) (replies-refused b (record { answer = Says.Prepared (prepareNode (stateOf b) n d .passes); state = prepareNode (stateOf b) n d .state }) k f h)
 
   pub prepare-accepted : k ≡ 0 → NodeAccepted (stateOf b) n (ltb up d) (storeShort (stateOf b) (n ∷ []) 1)
   prepare-accepted h = node-accepted (stateOf b) n (ltb up d) (storeShort (stateOf b) (n ∷ []) 1) (sym e ∙ h)
 
-  pub prepare-done : {b' t' : List ℤ} {j : ℕ} → k ≡ 0 → AfterPreparation b b' t t' (prepareNode (stateOf b) n d) j → Replies b b' (Says.Prepared j) (prepareDualNodeGrowth (stateOf b) n d)
+  pub prepare-done : {t b' t' : List ℤ} {j : ℕ} → k ≡ 0 → AfterPreparation b b' t t' (prepareNode (stateOf b) n d) j → Replies b b' (Says.Prepared j) (prepareDualNodeGrowth (stateOf b) n d)
   unfolding prepareDualNodeGrowth
   prepare-done h p = rw (← e) (replies-accepted k h (record { answer = ap Says.Prepared (p .passes); block = p .block }))
 

@@ -7,16 +7,18 @@ use mathlib.Core.List.{List, [], _∷_, map}
 use lib.IntN.{ℤ}
 use lib.Dec.{ltb}
 use lib.ListN.{length, getD, take, drop, length-map, length-take}
+use lib.Seq.{getD-take}
 use borrow.Author.Tests.{lt-ltb}
 use Rattle.graph.specs.Basic.{all, below}
 use Rattle.graph.specs.State.{vertexCount, edgeCount, sideCount, nodeCount, sidesAt}
 use Rattle.graph.specs.Open.{sidesOf}
+use Rattle.graph.specs.Word.{wordAt}
 use Rattle.graph.specs.Rows.{offset}
 use Rattle.graph.specs.Layout.{stateOf, stateFrom, rowsOf, row, classFrom, stretches, boundaries, stacks, countOf, nOf}
 use Rattle.graph.specs.Form.{Laid, Wired, Formed}
 use Rattle.graph.specs.laws.Members.{all-from}
 use Rattle.graph.specs.laws.Shape.{Shape, sides-of-out}
-use Rattle.graph.specs.laws.Row.{rows-length, header-get}
+use Rattle.graph.specs.laws.Row.{Stands, rows-length, rows-get, header-get}
 
 length-stretches : (fs l : List ℕ) → length (stretches fs l) ≡ length fs
 unfolding stretches
@@ -96,3 +98,11 @@ formed-sides b f v = rw (f .wired .sides) (each (row (rowsOf b) 5) (below (getD 
     each ends [] v = unfold all in refl
     each ends (u ∷ vs) zero = all-from (λ t. ltb t (length ends)) (sidesOf ends u) (λ t m. lt-ltb t (length ends) (sides-of-out ends u t m .0))
     each ends (u ∷ vs) (suc v) = each ends vs v
+
+-- place i of the active list
+pub active-entry : (b : List ℤ) (i p : ℕ) → i < length (stateOf b .active) → Stands b 19 i p → wordAt b p ≡ getD (stateOf b .active) i 0
+unfolding stateOf stateFrom
+active-entry b i p h s =
+    let k : ℕ = getD (row (rowsOf b) 0) 5 0 in
+    let j : i < k = omega (arith, h, length-take k (row (rowsOf b) 19)) in
+    rows-get b 19 i p s ∙ sym (getD-take k (row (rowsOf b) 19) i 0 j)

@@ -12,7 +12,7 @@ use lib.ListN.{length, take, drop, set, getD, length-set}
 use lib.Seq.{getD-set-same, getD-set-other, take-set-le, drop-set-add}
 use borrow.Author.Tests.{eqb-true, leb-true}
 use Rattle.graph.specs.Sound.{entries}
-use Rattle.graph.specs.Layout.{vOf, eOf, nOf, lOf, countOf, sizesOf, rowsOf, row, boundaries, stacks, stackFrom, stateFrom, stateOf, sized, packed, blockSound, memoryFits, blockRefusal, memoryRefusal}
+use Rattle.graph.specs.Layout.{vOf, eOf, nOf, lOf, countOf, activeCountOf, sizesOf, rowsOf, row, boundaries, stacks, stackFrom, stateFrom, stateOf, sized, packed, blockSound, memoryFits, blockRefusal, memoryRefusal}
 use Rattle.graph.specs.State.{nodeCount}
 use Rattle.graph.specs.Word.{toNat, wordAt}
 use Rattle.graph.specs.Rows.{offset}
@@ -50,13 +50,14 @@ stacks-front (b ∷ bs) (o ∷ os) l i x h =
 
 -- all that the state and the tests of a block read of its rows
 record ReadAlike (r q : List (List ℕ)) : Type 0 where
-  pub header : (i : ℕ) → i < 5 → getD (row q 0) i 0 ≡ getD (row r 0) i 0
+  pub header : (i : ℕ) → i < 6 → getD (row q 0) i 0 ≡ getD (row r 0) i 0
   pub fixed : (k : ℕ) → 1 ≤ k → k ≤ 10 → row q k ≡ row r k
   pub nodes : (k : ℕ) → 11 ≤ k → k ≤ 17 → take (getD (row r 0) 4 0) (row q k) ≡ take (getD (row r 0) 4 0) (row r k)
   pub boundary : (bs os : List ℕ) → bs ≡ take (getD (row r 0) 4 0) (row r 16) → os ≡ take (getD (row r 0) 4 0) (row r 17)
       → boundaries bs os (row q 18) ≡ boundaries bs os (row r 18)
   pub overgrown : (bs os : List ℕ) → bs ≡ take (getD (row r 0) 4 0) (row r 16) → os ≡ take (getD (row r 0) 4 0) (row r 17)
       → stacks bs os (row q 18) ≡ stacks bs os (row r 18)
+  pub active : take (getD (row r 0) 5 0) (row q 19) ≡ take (getD (row r 0) 5 0) (row r 19)
 
 state-alike : (r q : List (List ℕ)) → ReadAlike r q → stateFrom q ≡ stateFrom r
 unfolding stateFrom
@@ -69,6 +70,7 @@ state-alike r q a =
       h 0 (omega arith),
       h 2 (omega arith),
       h 3 (omega arith),
+      h 5 (omega arith),
       f 1 (omega arith) (omega arith),
       f 2 (omega arith) (omega arith),
       f 3 (omega arith) (omega arith),
@@ -87,6 +89,7 @@ state-alike r q a =
       n 17 (omega arith) (omega arith),
       a .boundary _ _ refl refl,
       a .overgrown _ _ refl refl,
+      a .active,
     )
     refl
 
@@ -102,13 +105,14 @@ module _ (r : List (List ℕ)) (k i x : ℕ) where
   row-here : (j : ℕ) → j ≡ k → j < length r → row with j ≡ set (row r j) i x
   row-here j e h = rw (← e) (getD-set-same r j (set (row r j) i x) [] h)
 
-  header-alike : k ≡ 0 → 5 ≤ i → 0 < length r → ReadAlike r with
+  header-alike : k ≡ 0 → 6 ≤ i → 0 < length r → ReadAlike r with
   header-alike e h l = record {
     header = λ j b. ap (λ z. getD z j 0) (row-here 0 (sym e) l) ∙ getD-set-other (row r 0) i j x 0 (λ z. omega arith);
     fixed = λ j b d. row-other j (λ z. omega arith);
     nodes = λ j b d. ap (take (getD (row r 0) 4 0)) (row-other j (λ z. omega arith));
     boundary = λ bs os p q. ap (boundaries bs os) (row-other 18 (λ z. omega arith));
     overgrown = λ bs os p q. ap (stacks bs os) (row-other 18 (λ z. omega arith));
+    active = ap (take (getD (row r 0) 5 0)) (row-other 19 (λ z. omega arith));
   }
 
   nodes-alike : 11 ≤ k → k ≤ 17 → getD (row r 0) 4 0 ≤ i → k < length r → ReadAlike r with
@@ -121,6 +125,7 @@ module _ (r : List (List ℕ)) (k i x : ℕ) where
         (λ e. ap (take (getD (row r 0) 4 0)) (row-other j e));
     boundary = λ bs os p q. ap (boundaries bs os) (row-other 18 (λ z. omega arith));
     overgrown = λ bs os p q. ap (stacks bs os) (row-other 18 (λ z. omega arith));
+    active = ap (take (getD (row r 0) 5 0)) (row-other 19 (λ z. omega arith));
   }
 
   store-alike : k ≡ 18 → sumOf (take (getD (row r 0) 4 0) (row r 16)) (take (getD (row r 0) 4 0) (row r 17)) ≤ i → k < length r → ReadAlike r with
@@ -130,17 +135,29 @@ module _ (r : List (List ℕ)) (k i x : ℕ) where
     nodes = λ j b d. ap (take (getD (row r 0) 4 0)) (row-other j (λ z. omega arith));
     boundary = λ bs os p q. ap (boundaries bs os) (row-here 18 (sym e) (omega arith)) ∙ boundaries-front bs os (row r 18) i x (rw (p, q) h);
     overgrown = λ bs os p q. ap (stacks bs os) (row-here 18 (sym e) (omega arith)) ∙ stacks-front bs os (row r 18) i x (rw (p, q) h);
+    active = ap (take (getD (row r 0) 5 0)) (row-other 19 (λ z. omega arith));
+  }
+
+  active-alike : k ≡ 19 → getD (row r 0) 5 0 ≤ i → k < length r → ReadAlike r with
+  active-alike e h l = record {
+    header = λ j b. ap (λ z. getD z j 0) (row-other 0 (λ z. omega arith));
+    fixed = λ j b d. row-other j (λ z. omega arith);
+    nodes = λ j b d. ap (take (getD (row r 0) 4 0)) (row-other j (λ z. omega arith));
+    boundary = λ bs os p q. ap (boundaries bs os) (row-other 18 (λ z. omega arith));
+    overgrown = λ bs os p q. ap (stacks bs os) (row-other 18 (λ z. omega arith));
+    active = ap (take (getD (row r 0) 5 0)) (row-here 19 (sym e) (omega arith)) ∙ take-set-le (getD (row r 0) 5 0) (row r 19) i x h;
   }
 
 free-alike : (b : List ℤ) → Formed b → (k i x : ℕ) → freePlace b k i ≡ true → ReadAlike (rowsOf b) (rowsWith b k i x)
 unfolding freePlace
 free-alike b f k i x h =
-    let n : length (rowsOf b) ≡ 19 = rows-count b in
+    let n : length (rowsOf b) ≡ 20 = rows-count b in
     let c : getD (row (rowsOf b) 0) 4 0 ≡ countOf b = header-get b 4 (omega arith) in
-    or-cases (eqb k 0 && leb 5 i) _ h
+    let m : getD (row (rowsOf b) 0) 5 0 ≡ activeCountOf b = header-get b 5 (omega arith) in
+    or-cases (eqb k 0 && leb 6 i) _ h
     (λ e.
     let k₀ = eqb-true k 0 (and-left (eqb k 0) _ e) in
-    header-alike (rowsOf b) k i x k₀ (leb-true 5 i (and-right (eqb k 0) _ e)) (omega arith))
+    header-alike (rowsOf b) k i x k₀ (leb-true 6 i (and-right (eqb k 0) _ e)) (omega arith))
     (λ e.
     or-cases (leb 11 k && (leb k 17 && leb (countOf b) i)) _ e
     (λ d.
@@ -149,19 +166,24 @@ free-alike b f k i x h =
     let high = leb-true k 17 (and-left (leb k 17) _ d₂) in
     nodes-alike (rowsOf b) k i x low high (omega (arith, leb-true (countOf b) i (and-right (leb k 17) _ d₂))) (omega arith))
     (λ d.
-    let k₁ = eqb-true k 18 (and-left (eqb k 18) _ d) in
-    let le = leb-true (entries (stateOf b)) i (and-right (eqb k 18) _ d) in
+    or-cases (eqb k 18 && leb (entries (stateOf b)) i) _ d
+    (λ g.
+    let k₁ = eqb-true k 18 (and-left (eqb k 18) _ g) in
+    let le = leb-true (entries (stateOf b)) i (and-right (eqb k 18) _ g) in
     let t = entries-total b (f .laid) (f .listed) (countOf b) (count-nodes b f) in
     store-alike (rowsOf b) k i x k₁
-    (rw c (omega (arith, total-sum 0 (take (countOf b) (row (rowsOf b) 16)) (take (countOf b) (row (rowsOf b) 17))))) (omega arith)))
+    (rw c (omega (arith, total-sum 0 (take (countOf b) (row (rowsOf b) 16)) (take (countOf b) (row (rowsOf b) 17))))) (omega arith))
+    (λ g.
+    let k₂ = eqb-true k 19 (and-left (eqb k 19) _ g) in
+    active-alike (rowsOf b) k i x k₂ (omega (arith, leb-true (activeCountOf b) i (and-right (eqb k 19) _ g))) (omega arith))))
   where
     count-nodes : (b : List ℤ) → Formed b → countOf b ≡ nodeCount (stateOf b)
     count-nodes b f = unfold Laid in (sym (f .laid .counted .nodes))
 
--- a free place stands behind the five numbers of the header
-free-behind : (b : List ℤ) (k i p : ℕ) → p ≡ offset (sizesOf b) k + i → freePlace b k i ≡ true → 5 ≤ p
+-- a free place stands behind the six numbers of the header
+free-behind : (b : List ℤ) (k i p : ℕ) → p ≡ offset (sizesOf b) k + i → freePlace b k i ≡ true → 6 ≤ p
 unfolding freePlace offset
-free-behind b zero i p e h = let l = leb-true 5 i (first (leb 5 i) h) in omega arith
+free-behind b zero i p e h = let l = leb-true 6 i (first (leb 6 i) h) in omega arith
   where
     first : (t : Bool) → t || false ≡ true → t ≡ true
     first true h = refl
@@ -171,7 +193,7 @@ free-behind b (suc k) i p e h = omega arith
 -- ---- the block
 
 module _ (b : List ℤ) (f : Formed b) (k i p : ℕ) (s : Stands b k i p) (free : freePlace b k i ≡ true) (z : ℤ) where
-  behind : 5 ≤ p
+  behind : 6 ≤ p
   behind = free-behind b k i p (s .place) free
 
   alike : ReadAlike (rowsOf b) (rowsOf (set b p z))
@@ -181,7 +203,7 @@ module _ (b : List ℤ) (f : Formed b) (k i p : ℕ) (s : Stands b k i p) (free 
   unfolding stateOf
   free-word-state = state-alike (rowsOf b) (rowsOf (set b p z)) alike
 
-  word-same : (j : ℕ) → j < 5 → wordAt (set b p z) j ≡ wordAt b j
+  word-same : (j : ℕ) → j < 6 → wordAt (set b p z) j ≡ wordAt b j
   word-same j h = word-other b p j z (λ q. omega (arith, behind))
 
   pub free-word-sized : sized (set b p z) ≡ sized b
@@ -198,7 +220,7 @@ module _ (b : List ℤ) (f : Formed b) (k i p : ℕ) (s : Stands b k i p) (free 
   free-word-sound : blockSound (set b p z) ≡ blockSound b
   unfolding blockSound
   free-word-sound =
-      rw (word-same 4 (omega arith), word-same 2 (omega arith), free-word-packed, alike .fixed 4 (omega arith) (omega arith), word-same 1 (omega arith), free-word-state) refl
+      rw (word-same 4 (omega arith), word-same 5 (omega arith), word-same 2 (omega arith), free-word-packed, alike .fixed 4 (omega arith) (omega arith), word-same 1 (omega arith), free-word-state) refl
 
   -- with any word z at a free place the block is refused as before, and holds the same state
   pub free-word-unread : (t : List ℤ) → (memoryRefusal (set b p z) t ≡ memoryRefusal b t) × (stateOf (set b p z) ≡ stateOf b)

@@ -10,7 +10,7 @@ use lib.Seq.{getD-take, getD-drop, getD-set-same, getD-set-other, set-set, set-g
 use Rattle.graph.specs.State.{State, vertexCount, edgeCount, sideCount, nodeCount}
 use Rattle.graph.specs.Word.{toNat, wordAt}
 use Rattle.graph.specs.Rows.{rows, offset}
-use Rattle.graph.specs.Layout.{vOf, eOf, nOf, lOf, countOf, sizesOf, blockLength, rowsOf, row, stateFrom, stateOf}
+use Rattle.graph.specs.Layout.{vOf, eOf, nOf, lOf, countOf, activeCountOf, sizesOf, blockLength, rowsOf, row, stateFrom, stateOf}
 use Rattle.graph.specs.Form.{Sized, Counted, LaidOut, Laid, PackedRows, GraphRows, Listed, Wired, Formed, Becomes, Rowed}
 
 -- ---- rows
@@ -76,7 +76,7 @@ rows-get b k i p s = rw (s .place) (sym (row-get (sizesOf b) (map toNat b) k i 0
 pub record Found (b : List ℤ) (k i p : ℕ) : Type 0 where
   pub stands : Stands b k i p
   pub within : p < length b
-  pub behind : 5 ≤ p
+  pub behind : 16 ≤ p
 
 -- the rows of b with x at place i of row k
 abbrev pub rowsWith : List ℤ → ℕ → ℕ → ℕ → List (List ℕ)
@@ -120,15 +120,17 @@ pub rows-length : (b : List ℤ) (k : ℕ) → offset (sizesOf b) k + getD (size
 unfolding rowsOf
 rows-length b k h = row-length (sizesOf b) (map toNat b) k (rw (length-map b toNat) h)
 
-pub rows-count : (b : List ℤ) → length (rowsOf b) ≡ 19
+pub rows-count : (b : List ℤ) → length (rowsOf b) ≡ 20
 unfolding rowsOf rows
 rows-count b = refl
 
-pub counted-of : (b : List ℤ) → Sized b → countOf b ≤ nOf b → Counted b
+pub counted-of : (b : List ℤ) → Sized b → countOf b ≤ nOf b → activeCountOf b ≤ nOf b → Counted b
 unfolding stateOf stateFrom offset
-counted-of b z h =
+counted-of b z h a =
     let c : getD (row (rowsOf b) 0) 4 0 ≡ countOf b = header-get b 4 (omega arith) in
     let l₁₂ : length (row (rowsOf b) 12) ≡ nOf b = rows-length b 12 (omega arith) in
+    let m : getD (row (rowsOf b) 0) 5 0 ≡ activeCountOf b = header-get b 5 (omega arith) in
+    let l₁₉ : length (row (rowsOf b) 19) ≡ nOf b = rows-length b 19 (omega arith) in
     record {
       vertices = length-map (row (rowsOf b) 1) (λ x. x % 2) ∙ rows-length b 1 (omega arith);
       edges = rows-length b 10 (omega arith);
@@ -137,11 +139,13 @@ counted-of b z h =
       node-limit = header-get b 2 (omega arith);
       store-limit = header-get b 3 (omega arith);
       count-max = h;
+      actives = length-take (getD (row (rowsOf b) 0) 5 0) (row (rowsOf b) 19) ∙ omega arith;
+      active-max = a;
     }
 
-pub laid-of : (b : List ℤ) → Sized b → countOf b ≤ nOf b → Laid b
+pub laid-of : (b : List ℤ) → Sized b → countOf b ≤ nOf b → activeCountOf b ≤ nOf b → Laid b
 unfolding Laid
-laid-of b z h = record { sized = z; counted = counted-of b z h }
+laid-of b z h a = record { sized = z; counted = counted-of b z h a }
 
 pub formed-of : (b : List ℤ) → Laid b → PackedRows (rowsOf b) → GraphRows (rowsOf b) → Formed b
 unfolding Laid Listed Wired
@@ -161,7 +165,7 @@ times-below (suc (suc (suc (suc (suc (suc zero)))))) x h = omega arith
 times-below (suc (suc (suc (suc (suc (suc (suc k))))))) x h = absurd (omega arith)
 
 module _ (b : List ℤ) (z : Sized b) where
-  found : {k i p : ℕ} → Stands b k i p → (5 ≤ p) × (p < length b) → Found b k i p
+  found : {k i p : ℕ} → Stands b k i p → (16 ≤ p) × (p < length b) → Found b k i p
   found s h = record { stands = s; within = h .1; behind = h .0 }
 
   pub vertex-found : (k v : ℕ) → k < 4 → v < vOf b → Found b (1 + k) v (16 + k * vOf b + v)
@@ -200,6 +204,10 @@ module _ (b : List ℤ) (z : Sized b) where
   unfolding offset
   store-found j i = found (record { place = omega arith; within = i }) (omega arith)
 
+  pub active-found : (j : ℕ) → j < nOf b → Found b 19 j (16 + 4 * vOf b + 11 * eOf b + 7 * nOf b + lOf b + j)
+  unfolding offset
+  active-found j i = found (record { place = omega arith; within = i }) (omega arith)
+
 -- ---- a write
 
 -- a word put at place i of row k
@@ -211,8 +219,9 @@ rowed-put b k i p x q s =
     let w₂ = word-other b p 2 (pos x) (omega arith) in
     let w₃ = word-other b p 3 (pos x) (omega arith) in
     let w₄ = word-other b p 4 (pos x) (omega arith) in
+    let w₅ = word-other b p 5 (pos x) (omega arith) in
     let z : Sized (set b p (pos x)) = sized-put b p x (q .sized) (omega arith) in
-    let t : Counted (set b p (pos x)) = counted-of (set b p (pos x)) z (omega arith) in
+    let t : Counted (set b p (pos x)) = counted-of (set b p (pos x)) z (omega arith) (omega arith) in
     record {
       laid = record { sized = z; counted = t };
       rows = rows-put b k i p x (s .stands) (omega arith);
@@ -249,7 +258,7 @@ becomes-then p q = record { formed = q .formed; state = q .state; vertices = q .
 pub becomes-none : (b : List ℤ) (c : State) → Formed b → stateOf b ≡ c → Becomes b b c
 becomes-none b c f e = record { formed = f; state = e; vertices = refl; edges = refl; sides = refl; nodes = refl; len = refl }
 
-pub rowed-row : {k : ℕ} {b₀ b : List ℤ} {l : List ℕ} → k < 19 → Rowed k b₀ b l → row (rowsOf b) k ≡ l
+pub rowed-row : {k : ℕ} {b₀ b : List ℤ} {l : List ℕ} → k < 20 → Rowed k b₀ b l → row (rowsOf b) k ≡ l
 rowed-row {k} {b₀} {b} {l} h r = ap (λ z. row z k) (r .rows) ∙ getD-set-same (rowsOf b₀) k l [] (omega (arith, rows-count b₀))
 
 pub rowed-then : {k : ℕ} {b₀ b₁ b₂ : List ℤ} {l₁ l₂ : List ℕ} → Rowed k b₀ b₁ l₁ → Rowed k b₁ b₂ l₂ → Rowed k b₀ b₂ l₂

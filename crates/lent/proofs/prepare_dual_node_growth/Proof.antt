@@ -28,7 +28,7 @@ same-length-4 c = search needs
 
 returns-2 : tie.Need-returns-2
 unfolding prepareWrites
-returns-2 c = let s = c .before .before .before .before .before .before .before in let m = c .before .before .before .before .refusal .ensures in let z = c .before .before .before .if1 .left in let e = c .before .node-refusal .ensures in call-same-scratch m z (s .args .b .now) (s .args .t .now) (test-not e (c .if2 .taken)) (prepare-refused (lendable-usable (memory-lendable (s .args .b .now) (s .args .t .now) m z)) (s .args .n) (s .args .d) _ e (c .if2 .taken))
+returns-2 c = let s = c .before .before .before .before .before .before .before in let m = c .before .before .before .before .refusal .ensures in let z = c .before .before .before .if1 .left in let e = c .before .node-refusal .ensures in call-same-scratch m z (s .args .b .now) (s .args .t .now) (test-not e (c .if2 .taken)) (prepare-refused (lendable-usable (memory-lendable (s .args .b .now) (s .args .t .now) m z) .formed) (s .args .n) (s .args .d) _ e (c .if2 .taken))
 
 clear-scratch-requires : tie.Need-clear-scratch-requires
 clear-scratch-requires c κs = search needs

@@ -24,7 +24,7 @@ returns-2 : tie.Need-returns-2
 returns-2 c = let s = c .before .before .before .before .before .before in let m = c .before .before .before .before .refusal .ensures in let z = c .before .before .before .if1 .left in let e = c .before .node-refusal .ensures in call-same m z (s .args .b .now) (set-refused (s .args .b .now) (s .args .n) (s .args .x) _ e (memory-lendable (s .args .b .now) (s .args .t .now) m z .formed) (c .if2 .taken))
 
 set-grow-state-requires : tie.Need-set-grow-state-requires
-set-grow-state-requires c κs = let s = c .before .before .before .before .before .before .before in let m = c .before .before .before .before .before .refusal .ensures in let z = c .before .before .before .before .if1 .left in memory-lendable (s .args .b .now) (s .args .t .now) m z .formed
+set-grow-state-requires c κs = let s = c .before .before .before .before .before .before .before in let m = c .before .before .before .before .before .refusal .ensures in let z = c .before .before .before .before .if1 .left in let l = memory-lendable (s .args .b .now) (s .args .t .now) m z in (l .formed, l .sounds)
 
 same-length-3 : tie.Need-same-length-3
 same-length-3 c = search needs

@@ -5,10 +5,10 @@ use Rattle.lent_memory.proofs.changes.Statement.{statement}
 use Rattle.lent_memory.proofs.changes.Tie as tie
 
 abbrev Inv-loop : tie.InvT-loop
-Inv-loop b s n₀ i₀ n i = (n ≤ i) × (i ≤ 53)
+Inv-loop b s n₀ i₀ n i = (n ≤ i) × (i ≤ 55)
 
 abbrev μ-loop : tie.MeasureT-loop
-μ-loop b s n₀ i₀ n i = 53 - i
+μ-loop b s n₀ i₀ n i = 55 - i
 
 sample-requires : tie.Need-sample-requires Inv-loop μ-loop
 sample-requires c κs = search needs

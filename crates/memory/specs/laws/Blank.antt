@@ -100,7 +100,7 @@ module _ (k v e n l : ℕ) (h : SizesIn v e n l) (z : 16 + k ≡ blockLength v e
 
   headed-laid : Laid (headed k v e n l)
   unfolding wordAt toNat
-  headed-laid = laid-of (headed k v e n l) headed-sized (omega arith)
+  headed-laid = laid-of (headed k v e n l) headed-sized (omega arith) (omega arith)
 
   headed-holds : Holds v e n l (headed k v e n l) (blankRows v e n l)
   unfolding Laid wordAt toNat

@@ -89,7 +89,7 @@ unfolding all
 none p = refl
 
 -- what is left of a stack is some of it
-tops-inside : (p : Overgrown → Bool) (o : List Overgrown) → all p o ≡ true → all p (belowTops o) ≡ true
+pub tops-inside : (p : Overgrown → Bool) (o : List Overgrown) → all p o ≡ true → all p (belowTops o) ≡ true
 unfolding all belowTops
 tops-inside p [] h = refl
 tops-inside p (x ∷ xs) h =

@@ -12,13 +12,13 @@ use borrow.Author.Tests.{leb-true, le-leb, lt-ltb}
 use Rattle.graph.specs.Basic.{all, below, allBelow}
 use Rattle.graph.specs.State.{vertexCount, edgeCount, sideCount, nodeCount}
 use Rattle.graph.specs.Open.{weightLimit, sidesOf}
-use Rattle.graph.specs.Sound.{edgeSound, vertexSound, sideSound, nodeSound, entries, sound}
+use Rattle.graph.specs.Sound.{edgeSound, vertexSound, sideSound, nodeSound, entries, activeSound, sound}
 use Rattle.graph.specs.Rows.{offset}
 use Rattle.graph.specs.laws.State.{and-left, and-right}
 use Rattle.graph.specs.laws.Members.{length-below, all-below-from}
 use Rattle.graph.specs.laws.Shape.{sound-edge, sound-vertex, edge-facts, vertex-facts}
 use Rattle.graph.specs.laws.Opened.{getD-tabled}
-use Rattle.graph.specs.Layout.{eOf, nOf, countOf, rowsOf, row, stretches, risingTo, packed, stateFrom, stateOf, sized, blockSound}
+use Rattle.graph.specs.Layout.{eOf, nOf, countOf, activeCountOf, rowsOf, row, stretches, risingTo, packed, stateFrom, stateOf, sized, blockSound}
 use Rattle.graph.specs.Form.{GraphRows, Laid, Listed, Formed}
 use Rattle.graph.specs.laws.Row.{header-get, rows-length, laid-of, formed-of}
 use Rattle.graph.specs.laws.Size.{sized-of}
@@ -28,8 +28,12 @@ use Rattle.graph.specs.laws.Used.{entries-within}
 
 -- ---- the parts of the test
 
--- where the counts are in range, soundness is that of edges, vertices, sides and nodes
-pub sound-parts : (b : List ℤ) → Laid b → Listed b → sound (stateOf b) ≡ allBelow (edgeSound (stateOf b)) (edgeCount (stateOf b)) && allBelow (vertexSound (stateOf b)) (vertexCount (stateOf b)) && allBelow (sideSound (stateOf b)) (sideCount (stateOf b)) && allBelow (nodeSound (stateOf b)) (nodeCount (stateOf b))
+-- where the counts are in range, soundness is that of edges, vertices, sides, nodes and the active list
+pub sound-parts : (b : List ℤ) → Laid b → Listed b
+    → sound (stateOf b)
+    ≡ allBelow (edgeSound (stateOf b)) (edgeCount (stateOf b)) && allBelow (vertexSound (stateOf b)) (vertexCount (stateOf b))
+    && allBelow (sideSound (stateOf b)) (sideCount (stateOf b)) && allBelow (nodeSound (stateOf b)) (nodeCount (stateOf b))
+    && activeSound (stateOf b)
 unfolding sound Laid
 sound-parts b q p = rw (le-leb (nodeCount (stateOf b)) (stateOf b .nodeLimit) (omega arith), le-leb (entries (stateOf b)) (stateOf b .storeLimit) (entries-within b q p))
 
@@ -81,6 +85,7 @@ module _ (b : List ℤ) (q : Laid b) (h : sound (stateOf b) ≡ true) where
 -- what the test of a block says, part by part
 record Parts (b : List ℤ) : Type 0 where
   count : countOf b ≤ nOf b
+  active : activeCountOf b ≤ nOf b
   packed : packed b ≡ true
   rising : risingTo (row (rowsOf b) 4) (2 * eOf b) ≡ true
   sound : sound (stateOf b) ≡ true
@@ -89,12 +94,20 @@ parts-of : (b : List ℤ) → blockSound b ≡ true → Parts b
 unfolding blockSound
 parts-of b h =
     let x = leb (countOf b) (nOf b) in
+    let a = leb (activeCountOf b) (nOf b) in
     let y = packed b in
     let z = risingTo (row (rowsOf b) 4) (2 * eOf b) in
     let w = sound (stateOf b) in
-    let h₁ = and-left (x && y && z) w h in
-    let h₂ = and-left (x && y) z h₁ in
-    record { count = leb-true (countOf b) (nOf b) (and-left x y h₂); packed = and-right x y h₂; rising = and-right (x && y) z h₁; sound = and-right (x && y && z) w h }
+    let h₁ = and-left (x && a && y && z) w h in
+    let h₂ = and-left (x && a && y) z h₁ in
+    let h₃ = and-left (x && a) y h₂ in
+    record {
+      count = leb-true (countOf b) (nOf b) (and-left x a h₃);
+      active = leb-true (activeCountOf b) (nOf b) (and-right x a h₃);
+      packed = and-right (x && a) y h₂;
+      rising = and-right (x && a && y) z h₁;
+      sound = and-right (x && a && y && z) w h;
+    }
 
 module _ (b : List ℤ) (s : sized b ≡ true) (h : blockSound b ≡ true) where
   -- the block holds a sound state
@@ -105,5 +118,5 @@ module _ (b : List ℤ) (s : sized b ≡ true) (h : blockSound b ≡ true) where
   pub block-formed : Formed b
   block-formed =
       let p = parts-of b h in
-      let q : Laid b = laid-of b (sized-of b s) (p .count) in
+      let q : Laid b = laid-of b (sized-of b s) (p .count) (p .active) in
       formed-of b q (packed-of b q (p .packed)) (wired-of b q (p .sound) (p .rising))

@@ -12,7 +12,7 @@ use Rattle.graph.specs.Basic.{if_then_else_}
 use Rattle.graph.specs.State.{edgeCount}
 use Rattle.graph.specs.Open.{sizesOk}
 use Rattle.graph.specs.Sound.{sound}
-use Rattle.graph.specs.Layout.{vOf, eOf, nOf, lOf, countOf, blockLength, scratchLength, rowsOf, row, stateOf, sized, risingTo, fitsAt, packedFrom, packed, blockSound, memoryFits, blockRefusal, memoryRefusal, listRefusal}
+use Rattle.graph.specs.Layout.{vOf, eOf, nOf, lOf, countOf, activeCountOf, blockLength, scratchLength, rowsOf, row, stateOf, sized, risingTo, fitsAt, packedFrom, packed, blockSound, memoryFits, blockRefusal, memoryRefusal, listRefusal}
 use Rattle.graph.specs.Form.{startsFrom, totalFrom, Laid, Listed, Wired, Formed}
 use Rattle.graph.specs.laws.Row.{header-get}
 use Rattle.graph.specs.laws.List.{total-from}
@@ -66,7 +66,8 @@ pub formed-sound : (b : List ℤ) → Formed b → sound (stateOf b) ≡ true �
 unfolding blockSound Laid
 formed-sound b f s =
     let x : leb (countOf b) (nOf b) ≡ true = le-leb (countOf b) (nOf b) (f .laid .counted .count-max) in
-    rw (x, listed-packed b (f .listed), wired-rising b (f .wired), s)
+    let a : leb (activeCountOf b) (nOf b) ≡ true = le-leb (activeCountOf b) (nOf b) (f .laid .counted .active-max) in
+    rw (x, a, listed-packed b (f .listed), wired-rising b (f .wired), s)
 
 edges-are : (b : List ℤ) → Formed b → eOf b ≡ edgeCount (stateOf b)
 unfolding Laid

@@ -10,18 +10,18 @@ use Rattle.graph.specs.State.{vertexCount, edgeCount, sideCount, nodeCount}
 use Rattle.graph.specs.Open.{blankState, cleared}
 use Rattle.graph.specs.Rows.{rows, offset}
 use Rattle.graph.specs.Word.{wordAt, toNat}
-use Rattle.graph.specs.Layout.{countOf, rowsOf, row, boundaries, stacks, stateFrom, stateOf}
+use Rattle.graph.specs.Layout.{countOf, activeCountOf, rowsOf, row, boundaries, stacks, stateFrom, stateOf}
 use Rattle.graph.specs.Form.{Sized, Counted, LaidOut, Laid, Wired, PackedRows, GraphRows, Formed, Rowed, startsFrom, totalFrom}
 use Rattle.graph.specs.laws.Row.{word-other, rows-put, sized-put, counted-of, rows-length, formed-of}
 use Rattle.store.specs.laws.Store.{Kept, rowed-kept, kept-then}
-use Rattle.graph.specs.Opening.{zeros, clearedRows, Recounted, Cleared}
+use Rattle.graph.specs.Opening.{zeros, clearedRows, Recounted, ActiveRecounted, Cleared}
 use Rattle.graph.specs.laws.Table.{vertex-row, side-row}
 
--- ---- the number of nodes
+-- ---- the number of nodes, and of active nodes
 
-count-put : (b : List ℤ) (x : ℕ) → 4 < length b → countOf (set b 4 (pos x)) ≡ x
+put-here : (b : List ℤ) (i x : ℕ) → i < length b → wordAt (set b i (pos x)) i ≡ x
 unfolding wordAt toNat
-count-put b x h = rw (getD-set-same b 4 (pos x) (pos 0) h)
+put-here b i x h = rw (getD-set-same b i (pos x) (pos 0) h)
 
 pub recounted : (b : List ℤ) (x : ℕ) → Laid b → x ≤ stateOf b .nodeLimit → Recounted b (set b 4 (pos x)) x
 unfolding Laid offset
@@ -30,9 +30,10 @@ recounted b x q h =
     let w₁ = word-other b 4 1 (pos x) (omega arith) in
     let w₂ = word-other b 4 2 (pos x) (omega arith) in
     let w₃ = word-other b 4 3 (pos x) (omega arith) in
-    let w₄ : countOf (set b 4 (pos x)) ≡ x = count-put b x (omega arith) in
+    let w₅ = word-other b 4 5 (pos x) (omega arith) in
+    let w₄ : countOf (set b 4 (pos x)) ≡ x = put-here b 4 x (omega arith) in
     let z : Sized (set b 4 (pos x)) = sized-put b 4 x (q .sized) (omega arith) in
-    let t : Counted (set b 4 (pos x)) = counted-of (set b 4 (pos x)) z (omega arith) in
+    let t : Counted (set b 4 (pos x)) = counted-of (set b 4 (pos x)) z (omega arith) (omega arith) in
     record {
       laid = record { sized = z; counted = t };
       rows = rows-put b 0 4 4 x (record { place = omega arith; within = omega arith }) (omega arith);
@@ -43,6 +44,29 @@ recounted b x q h =
       node-limit = omega arith;
       store-limit = omega arith;
       len = length-set b 4 (pos x);
+    }
+
+pub active-recounted : (b : List ℤ) (x : ℕ) → Laid b → x ≤ stateOf b .nodeLimit → ActiveRecounted b (set b 5 (pos x)) x
+unfolding Laid offset
+active-recounted b x q h =
+    let w₀ = word-other b 5 0 (pos x) (omega arith) in
+    let w₁ = word-other b 5 1 (pos x) (omega arith) in
+    let w₂ = word-other b 5 2 (pos x) (omega arith) in
+    let w₃ = word-other b 5 3 (pos x) (omega arith) in
+    let w₄ = word-other b 5 4 (pos x) (omega arith) in
+    let w₅ : activeCountOf (set b 5 (pos x)) ≡ x = put-here b 5 x (omega arith) in
+    let z : Sized (set b 5 (pos x)) = sized-put b 5 x (q .sized) (omega arith) in
+    let t : Counted (set b 5 (pos x)) = counted-of (set b 5 (pos x)) z (omega arith) (omega arith) in
+    record {
+      laid = record { sized = z; counted = t };
+      rows = rows-put b 0 5 5 x (record { place = omega arith; within = omega arith }) (omega arith);
+      vertices = omega arith;
+      edges = omega arith;
+      sides = omega arith;
+      nodes = omega arith;
+      node-limit = omega arith;
+      store-limit = omega arith;
+      len = length-set b 5 (pos x);
     }
 
 -- ---- rows of zeros
@@ -88,58 +112,74 @@ flags-none (x ∷ l) = let z : x % 2 / 2 ≡ 0 = omega arith in rw (z, flags-non
 
 -- ---- the state, and the form
 
-module _ (r : List (List ℕ)) (h : 4 < length (row r 0)) where
-  count-none : _≡_ {A = ℕ} (getD (set (row r 0) 4 0) 4 0) 0
-  count-none = getD-set-same (row r 0) 4 0 0 h
+module _ (r : List (List ℕ)) (h : 5 < length (row r 0)) where
+  header : List ℕ
+  header = set (set (row r 0) 4 0) 5 0
 
-  size-still : (i : ℕ) → i < 4 → getD (set (row r 0) 4 0) i 0 ≡ getD (row r 0) i 0
-  size-still i k = getD-set-other (row r 0) 4 i 0 0 (λ q. omega arith)
+  count-none : _≡_ {A = ℕ} (getD header 4 0) 0
+  unfolding header
+  count-none = getD-set-other (set (row r 0) 4 0) 5 4 0 0 (λ q. omega arith) ∙ getD-set-same (row r 0) 4 0 0 (omega arith)
+
+  active-none : _≡_ {A = ℕ} (getD header 5 0) 0
+  unfolding header
+  active-none = getD-set-same (set (row r 0) 4 0) 5 0 0 (omega (arith, length-set (row r 0) 4 0))
+
+  size-still : (i : ℕ) → i < 4 → getD header i 0 ≡ getD (row r 0) i 0
+  unfolding header
+  size-still i k = getD-set-other (set (row r 0) 4 0) 5 i 0 0 (λ q. omega arith) ∙ getD-set-other (row r 0) 4 i 0 0 (λ q. omega arith)
 
   cleared-packed : PackedRows (clearedRows r)
-  unfolding clearedRows startsFrom totalFrom
+  unfolding header clearedRows startsFrom totalFrom
   cleared-packed = record { count-max = rw count-none (omega arith); starts = rw count-none; total = rw count-none (omega arith) }
 
   cleared-wired : GraphRows r → GraphRows (clearedRows r)
-  unfolding clearedRows
+  unfolding header clearedRows
   cleared-wired g = record { ends = rw (size-still 0 (omega arith)) (g .ends); sides = rw (size-still 0 (omega arith)) (g .sides); firsts = rw (size-still 1 (omega arith)) (g .firsts); weights = g .weights }
 
   cleared-state : length (row r 2) ≡ length (row r 1) → length (row r 3) ≡ length (row r 1) → length (row r 6) ≡ length (row r 5) → length (row r 7) ≡ length (row r 5) → length (row r 8) ≡ length (row r 5) → stateFrom (clearedRows r) ≡ cleared (stateFrom r)
-  unfolding clearedRows stateFrom cleared blankState boundaries stacks
+  unfolding header clearedRows stateFrom cleared blankState boundaries stacks
   cleared-state l₂ l₃ l₆ l₇ l₈ =
-      rw (count-none, size-still 2 (omega arith), size-still 3 (omega arith), flags-twice (row r 1), flags-none (row r 1), l₂, l₃, l₆, l₇, l₈, length-map (row r 1) (λ x. x % 2))
+      rw (count-none, active-none, size-still 2 (omega arith), size-still 3 (omega arith), flags-twice (row r 1), flags-none (row r 1), l₂, l₃, l₆, l₇, l₈, length-map (row r 1) (λ x. x % 2))
 
-module _ (b₀ b₁ b₂ b : List ℤ) (f : Formed b₀) (p : Recounted b₀ b₁ 0) (q : Rewritten b₁ b₂ (clearedVertices (rowsOf b₁))) (r : Rewritten b₂ b (clearedSides (rowsOf b₂))) where
-  rows-cleared : rowsOf b ≡ clearedRows (rowsOf b₀)
-  unfolding clearedRows clearedVertices clearedSides rowsOf rows
-  rows-cleared = r .rows ∙ ap clearedSides (q .rows ∙ ap clearedVertices (p .rows))
+module _
+    (b₀ b₁ b₂ b₃ b : List ℤ)
+    (f : Formed b₀)
+    (p : Recounted b₀ b₁ 0)
+    (a : ActiveRecounted b₁ b₂ 0)
+    (q : Rewritten b₂ b₃ (clearedVertices (rowsOf b₂)))
+    (r : Rewritten b₃ b (clearedSides (rowsOf b₃)))
+  where
+    rows-cleared : rowsOf b ≡ clearedRows (rowsOf b₀)
+    unfolding clearedRows clearedVertices clearedSides rowsOf rows
+    rows-cleared = r .rows ∙ ap clearedSides (q .rows ∙ ap clearedVertices (a .rows ∙ ap (λ z. set z 0 (set (row z 0) 5 0)) (p .rows)))
 
-  header-length : 4 < length (row (rowsOf b₀) 0)
-  unfolding Laid offset
-  header-length =
-      let z : LaidOut b₀ = f .laid in
-      let x : length (row (rowsOf b₀) 0) ≡ 16 = rows-length b₀ 0 (omega (arith, z .sized .len)) in
-      omega (arith, x)
+    header-length : 5 < length (row (rowsOf b₀) 0)
+    unfolding Laid offset
+    header-length =
+        let z : LaidOut b₀ = f .laid in
+        let x : length (row (rowsOf b₀) 0) ≡ 16 = rows-length b₀ 0 (omega (arith, z .sized .len)) in
+        omega (arith, x)
 
-  state-cleared : stateOf b ≡ cleared (stateOf b₀)
-  unfolding stateOf
-  state-cleared =
-      let v = vertex-row b₀ 0 (f .laid) (omega arith) in
-      let s = side-row b₀ 0 (f .laid) (omega arith) in
-      rw rows-cleared
-      (cleared-state (rowsOf b₀) header-length (vertex-row b₀ 1 (f .laid) (omega arith) ∙ sym v) (vertex-row b₀ 2 (f .laid) (omega arith) ∙ sym v) (side-row b₀ 1 (f .laid) (omega arith) ∙ sym s) (side-row b₀ 2 (f .laid) (omega arith) ∙ sym s) (side-row b₀ 3 (f .laid) (omega arith) ∙ sym s))
+    state-cleared : stateOf b ≡ cleared (stateOf b₀)
+    unfolding stateOf
+    state-cleared =
+        let v = vertex-row b₀ 0 (f .laid) (omega arith) in
+        let s = side-row b₀ 0 (f .laid) (omega arith) in
+        rw rows-cleared
+        (cleared-state (rowsOf b₀) header-length (vertex-row b₀ 1 (f .laid) (omega arith) ∙ sym v) (vertex-row b₀ 2 (f .laid) (omega arith) ∙ sym v) (side-row b₀ 1 (f .laid) (omega arith) ∙ sym s) (side-row b₀ 2 (f .laid) (omega arith) ∙ sym s) (side-row b₀ 3 (f .laid) (omega arith) ∙ sym s))
 
-  formed-cleared : Formed b
-  unfolding Wired
-  formed-cleared = formed-of b (r .kept .laid) (rw rows-cleared (cleared-packed (rowsOf b₀) header-length)) (rw rows-cleared (cleared-wired (rowsOf b₀) header-length (f .wired)))
+    formed-cleared : Formed b
+    unfolding Wired
+    formed-cleared = formed-of b (r .kept .laid) (rw rows-cleared (cleared-packed (rowsOf b₀) header-length)) (rw rows-cleared (cleared-wired (rowsOf b₀) header-length (f .wired)))
 
-  pub cleared-of : Cleared b₀ b
-  cleared-of = record {
-    formed = formed-cleared;
-    state = state-cleared;
-    rows = rows-cleared;
-    vertices = r .kept .vertices ∙ q .kept .vertices ∙ p .vertices;
-    edges = r .kept .edges ∙ q .kept .edges ∙ p .edges;
-    sides = r .kept .sides ∙ q .kept .sides ∙ p .sides;
-    nodes = r .kept .nodes ∙ q .kept .nodes ∙ p .nodes;
-    len = r .kept .len ∙ q .kept .len ∙ p .len;
-  }
+    pub cleared-of : Cleared b₀ b
+    cleared-of = record {
+      formed = formed-cleared;
+      state = state-cleared;
+      rows = rows-cleared;
+      vertices = r .kept .vertices ∙ q .kept .vertices ∙ a .vertices ∙ p .vertices;
+      edges = r .kept .edges ∙ q .kept .edges ∙ a .edges ∙ p .edges;
+      sides = r .kept .sides ∙ q .kept .sides ∙ a .sides ∙ p .sides;
+      nodes = r .kept .nodes ∙ q .kept .nodes ∙ a .nodes ∙ p .nodes;
+      len = r .kept .len ∙ q .kept .len ∙ a .len ∙ p .len;
+    }

@@ -156,7 +156,7 @@ module _ (b₀ b₁ b₂ : List ℤ) (n class x a : ℕ) (f : Formed b₀) (is-c
   state-end : stateFrom rowsEnd ≡ withNode (stateOf b₀) (classFrom (vertexCount (stateOf b₀)) class) x []
   unfolding rowsOf rows rowsEnd header stateOf stateFrom withNode withNodes
   state-end =
-      rw (header-count, header-other 0 (λ e. omega arith), header-other 2 (λ e. omega arith), header-other 3 (λ e. omega arith), one-more 0 class (omega arith), one-more 1 x (omega arith), one-more 2 0 (omega arith), one-more 3 0 (omega arith), one-more 5 0 (omega arith), one-more 6 0 (omega arith), boundaries-snoc (take n (row (rowsOf b₀) 16)) (take n (row (rowsOf b₀) 17)) (row (rowsOf b₀) 18) same-length, stacks-snoc (take n (row (rowsOf b₀) 16)) (take n (row (rowsOf b₀) 17)) (row (rowsOf b₀) 18) same-length, map-snoc (classFrom (getD header 0 0)) (take n (row (rowsOf b₀) 11)) class, count-then, vertices-then)
+      rw (header-count, header-other 0 (λ e. omega arith), header-other 2 (λ e. omega arith), header-other 3 (λ e. omega arith), header-other 5 (λ e. omega arith), one-more 0 class (omega arith), one-more 1 x (omega arith), one-more 2 0 (omega arith), one-more 3 0 (omega arith), one-more 5 0 (omega arith), one-more 6 0 (omega arith), boundaries-snoc (take n (row (rowsOf b₀) 16)) (take n (row (rowsOf b₀) 17)) (row (rowsOf b₀) 18) same-length, stacks-snoc (take n (row (rowsOf b₀) 16)) (take n (row (rowsOf b₀) 17)) (row (rowsOf b₀) 18) same-length, map-snoc (classFrom (getD header 0 0)) (take n (row (rowsOf b₀) 11)) class, count-then, vertices-then)
 
   pub pushed-empty : Inserted b₀ b₂ (withNode (stateOf b₀) (classFrom (vertexCount (stateOf b₀)) class) x [])
   pushed-empty = record {

@@ -1,8 +1,9 @@
 -- The state that a run leaves, and its history.
-use Prim.Native.Nat.{ℕ, _<_}
+use Prim.Native.Nat.{ℕ, suc, _<_}
 use native.Mathlib.Omega.{arith}
 use mathlib.Core.Path.{_≡_, sym, ap, _∙_}
 use mathlib.Core.Logic.{_≢_, _↔_}
+use mathlib.Core.Bool.{true}
 use mathlib.Core.List.{List, []}
 use lib.IntN.{pos}
 use lib.ListN.{length, getD}
@@ -18,7 +19,12 @@ use Rattle.distance.specs.laws.Injective.{tableFromDistances-equal}
 use Rattle.distance.specs.Nearest.{ReachesVirtual}
 use Rattle.opened_graph.specs.OpenedGraph.{openedGraph, SameVertices, PositiveWeights}
 use Rattle.opened_graph.specs.laws.Opening.{one-graph, same-graph, weights-positive, well-formed, all-connected}
-use Rattle.table.specs.History.{dualAt, natural, dualsOf}
+use Rattle.calls.specs.Calls.{Round}
+use Rattle.calls.specs.Round.{round}
+use Rattle.reachable.specs.Reachable.{after}
+use Rattle.table.specs.Answers.{isDone}
+use Rattle.table.specs.laws.OneByOne.{round-one-by-one}
+use Rattle.table.specs.History.{dualAt, natural, dualsOf, recorded, historyFrom, growthsOf}
 use Rattle.table.specs.Runs.{Run, start, end, history}
 use Rattle.table.specs.laws.Depth.{DefectsOnly}
 use Rattle.table.specs.laws.Table.{Duals, table-from-distances}
@@ -35,6 +41,10 @@ module _ {v : ℕ} {edges : List Edge} {virtuals : List ℕ} (r : Run v edges vi
 
   pub end-matches : Matches (graphOf v edges virtuals) (end r) (history r)
   end-matches = calls-match (graphOf v edges virtuals) (start r) [] start-good (unfold opened in (blank-matches (graphOf v edges virtuals) (r .nodeLimit) (r .storeLimit))) (r .calls) (r .withoutBlossoms)
+
+  pub end-round : (l : ℕ) → isDone (round (end r) (pos (suc l)) .answer) ≡ true
+      → (after (end r) (growthsOf (end r) l) ≡ round (end r) (pos (suc l)) .state) × (historyFrom (end r) (history r) (growthsOf (end r) l) ≡ recorded (end r) (history r) (Round (pos (suc l))))
+  end-round l done = round-one-by-one (graphOf v edges virtuals) end-good end-matches l done
 
   formed : WellFormed (openedGraph v edges virtuals)
   formed = well-formed v edges virtuals (r .edgeNumber) (r .nodeLimit) (r .storeLimit) (r .fits) (r .opening)

@@ -38,10 +38,10 @@ use Rattle.table.specs.History.{History, dualAt, dualsOf, recorded, historyFrom
 use Rattle.table.specs.Runs.{Run, end, SameNodes}
 use Rattle.table.specs.laws.Append.{history-append}
 use Rattle.table.specs.laws.Runs.{end-matches, end-table, end-feasible, tables-tell-duals}
-use Rattle.table_claim.specs.Lent.{LentCall, lentOpen, lentDefect, lentBlossom, lentState, lentPrepare, lentLength, lentGrow, lentTable, lentAdvance, lentContacts, lentVertex, lentClear}
+use Rattle.table_claim.specs.Lent.{LentCall, lentOpen, lentDefect, lentBlossom, lentState, lentPrepare, lentLength, lentGrow, lentTable, lentAdvance, lentContacts, lentVertex, lentClear, lentRenew, lentPrepareAll, lentGroup, lentRound}
 use Rattle.table_claim.specs.Lent.{Returned, Exchange, Steps}
 use Rattle.table_claim.specs.Lent.{lentSheet}
-use Rattle.table_claim.specs.Run.{Sizes, scratchFits, listFits, callsOf, fedOne, fed, orRefused, returned, returnedFrom, answerIn, recordedBy, historyBy, LentRun, runSizes, runStart, runCalls, lentHistory, WithoutBlossoms}
+use Rattle.table_claim.specs.Run.{Sizes, scratchFits, listFits, callsOf, fedOne, fed, orRefused, returned, returnedFrom, answerIn, recordedBy, historyBy, LentRun, runSizes, runStart, runCalls, lentHistory, WithoutBlossoms, trialFits, groupFits}
 use Rattle.table_claim.specs.laws.Steps.{Whole, memory-fits, list-fits, Follows, follows-whole, steps-follow, steps-return}
 
 -- ---- lists
@@ -80,6 +80,10 @@ one-recorded z c h (lentContacts t list) = by-test (listFits z 1 t list) (λ e. 
 one-recorded z c h (lentVertex t n) = by-test (scratchFits z t) (λ e. rw e refl) (λ e. rw e refl)
 one-recorded z c h (lentClear t) = by-test (scratchFits z t) (λ e. rw e refl) (λ e. rw (recorded-refused e _ .0, e) refl)
 one-recorded z c h (lentSheet t v e n l edges sheet virtuals) = refl
+one-recorded z c h lentRenew = refl
+one-recorded z c h (lentPrepareAll s t) = by-test (trialFits z s t) (λ e. rw e refl) (λ e. rw e refl)
+one-recorded z c h (lentGroup s t entries) = by-test (groupFits z s t entries) (λ e. rw e refl) (λ e. rw e refl)
+one-recorded z c h (lentRound s t l) = by-test (trialFits z s t) (λ e. rw e refl) (λ e. rw (recorded-refused e _ .1, e) refl)
 
 heads : {x y : Returned} {xs ys : List Returned} → _≡_ {A = List Returned} (x ∷ xs) (y ∷ ys) → (x ≡ y) × (xs ≡ ys)
 heads e = (cc, cc)
@@ -120,6 +124,7 @@ module _ {v : ℕ} {edges : List Edge} {virtuals : List ℕ} (r : LentRun v edge
     formed = subst Formed (sym first-words) (opened-formed v (r .edgeNumber) (r .nodeLimit) (r .storeLimit) edges virtuals fit passed);
     good = subst Invariant (sym first-state) (opened-invariant v (r .edgeNumber) (r .nodeLimit) (r .storeLimit) edges virtuals fit opening-accepted);
     edges-are = ap (λ (c : State). edgeCount c) first-state ∙ opened-edges;
+    nodes-are = ap (λ (c : State). c .nodeLimit) first-state ∙ unfold opened blankState in refl;
     size = ap length first-words ∙ opened-length v (r .edgeNumber) (r .nodeLimit) (r .storeLimit) edges virtuals fit passed;
   }
 

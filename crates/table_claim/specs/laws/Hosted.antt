@@ -4,7 +4,7 @@ use native.Mathlib.Omega.{arith}
 use mathlib.Core.Path.{_≡_, refl, sym, ap, subst, _∙_}
 use mathlib.Core.Bool.{Bool, true, false}
 use mathlib.Core.List.{List, [], _∷_, _++_, map}
-use lib.IntN.{ℤ}
+use lib.IntN.{ℤ, pos}
 use lib.Dec.{eqb, leb}
 use lib.ListN.{length, drop, getD}
 use borrow.Author.Tests.{eqb-true, leb-true, leb-false}
@@ -30,6 +30,8 @@ use Rattle.sheet.specs.Called.{SheetCalled}
 use Rattle.host_sheet.specs.Told.{sheetNumbers}
 use Rattle.table_claim.specs.Lent.{lentSheet, openingSheet, sheet-refused}
 use Rattle.table_claim.specs.Hosted.{SaysOpened, fb-open-sheet}
+use Rattle.table_claim.specs.Lent.{renew-active-list, prepare-all, group-length, round, returnsGroup}
+use Rattle.table_claim.specs.Hosted.{fb-renew-active-list, fb-prepare-all, fb-grow-all, fb-group-max-update-length}
 
 -- ---- the number of the case
 
@@ -133,6 +135,12 @@ host-made (fb-contacts {words' = words'} p) r =
       words = refl;
     }
 host-made (fb-open-sheet p n) r = let s = p .told r in sheet-made (s .answer) (s .says) (s .tells) r n
+host-made (fb-renew-active-list p) r = let s = p .told r in record { got = returns (s .answer); step = renew-active-list (s .says); tells = s .tells; words = refl }
+host-made (fb-prepare-all p) r = let s = p .told r in record { got = returns (s .answer); step = prepare-all (s .says); tells = s .tells; words = refl }
+host-made (fb-grow-all p) r = let s = p .told r in record { got = returns (s .answer); step = round (s .says); tells = s .tells; words = refl }
+host-made (fb-group-max-update-length {entries' = entries'} p) r =
+    let s = p .told r in
+    record { got = returnsGroup (s .answer) entries'; step = group-length (s .says); tells = s .tells; words = refl }
 
 host-kept : {b b' : List ℤ} {c : LentCall} {list : List ℕ} {g : Reported} → HostStep b c list g b' → length list < 5 → Kept b c list g b'
 unfolding lentWords
@@ -149,6 +157,10 @@ host-kept (fb-representative-vertex p) r = let s = p .short r in record { block 
 host-kept (fb-read-table p) r = let s = p .short r in record { block = refl; told = s .1; count = s .0; words = s .2 }
 host-kept (fb-contacts p) r = let s = p .short r in record { block = refl; told = s .1; count = s .0; words = s .2 }
 host-kept (fb-open-sheet p n) r = let s = p .short r in record { block = s .2 .0; told = s .1; count = s .0; words = s .2 .1 }
+host-kept (fb-renew-active-list p) r = let s = p .short r in record { block = s .2; told = s .1; count = s .0; words = refl }
+host-kept (fb-prepare-all p) r = let s = p .short r in record { block = s .2 .0; told = s .1; count = s .0; words = refl }
+host-kept (fb-grow-all p) r = let s = p .short r in record { block = s .2 .0; told = s .1; count = s .0; words = refl }
+host-kept (fb-group-max-update-length p) r = let s = p .short r in record { block = s .2 .0 .0; told = s .1; count = s .0; words = ap (map pos) (s .2 .1) }
 
 -- ---- a list of calls
 

@@ -10,12 +10,12 @@ use lib.ListN.{length}
 use Rattle.graph.specs.Basic.{if_then_else_}
 use Rattle.graph.specs.State.{State, Graph, edgeCount}
 use Rattle.graph.specs.Word.{toNat}
-use Rattle.graph.specs.Layout.{stateOf, blockLength, memoryRefusal, listRefusal}
-use Rattle.graph.specs.Form.{Formed}
+use Rattle.graph.specs.Layout.{eOf, nOf, stateOf, sized, blockLength, memoryFits, blockRefusal, memoryRefusal, listRefusal}
+use Rattle.graph.specs.Form.{Formed, Laid}
 use Rattle.graph.specs.Opening.{edgesFrom, virtualsFrom, fits}
 use Rattle.graph.specs.laws.Members.{by-test}
 use Rattle.memory.specs.laws.OpenedBlock.{refused-block}
-use Rattle.sound.specs.laws.Whole.{memory-by-length, list-by-length}
+use Rattle.sound.specs.laws.Whole.{formed-sized, formed-sound, memory-by-length, list-by-length}
 use Rattle.length.specs.declared.Answer.{Answer}
 use Rattle.length.specs.declared.Answer.the-variants.{Done}
 use Rattle.length.specs.Answer.{Reply, says}
@@ -27,7 +27,7 @@ use Rattle.lent.specs.Called.{Called, ListRead}
 use Rattle.reachable.specs.Reachable.{after}
 use Rattle.reachable.specs.Invariant.{Invariant}
 use Rattle.reachable.specs.laws.Calls.{after-invariant}
-use Rattle.table.specs.laws.Kept.{call-graph}
+use Rattle.table.specs.laws.Kept.{Fixed, fixedOf, call-fixed}
 use Rattle.table.specs.laws.Append.{after-append}
 use Rattle.table_claim.specs.Lent.{LentCall, lentOpen, Step, open-refused, insert-defect, insert-blossom, set-grow-state, prepare, max-update-length, grow, read-table, advance, contacts, representative-vertex, clear}
 use Rattle.table_claim.specs.Lent.{Returned, opening, returns, returnsList, returnsCount, Exchange, Steps, none, next, AnySteps, no-call, one-call, one-opening}
@@ -37,13 +37,20 @@ use Rattle.table_claim.specs.Lent.{lentSheet, sheet-refused, openingShee
 use Rattle.sheet.specs.declared.SheetOpened.the-variants.{Opened}
 use Rattle.sheet.specs.Theorems.{refused-leaves-all, sheet-opens}
 use Rattle.graph.specs.Opening.{OpenCalled}
+use Rattle.calls.specs.declared.group.GroupMaxUpdateLength.{GroupMaxUpdateLength as Group}
+use Rattle.calls.specs.Calls.{RenewActiveList, PrepareAll, GroupLength, Round}
+use Rattle.calls.specs.Round.{prepareAll, groupLength}
+use Rattle.lent_round.specs.Called.{trialRefusal, groupTrialRefusal, GroupOnTrial}
+use Rattle.table_claim.specs.Lent.{renew-active-list, prepare-all, group-length, round, returnsGroup}
+use Rattle.table_claim.specs.Run.{trialFits, groupFits}
+use Rattle.table_claim.specs.laws.Rounds.{Ends, trial-ends, round-ends, group-answers, group-kept}
 
 -- ---- lists of calls
 
-after-graph : (c : State) (ks : List Call) → after c ks .graph ≡ c .graph
+after-fixed : (c : State) (ks : List Call) → fixedOf (after c ks) ≡ fixedOf c
 unfolding after
-after-graph c [] = refl
-after-graph c (k ∷ ks) = after-graph (respond c k .state) ks ∙ call-graph c k
+after-fixed c [] = refl
+after-fixed c (k ∷ ks) = after-fixed (respond c k .state) ks ∙ call-fixed c k
 
 -- ---- a block between two calls
 
@@ -52,6 +59,7 @@ pub record Whole (z : Sizes) (b : List ℤ) : Type 0 where
   pub formed : Formed b
   pub good : Invariant (stateOf b)
   pub edges-are : edgeCount (stateOf b) ≡ z .edges
+  pub nodes-are : stateOf b .nodeLimit ≡ z .nodes
   pub size : length b ≡ blockLength (z .vertices) (z .edges) (z .nodes) (z .store)
 
 module _ {z : Sizes} {b : List ℤ} (w : Whole z b) where
@@ -61,6 +69,33 @@ module _ {z : Sizes} {b : List ℤ} (w : Whole z b) where
 
   pub list-fits : (t list : List ℤ) (m : ℕ) → listRefusal b t (length list) m ≡ (if listFits z m t list then 0 else 1)
   list-fits t list m = rw (w .edges-are) at (list-by-length b t (length list) m (w .formed) (w .good .sounds))
+
+  edges-of : eOf b ≡ z .edges
+  unfolding Laid
+  edges-of = sym (w .formed .laid .counted .edges) ∙ w .edges-are
+
+  limit-is : nOf b ≡ z .nodes
+  unfolding Laid
+  limit-is = sym (w .formed .laid .counted .node-limit) ∙ w .nodes-are
+
+  fits-alike : (t : List ℤ) → memoryFits b t ≡ scratchFits z t
+  unfolding memoryFits
+  fits-alike t = rw (formed-sized b (w .formed), edges-of) refl
+
+  pub alone-fits : blockRefusal (sized b) b ≡ 0
+  unfolding blockRefusal
+  alone-fits = rw (formed-sized b (w .formed), formed-sound b (w .formed) (w .good .sounds)) refl
+
+  pub trial-fits : (s t : List ℤ) → trialRefusal b s t ≡ (if trialFits z s t then 0 else 1)
+  unfolding trialRefusal blockRefusal
+  trial-fits s t =
+      let m : memoryFits b t ≡ scratchFits z t = fits-alike t in
+      rw (m, w .size, formed-sound b (w .formed) (w .good .sounds)) refl
+
+  pub group-fits : (s t : List ℤ) (entries : List ℕ) → groupTrialRefusal b s t (length entries) ≡ (if groupFits z s t entries then 0 else 1)
+  unfolding groupTrialRefusal blockRefusal
+  group-fits s t entries =
+      rw (fits-alike t, w .size, limit-is, formed-sound b (w .formed) (w .good .sounds)) refl
 
 -- ---- one step: the state
 
@@ -93,6 +128,19 @@ module _ {b b' : List ℤ} {j : ℕ} {a : Answer} {writes : Bool} {r : Reply} wh
   called-answered true m p = rw m at (p .answer)
   called-answered false m p = rw m at (p .answer)
 
+-- the same of a trial
+ends-follows : {z : Sizes} {b b' : List ℤ} {a : Answer} {r : Reply} → Whole z b → (fits : Bool) → Ends b b' fits a r
+    → (k : Call) → respond (stateOf b) k .state ≡ r .state → Follows b (ifFits fits k) b'
+unfolding after
+ends-follows w true p k e = record { formed = p .formed refl; state = p .state refl ∙ sym e; len = p .len }
+ends-follows w false p k e = unchanged-follows w (p .unchanged refl)
+
+group-follows : {z : Sizes} {b s t b' s' t' : List ℤ} {j : ℕ} {entries entries' : List ℕ} {g : Group} → Whole z b → (fits : Bool) → j ≡ (if fits then 0 else 1)
+    → GroupOnTrial j b s t entries b' s' t' entries' g (groupLength (stateOf b)) → Follows b (ifFits fits GroupLength) b'
+unfolding respond after
+group-follows w true m p = record { formed = p .formed m; state = rw m at (p .state); len = p .len }
+group-follows w false m p = unchanged-follows w (group-kept m p)
+
 pub step-follows : {z : Sizes} {b b' : List ℤ} {k : LentCall} {r : Returned} → Whole z b → Step b k r b' → Follows b (fedOne z k) b'
 unfolding fedOne respond response representativeVertex says
 step-follows {z} {b} w (open-refused {t} {edges} {virtuals} {b'} {v} {e} {n} {l} p h) =
@@ -110,6 +158,10 @@ step-follows {z} w (contacts {t} {list} p q) = reading-follows w (listFits z 1 t
 step-follows {z} w (representative-vertex {t} {n} p) = reading-follows w (scratchFits z t) (RepresentativeVertex n) refl
 step-follows {z} w (clear {t} p) = called-follows w (scratchFits z t) (memory-fits w t) p Clear refl
 step-follows {z} w (sheet-refused p) = unchanged-follows w (refused-leaves-all p .1)
+step-follows {z} w (renew-active-list p) = called-follows w true (alone-fits w) p RenewActiveList refl
+step-follows {z} w (prepare-all {s} {t} p) = ends-follows w (trialFits z s t) (trial-ends (trialFits z s t) (trial-fits w s t) p) PrepareAll refl
+step-follows {z} w (group-length {s} {t} {entries = entries} p) = group-follows w (groupFits z s t entries) (group-fits w s t entries) p
+step-follows {z} w (round {s} {t} {l = l} p) = ends-follows w (trialFits z s t) (round-ends l (trialFits z s t) (w .formed) (trial-fits w s t) p) (Round l) refl
 
 -- ---- one step: what the host gets
 
@@ -147,6 +199,12 @@ step-returns {z} {b} w (contacts {t} {list} p k) =
 step-returns {z} {b} w (representative-vertex {t} {n} p) = ap returns (read-answered (scratchFits z t) (stateOf b) (representativeVertex (stateOf b) n) (memory-fits w t) p)
 step-returns {z} w (clear {t} p) = ap returns (called-answered (scratchFits z t) (memory-fits w t) p)
 step-returns {z} w (sheet-refused p) = rw (p .leaves .answer, p .leaves .edges-are, w .size) refl
+step-returns {z} w (renew-active-list p) = ap returns (called-answered true (alone-fits w) p)
+step-returns {z} {b} w (prepare-all {s} {t} p) = ap returns (read-answered (trialFits z s t) (stateOf b) (prepareAll (stateOf b)) (trial-fits w s t) (p .answer))
+step-returns {z} {b} w (group-length {s} {t} {entries = entries} p) =
+    let q = group-answers (groupFits z s t entries) (group-fits w s t entries) p in
+    rw (q .0, q .1) refl
+step-returns {z} {b} w (round {s} {t} {l = l} p) = ap returns (round-ends l (trialFits z s t) (w .formed) (trial-fits w s t) p .answer)
 
 -- ---- a list of steps
 
@@ -154,7 +212,8 @@ pub follows-whole : {z : Sizes} {b b' : List ℤ} {ks : List Call} → Whole z b
 follows-whole {z} {b} {b'} {ks} w f = record {
   formed = f .formed;
   good = subst Invariant (sym (f .state)) (after-invariant (stateOf b) (w .good) ks);
-  edges-are = ap (λ (c : State). edgeCount c) (f .state) ∙ ap (λ (g : Graph). length (g .weight)) (after-graph (stateOf b) ks) ∙ w .edges-are;
+  edges-are = ap (λ (c : State). edgeCount c) (f .state) ∙ ap (λ (x : Fixed). length (x .graph .weight)) (after-fixed (stateOf b) ks) ∙ w .edges-are;
+  nodes-are = ap (λ (c : State). c .nodeLimit) (f .state) ∙ ap (λ (x : Fixed). x .nodes) (after-fixed (stateOf b) ks) ∙ w .nodes-are;
   size = f .len ∙ w .size;
 }
 

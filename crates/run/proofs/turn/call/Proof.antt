@@ -48,7 +48,7 @@ field-requires-4 c κs =
     omega arith
 
 set-grow-state-requires : tie.Need-set-grow-state-requires
-set-grow-state-requires c κs = search needs
+set-grow-state-requires c κs = let u = opened-usable (c .before .before .before .before .before .pre .0) in (u .formed, u .sounds)
 
 field-requires-5 : tie.Need-field-requires-5
 unfolding fieldCounts

@@ -12,9 +12,12 @@ sides-sound-requires c κs = search needs
 nodes-sound-requires : tie.Need-nodes-sound-requires
 nodes-sound-requires c κs = search needs
 
+active-sound-requires : tie.Need-active-sound-requires
+active-sound-requires c κs = search needs
+
 returns : tie.Need-returns
-returns c = let s = c .before .before .before in rw (sound-parts (s .args .b .now) (s .pre .0) (s .pre .1), ← c .before .before .graph-sound .ensures, ← c .before .sides-sound .ensures, ← c .nodes-sound .ensures)
+returns c = let s = c .before .before .before .before in rw (sound-parts (s .args .b .now) (s .pre .0) (s .pre .1), ← c .before .before .before .graph-sound .ensures, ← c .before .before .sides-sound .ensures, ← c .before .nodes-sound .ensures, ← c .active-sound .ensures)
 
 pub state-sound-spec : {M : Type 1} → statement M
 state-sound-spec =
-    tie.close (tie.spec graph-sound-requires sides-sound-requires nodes-sound-requires returns)
+    tie.close (tie.spec graph-sound-requires sides-sound-requires nodes-sound-requires active-sound-requires returns)

@@ -6,6 +6,9 @@ use Rattle.store.proofs.clear.clear.Tie as tie
 put-node-count-requires : tie.Need-put-node-count-requires
 put-node-count-requires c κs = search needs
 
+put-active-count-requires : tie.Need-put-active-count-requires
+put-active-count-requires c κs = search needs
+
 clear-vertices-requires : tie.Need-clear-vertices-requires
 clear-vertices-requires c κs = search needs
 
@@ -16,13 +19,15 @@ same-length : tie.Need-same-length
 same-length c = search needs
 
 returns : tie.Need-returns
-returns c = cleared-of _ _ _ _ (c .before .before .before .before .before .before .before .before .before .pre) (c .before .before .before .before .before .before .before .put-node-count .ensures) (c .before .before .before .before .clear-vertices .ensures) (c .before .clear-sides .ensures)
+returns c =
+    cleared-of _ _ _ _ _ (c .before .before .before .before .before .before .before .before .before .before .before .before .pre) (c .before .before .before .before .before .before .before .before .before .before .put-node-count .ensures) (c .before .before .before .before .before .before .before .put-active-count .ensures) (c .before .before .before .before .clear-vertices .ensures) (c .before .clear-sides .ensures)
 
 pub clear-spec : {M : Type 1} → statement M
 clear-spec =
     tie.close
     (tie.spec
     put-node-count-requires
+    put-active-count-requires
     clear-vertices-requires
     clear-sides-requires
     same-length

@@ -1,0 +1,2 @@
+-- Laws of what is told.
+pub mod Numbers

@@ -1,0 +1,2 @@
+-- What the contracts of the exported calls on all clusters cite.
+pub mod Told

@@ -1,0 +1,2 @@
+-- Laws of the trial on a second block.
+pub mod Called

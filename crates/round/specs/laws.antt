@@ -1,0 +1,9 @@
+-- Laws of the trial and of the group.
+pub mod Turn
+pub mod Trying
+pub mod InTurn
+pub mod Answers
+pub mod Stops
+pub mod Listing
+pub mod Askable
+pub mod Group
