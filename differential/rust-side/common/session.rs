@@ -1,4 +1,4 @@
-//! Records in, lines out, on the Rust: the record rules of document 01 around `card`.
+//! Records in, lines out, on the Rust: the rules of docs/SPECIFICATION.md 10 around `card`.
 use super::card::{unreachable_code, Answer, Card, Sizes};
 use super::dual_module::*;
 use super::util::Weight;
