@@ -8,8 +8,8 @@
 set -e
 root=$(cd "$here/.." && pwd)
 if [ -z "$FB_SRC" ]; then
-    echo "The comparison needs util.rs, dual_module.rs and dual_module_serial.rs from src/ of yuewuo/fusion-blossom at" >&2
-    echo "commit fa690600e4, which are not in this repository: FB_SRC=FOLDER names the folder that has them." >&2
+    echo "The comparison needs util.rs, dual_module.rs and dual_module_serial.rs from src/ of yuewuo/fusion-blossom" >&2
+    echo "at commit fa690600e4, which are not in this repository: FB_SRC=FOLDER names the folder that has them." >&2
     exit 2
 fi
 FB_SRC=$(cd "$FB_SRC" && pwd)

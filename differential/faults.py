@@ -30,7 +30,8 @@ FAULTS = [
      '                    if is_left { edge.left_growth -= over } else { edge.right_growth -= over }\n                }\n'
      '                (edge.left_growth + edge.right_growth, edge.weight)\n', 0),
     ('shrinking forgets the top overgrown amount', 'max_length_abs = std::cmp::min(max_length_abs, *overgrown);', '', 0),
-    ('a circle is joined backward', 'for dual_node_weak in nodes_circle.iter() {\n                        let dual_node_ptr',
+    ('a circle is joined backward',
+     'for dual_node_weak in nodes_circle.iter() {\n                        let dual_node_ptr',
      'for dual_node_weak in nodes_circle.iter().rev() {\n                        let dual_node_ptr', 0),
     ('a stop forgets its second peer', 'if &peer_dual_node_ptr != other_dual_node_ptr {', 'if false {', 0),
     ('taking a vertex over an edge of weight 0 calls for no other pass', 'newly_propagated_edge_has_zero_weight = true;', '', 0),
