@@ -7,7 +7,7 @@ fn main() {
     let here = env::var("CARGO_MANIFEST_DIR").unwrap();
     let package = env::var("CARGO_PKG_NAME").unwrap();
     let common = format!("{here}/../common");
-    let src = env::var("FB_SRC").expect("FB_SRC must name the folder of the Rust's three files: differential/README.md");
+    let src = env::var("FB_SRC").expect("FB_SRC must name the folder of the three Rust files: differential/README.md");
     println!("cargo:rerun-if-env-changed=FB_SRC");
     println!("cargo:rerun-if-changed={common}/build.rs");
     let mut out = String::new();

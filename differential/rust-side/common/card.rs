@@ -237,7 +237,9 @@ impl Card {
             return Some(10);
         }
         let much = 1_000_000_000;
-        let more = i.dual_variable + by > much || top.is_some_and(|t| t + by > much) || any(&|own, _, _, _| own + by > 1_100_000_000_000);
+        let more = i.dual_variable + by > much
+            || top.is_some_and(|t| t + by > much)
+            || any(&|own, _, _, _| own + by > 1_100_000_000_000);
         more.then_some(12)
     }
 
