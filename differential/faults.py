@@ -70,8 +70,9 @@ def edited(text, old, new, place):
 
 def main():
     if not SRC:
-        sys.exit('The comparison needs three Rust files that are not in this repository: FB_SRC=FOLDER names their '
-                 'folder (differential/README.md).')
+        print('The comparison needs three Rust files that are not in this repository: FB_SRC=FOLDER names their '
+              'folder (differential/README.md).', file=sys.stderr)
+        sys.exit(2)
     runs = sys.argv[1] if len(sys.argv) > 1 else '2000'
     chosen = [f for f in FAULTS + IN_STATES + IN_ROUNDS if len(sys.argv) < 3 or sys.argv[2] in f[0]]
     missed = 0
