@@ -1,5 +1,6 @@
-# Builds the archive of crate `stream` and the bench; sets `bench` to its program. Read by the other scripts; those that set
-# `with_library` get the calls on lent memory too, and those that set `with_cores` the calls without the test of the memory.
+# Builds the archive of crate `stream` and the bench; sets `bench` to its program. Read by the other scripts; those that
+# set `with_library` get the calls on lent memory too, and those that set `with_cores` the calls without the test of the
+# memory.
 #   ARCHIVE         another archive with the call cardrun_lines (default: what `rt staticlib stream` writes)
 #   LIBRARY         another archive with the calls on lent memory (default: what tools/build-library.sh makes)
 #   CORES           another archive of bench/cores (default: what bench/cores.sh makes)
