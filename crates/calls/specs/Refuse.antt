@@ -1,4 +1,4 @@
--- Tests that refuse a call. A refusal is a number; 0 stands for none.
+-- Tests that refuse a call (SPECIFICATION 8). A refusal is a number; 0 stands for none.
 use Prim.Native.Nat.{ℕ, _+_, _-_, _*_}
 use mathlib.Core.Bool.{Bool, true, false, _&&_, _||_, not}
 use mathlib.Core.List.{List, [], _∷_, map}
