@@ -1,4 +1,4 @@
--- The list store that a circle needs, so that L can be computed in advance.
+-- What follows from the definitions of the calls, of every state; each proof cites a law.
 use Prim.Native.Nat.{ℕ, _+_, _*_, _≤_, _<_}
 use native.Mathlib.Nat.{mul-le-mul}
 use native.Mathlib.Omega.{arith}
@@ -11,6 +11,8 @@ use Rattle.calls.specs.Refuse.{entriesBut}
 use Rattle.calls.specs.Insert.{blossomRefusal}
 use Rattle.calls.specs.laws.Accepted.{blossom-accepted, store-room}
 use Rattle.calls.specs.laws.CircleStore.{refused-nine}
+
+-- ---- the list store of a circle, so that L can be computed in advance
 
 -- 64 (2 E + V): for the lists of 63 members and of their blossom
 abbrev pub circleStore : State → ℕ
