@@ -201,6 +201,8 @@ struct Counts {
     nodes: usize,
     /// how often each answer came, by its first word, a refusal with its number
     answers: BTreeMap<String, usize>,
+    /// the same of circles of more than 60 nodes, by their number
+    circles: BTreeMap<String, usize>,
 }
 
 /// One stream: the first record at which port and Rust differ. Of a large block the words are compared after some calls only.
@@ -232,6 +234,9 @@ fn agree(s: &streams::Stream, n: &mut Counts) -> Result<(), String> {
             n.lines += 1;
             let kind = if p.starts_with("refused") { &p[..] } else { p.split(' ').next().unwrap() };
             *n.answers.entry(kind.to_string()).or_default() += 1;
+            if k == 5 && a.len() > 61 {
+                *n.circles.entry(format!("{} {kind}", a.len() - 1)).or_default() += 1;
+            }
             let p = format!("{} {p}", i + 1);
             match rust.next() {
                 Some(r) if r == p => {}
@@ -293,15 +298,11 @@ pub fn compare(runs: u64, seed: u64) -> bool {
         }
     }
     let kinds: Vec<_> = graphs::KINDS.iter().zip(streams).filter(|k| k.1 > 0).map(|(k, n)| format!("{k} {n}")).collect();
-    println!(
-        "{} streams ({}), up to V {}, E {} and {} nodes",
-        streams.iter().sum::<usize>(), kinds.join(", "), largest.0, largest.1, n.nodes
-    );
-    println!(
-        "{} calls, {} lines, {} representative vertices, {} whole states of {} words compared",
-        n.calls, n.lines, n.vertices, n.states, n.words
-    );
-    println!("answers: {}", n.answers.iter().map(|(k, n)| format!("{k} {n}")).collect::<Vec<_>>().join(", "));
+    println!("{} streams ({}), up to V {}, E {} and {} nodes", streams.iter().sum::<usize>(), kinds.join(", "), largest.0, largest.1, n.nodes);
+    println!("{} calls, {} lines, {} representative vertices, {} whole states of {} words compared", n.calls, n.lines, n.vertices, n.states, n.words);
+    let listed = |m: &BTreeMap<String, usize>| m.iter().map(|(k, n)| format!("{k} {n}")).collect::<Vec<_>>().join(", ");
+    println!("answers: {}", listed(&n.answers));
+    println!("circles of more than 60 nodes: {}", listed(&n.circles));
     println!("different: {different}");
     different == 0
 }

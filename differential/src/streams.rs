@@ -354,8 +354,20 @@ pub fn opening(g: &Graph, n: i32, l: i32) -> Vec<Record> {
     out
 }
 
-/// A stream on a graph of the library's sizes: good fields for the most part, now and then many defects first, a table
-/// at the end.
+/// A circle about as long as the port takes, 63 nodes, or longer, now and then with a repeat; as many nodes as there are.
+#[cfg(library)]
+fn long_circle(r: &mut Random, view: &View) -> (u16, Vec<i32>) {
+    let mut out = view.outer();
+    r.shuffle(&mut out);
+    out.truncate(r.pick(&[61, 63, 63, 64, 65, 101]));
+    if r.chance(25) && out.len() > 1 {
+        out[0] = out[1];
+    }
+    (5, [vec![r.pick(&[1, 1, 2, 0])], out].concat())
+}
+
+/// A stream on a graph of the library's sizes: good fields for the most part, now and then many defects first and a long circle of them, a
+/// table at the end.
 #[cfg(library)]
 pub fn large(seed: u64, g: &Graph) -> Stream {
     let r = &mut Random::new(seed);
@@ -383,6 +395,7 @@ pub fn large(seed: u64, g: &Graph) -> Stream {
         let rec = records.pop().unwrap_or_else(|| {
             asked = match s.records.len() - opened {
                 i if i < crowd => (4, vec![r.range(0, g.v - 1), r.pick(&[1, 1, 2, 0])]),
+                i if i < crowd + calls && crowd > 0 && i % 97 == 0 => long_circle(r, &view),
                 i if i < crowd + calls => choose(r, &TABLE[policy], &view, g.v, &asked),
                 _ => (10, vec![]),
             };

@@ -1,12 +1,13 @@
 #!/usr/bin/env python3
 """Compares the definitions of specs/ with the Python model, by computation.
 
-    tests/definitions/compare.py [--lists 600] [--states 200] [--streams 100] [--seed 1] [--keep DIR]
+    tests/definitions/compare.py [--lists 600] [--states 200] [--streams 100] [--circles 5] [--seed 1] [--keep DIR]
 
 The prover computes, from the definitions themselves:
   lists    random call lists: every answer, the whole state after the last call, and whether it is sound;
   states   sound states that no call list reaches (a reached state with fields changed at random), a few calls on each;
-  streams  record streams: the lines, all of them and those that fit into a random space.
+  streams  record streams: the lines, all of them and those that fit into a random space;
+  circles  circles of 61, 63, 64, 65 and 101 nodes, with a repeat and without, on rows of so many defects.
 Each comparison is a theorem proved by `refl` in a crate of tests that is written beside a copy of this repository.
 The model is tests/model, the streams are those of tests/vectors, or of the file that VECTORS names. A wrong answer
 makes the check fail and names the case.
@@ -236,6 +237,22 @@ def state_case(rng, name):
     return case(name, start, lines, st)
 
 
+CIRCLES = 61, 63, 64, 65, 101
+
+
+def circle_case(rng, name):
+    """A row with a defect at each vertex; a circle of all of them, first with one of them twice."""
+    size = CIRCLES[int(name[4:]) % len(CIRCLES)]
+    edges = [(v, v + 1, rng.choice([0, 1, 2, 4])) for v in range(size - 1)]
+    N, L = size + 1, (size + 2) * 3 * size
+    _, st = M.open_graph(size, size - 1, N, L, edges, [])
+    start = f"opened {size} {N} {L} {items(f'edge {l} {r} {w}' for l, r, w in edges)} []"
+    circle = rng.sample(range(size), size)
+    twice = circle[:-1] + [circle[rng.randrange(size - 1)]]
+    calls = [('defect', v, 1) for v in range(size)] + [('blossom', 1, twice), ('blossom', 2, circle), ('length', size, 0, True)]
+    return case(name, start, [line(st, c) for c in calls], st)
+
+
 def streams(rng, count):
     out = [x for x in M.frames() if len(x[0]) < 1200]
     return rng.sample(out, min(count, len(out)))
@@ -270,15 +287,13 @@ use Rattle.records.specs.Opens.{everything}
 
 def main():
     p = argparse.ArgumentParser(description=__doc__, formatter_class=argparse.RawDescriptionHelpFormatter)
-    for name, default in ('lists', 600), ('states', 200), ('streams', 100), ('seed', 1):
-        p.add_argument('--' + name, type=int, default=default)
+    for name, default in ('lists', 600), ('states', 200), ('streams', 100), ('circles', 5), ('seed', 1): p.add_argument('--' + name, type=int, default=default)
     p.add_argument('--keep', help='write the copy here and leave it')
     o = p.parse_args()
     rng = random.Random(o.seed)
     modules, per = {}, 20
-    for kind, count, make, what in (
-            ('Lists', o.lists, list_case, 'Random call lists.'),
-            ('States', o.states, state_case, 'Sound states that no call list reaches.')):
+    for kind, count, make, what in (('Lists', o.lists, list_case, 'Random call lists.'), ('States', o.states, state_case, 'Sound states that no call list reaches.'),
+                                    ('Circles', o.circles, circle_case, 'Circles of up to 63 nodes and longer ones.')):
         for f in range(0, count, per):
             cases = [make(rng, f'case{k}') for k in range(f, min(f + per, count))]
             modules[f'{kind}{f // per}'] = HEAD.format(what) + ''.join(cases)
@@ -299,8 +314,7 @@ def main():
     run = subprocess.run(['rt', 'check', 'trial'], cwd=top, capture_output=True, text=True)
     for l in run.stdout.splitlines() + run.stderr.splitlines():
         if 'error' in l or l.startswith('rt:'): print(l[:300])
-    print(f'seed {o.seed}: {o.lists} call lists, {o.states} states that no call list reaches, {len(chosen)} record '
-          'streams; ' + ', '.join(f'{k} {v}' for k, v in sorted(SEEN.items())))
+    print(f'seed {o.seed}: {o.lists} call lists, {o.states} states that no call list reaches, {len(chosen)} record streams, {o.circles} circles; ' + ', '.join(f'{k} {v}' for k, v in sorted(SEEN.items())))
     if not o.keep: shutil.rmtree(top)
     sys.exit(run.returncode)
 

@@ -2,6 +2,8 @@
 from . import passes
 from .state import DUAL_MAX, GROW, GROWTH_MAX, NONE, SHRINK, STAY, Node, opp
 
+CIRCLE_MAX = 63
+
 
 def lists(st, n):
     return len(st.nodes[n].boundary) + len(st.nodes[n].overgrown)
@@ -47,7 +49,7 @@ def insert_blossom(st, state, circle):
         return ('refused', 3)
     if any(st.nodes[m].parent != NONE for m in circle):
         return ('refused', 6)
-    if len(circle) % 2 == 0 or len(circle) < 3 or len(set(circle)) != len(circle):
+    if len(circle) % 2 == 0 or not 3 <= len(circle) <= CIRCLE_MAX or len(set(circle)) != len(circle):
         return ('refused', 7)
     if len(st.nodes) >= st.N:
         return ('refused', 8)

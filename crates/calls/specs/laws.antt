@@ -1,5 +1,6 @@
 -- Laws about the definitions of `calls`.
 pub mod Accepted
+pub mod CircleStore
 pub mod Advance
 pub mod Defect
 pub mod Read

@@ -141,6 +141,7 @@ pub record BlossomAccepted (c : State) (x : ℕ) (circle : List ℕ) : Type 0 wh
   pub outer : (m : ℕ) → member m circle ≡ true → parentOf c m ≡ 0
   pub odd : length circle % 2 ≢ 0
   pub three : 3 ≤ length circle
+  pub short : length circle ≤ 63
   pub once : distinct circle ≡ true
   pub count : nodeCount c < c .nodeLimit
   pub room : storeShort c circle (length circle + 1) ≡ false
@@ -155,15 +156,18 @@ blossom-accepted c x circle h =
     let p₅ = passed (storeShort c circle (length circle + 1)) 8 _ (p₄ .1) in
     let a = eqb (length circle % 2) 0 in
     let b = ltb (length circle) 3 in
+    let s = ltb 63 (length circle) in
     let d = not (distinct circle) in
-    let q = or-neither-left (a || b) d (p₃ .0) in
+    let q₁ = or-neither-left (a || b || s) d (p₃ .0) in
+    let q₂ = or-neither-left (a || b) s q₁ in
     record {
       growState = ltb-false _ _ (or-neither-left (ltb shrinking x) (any (badNode c) circle) (p₁ .0));
       inside = λ m k. leb-false _ _ (none-member (badNode c) circle m (or-neither-right (ltb shrinking x) (any (badNode c) circle) (p₁ .0)) k);
       outer = λ m k. zero-of _ (none-member (inBlossom c) circle m (p₂ .0) k);
-      odd = eqb-false _ _ (or-neither-left a b q);
-      three = ltb-false _ _ (or-neither-right a b q);
-      once = not-false _ (or-neither-right (a || b) d (p₃ .0));
+      odd = eqb-false _ _ (or-neither-left a b q₂);
+      three = ltb-false _ _ (or-neither-right a b q₂);
+      short = ltb-false _ _ (or-neither-right (a || b) s q₁);
+      once = not-false _ (or-neither-right (a || b || s) d (p₃ .0));
       count = leb-false _ _ (p₄ .0);
       room = p₅ .0;
     }
