@@ -19,4 +19,5 @@ pub blossom-never-refused-9 : (b t b' t' circle : List ℤ) (x : ℕ) (a : Answe
     → entriesBut (stateOf b) (map toNat circle) + circleStore (stateOf b) ≤ stateOf b .storeLimit → a ≢ Refused 9
 unfolding refusalOf
 blossom-never-refused-9 b t b' t' circle x a p h e =
-    blossom-not-nine b t x (map toNat circle) (circle-store-suffices (stateOf b) x (map toNat circle) h) (sym (ap refusalOf (p .block .answer)) ∙ ap refusalOf e)
+    blossom-not-nine b t x (map toNat circle) (circle-store-suffices (stateOf b) x (map toNat circle) h)
+    (sym (ap refusalOf (p .block .answer)) ∙ ap refusalOf e)
