@@ -1,4 +1,3 @@
-use mathlib.Core.Path.{_≡_}
 use borrow.Author.Needs.{needs}
 use Rattle.calls.specs.Occupied.{vertexDecides}
 use Rattle.calls.proofs.occupied.vertex_decides.Statement.{statement}
