@@ -203,6 +203,8 @@ struct Counts {
     answers: BTreeMap<String, usize>,
     /// the same of circles of more than 60 nodes, by their number
     circles: BTreeMap<String, usize>,
+    /// and of defects at a hub that has all edges, by how many they are
+    hubs: BTreeMap<String, usize>,
 }
 
 /// One stream: the first record at which port and Rust differ. Of a large block the words are compared after some calls only.
@@ -214,6 +216,7 @@ fn agree(s: &streams::Stream, n: &mut Counts) -> Result<(), String> {
     let mut session = Session::new(false);
     session.limits = streams::LIBRARY;
     let every = 1 + lent.block.len() / 4_000;
+    let one_hub = s.records.iter().filter(|r| kind(r) == 2).all(|r| fields(r)[0] == 0);
     for (i, rec) in s.records.iter().enumerate() {
         let (k, a) = (kind(rec), fields(rec));
         if s.said[i].outside {
@@ -234,6 +237,9 @@ fn agree(s: &streams::Stream, n: &mut Counts) -> Result<(), String> {
             n.lines += 1;
             let kind = if p.starts_with("refused") { &p[..] } else { p.split(' ').next().unwrap() };
             *n.answers.entry(kind.to_string()).or_default() += 1;
+            if k == 4 && a[0] == 0 && one_hub {
+                *n.hubs.entry(format!("{e} {kind}")).or_default() += 1;
+            }
             if k == 5 && a.len() > 61 {
                 *n.circles.entry(format!("{} {kind}", a.len() - 1)).or_default() += 1;
             }
@@ -303,6 +309,7 @@ pub fn compare(runs: u64, seed: u64) -> bool {
     let listed = |m: &BTreeMap<String, usize>| m.iter().map(|(k, n)| format!("{k} {n}")).collect::<Vec<_>>().join(", ");
     println!("answers: {}", listed(&n.answers));
     println!("circles of more than 60 nodes: {}", listed(&n.circles));
+    println!("defects at a hub of so many edges: {}", listed(&n.hubs));
     println!("different: {different}");
     different == 0
 }

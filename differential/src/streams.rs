@@ -387,15 +387,19 @@ pub fn large(seed: u64, g: &Graph) -> Stream {
     let mut view = View::default();
     let mut asked = (0, vec![]);
     let calls = r.range(100, 800) as usize;
-    let crowd = if r.chance(15) { r.range(200, 1_500) as usize } else { 0 };
+    // a store of 65,536 has room for a circle of 63 where 2 E + V is at most 1,024
+    let small = 2 * g.edges.len() as i32 + g.v <= 1024;
+    let crowd = if r.chance(if small { 50 } else { 15 }) { r.range(200, 1_500) as usize } else { 0 };
     let mut records = opening(g, n, l);
     let opened = records.len();
+    let one_hub = g.one_hub();
     records.reverse();
     loop {
         let rec = records.pop().unwrap_or_else(|| {
             asked = match s.records.len() - opened {
                 i if i < crowd => (4, vec![r.range(0, g.v - 1), r.pick(&[1, 1, 2, 0])]),
                 i if i < crowd + calls && crowd > 0 && i % 97 == 0 => long_circle(r, &view),
+                i if i < crowd + calls && one_hub && r.chance(20) => (4, vec![0, r.pick(&[1, 1, 2, 0])]),
                 i if i < crowd + calls => choose(r, &TABLE[policy], &view, g.v, &asked),
                 _ => (10, vec![]),
             };

@@ -4,7 +4,7 @@
     tests/definitions/compare.py [--lists 600] [--states 200] [--streams 100] [--circles 5] [--seed 1] [--keep DIR]
 
 The prover computes, from the definitions themselves:
-  lists    random call lists: every answer, the whole state after the last call, and whether it is sound;
+  lists    random call lists: every answer, the whole state after the last call, whether it is sound, and at each vertex what the test for refusal 5 finds and how many sides it reads;
   states   sound states that no call list reaches (a reached state with fields changed at random), a few calls on each;
   streams  record streams: the lines, all of them and those that fit into a random space;
   circles  circles of 61, 63, 64, 65 and 101 nodes, with a repeat and without, on rows of so many defects.
@@ -179,7 +179,7 @@ HEAD = '''-- {0}
 use Prim.Native.Nat.{{ℕ}}
 use mathlib.Core.Path.{{_≡_, refl}}
 use mathlib.Core.Bool.{{Bool, true, false}}
-use mathlib.Core.List.{{List, [], _∷_}}
+use mathlib.Core.List.{{List, [], _∷_, map}}
 use lib.IntN.{{pos, negsuc}}
 use Rattle.graph.specs.State.{{State, Overgrown, NodeClass, defectVertex, blossom}}
 use Rattle.graph.specs.Open.{{opened}}
@@ -187,17 +187,30 @@ use Rattle.graph.specs.Sound.{{sound}}
 use Rattle.length.specs.declared.Answer.the-variants.{{NonZeroGrow, Unlimited, Conflicting, TouchingVirtual, BlossomNeedExpand, VertexShrinkStop, VertexShrinkStopPeer, Done, Node, Prepared, Vertex, Refused}}
 use Rattle.calls.specs.Calls.{{InsertDefect, InsertBlossom, SetGrowState, Prepare, MaxUpdateLength, Grow, ReadTable, Advance, Contacts, RepresentativeVertex, Clear, RenewActiveList, PrepareAll, GroupLength, Round, answered, growths, touching, grouped, respond}}
 use Rattle.calls.specs.declared.group.GroupMaxUpdateLength.the-variants.{{NonZeroGrow as groupFree, Unlimited as groupUnlimited, Conflicts as groupConflicts, Refused as groupRefused}}
+use Rattle.calls.specs.Insert.{{occupied}}
+use Rattle.calls.specs.Occupied.{{sidesRead}}
 use Rattle.calls.specs.Examples.{{Line, _gives_, edge, given, wanted}}
 use Rattle.calls.specs.Opens.{{everything}}
 
 abbrev over : ℕ → ℕ → Overgrown
 over v a = record {{ vertex = v; amount = a }}
 
+unfoldable looked : State → ℕ → Bool × ℕ
+looked c v = (occupied c v, sidesRead c v)
+
 unfoldable after : State → List Line → State
 after c [] = c
 after c ((k gives o) ∷ ls) = after (respond c k .state) ls
 
 '''
+
+
+def looks(st):
+    """What the test for refusal 5 finds at each vertex, and how many sides it reads; how often a side decides is counted."""
+    found = [M.held_test(st, v) for v in range(st.V)]
+    SEEN['vertices tested'] += st.V
+    SEEN['a held side decides'] += sum(held and read > 0 for held, read in found)
+    return items(f'({truth(held)}, {read})' for held, read in found)
 
 
 def case(name, start, lines, st):
@@ -214,6 +227,10 @@ def case(name, start, lines, st):
 {name} : ({gives}) × ({last} ≡ {state(st)}) × (sound ({last}) ≡ {truth(not M.sound(st))})
 unfolding everything edge given wanted after {name}-start {name}-lines
 {name} = (refl, refl, refl)
+
+{name}-read : map (looked (after {name}-start {name}-lines)) {nats(range(st.V))} ≡ {looks(st)}
+unfolding everything edge after {name}-start {name}-lines looked
+{name}-read = refl
 
 '''
 

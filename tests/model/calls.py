@@ -25,10 +25,20 @@ def join_active(st, n):
         st.active.append(n)
 
 
+def held_test(st, v):
+    """The test for refusal 5: whether a defect is refused at a vertex, and how many sides were read."""
+    if st.virtual[v] or st.defect[v] or st.vholder[v] != NONE:
+        return True, 0
+    for i, t in enumerate(st.at[v]):
+        if st.holder[t] != NONE:
+            return True, i + 1
+    return False, len(st.at[v])
+
+
 def insert_defect(st, v, state):
     if not 0 <= v < st.V or state not in (0, 1, 2):
         return ('refused', 3)
-    if st.virtual[v] or st.defect[v] or st.vholder[v] != NONE or any(st.holder[t] != NONE for t in st.at[v]):
+    if held_test(st, v)[0]:
         return ('refused', 5)
     if len(st.nodes) >= st.N:
         return ('refused', 8)

@@ -12,4 +12,5 @@ pub mod Sounds
 pub mod Trial
 pub mod Grouped
 pub mod Listed
+pub mod Occupied
 pub mod Phase

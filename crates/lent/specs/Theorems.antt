@@ -1,6 +1,6 @@
 -- What follows from the promises of the public calls; each proof cites a law.
 use Prim.Native.Nat.{ℕ, _+_, _≤_}
-use mathlib.Core.Path.{_≡_, sym, ap, _∙_}
+use mathlib.Core.Path.{sym, ap, _∙_}
 use mathlib.Core.Logic.{_≢_}
 use mathlib.Core.List.{List, map}
 use lib.IntN.{ℤ}
@@ -19,4 +19,5 @@ pub blossom-never-refused-9 : (b t b' t' circle : List ℤ) (x : ℕ) (a : Answe
     → entriesBut (stateOf b) (map toNat circle) + circleStore (stateOf b) ≤ stateOf b .storeLimit → a ≢ Refused 9
 unfolding refusalOf
 blossom-never-refused-9 b t b' t' circle x a p h e =
-    blossom-not-nine b t x (map toNat circle) (circle-store-suffices (stateOf b) x (map toNat circle) h) (sym (ap refusalOf (p .block .answer)) ∙ ap refusalOf e)
+    blossom-not-nine b t x (map toNat circle) (circle-store-suffices (stateOf b) x (map toNat circle) h)
+    (sym (ap refusalOf (p .block .answer)) ∙ ap refusalOf e)

@@ -26,4 +26,5 @@ pub mod GroupAnswer
 pub mod Refused
 pub mod Length
 pub mod Facts
+pub mod Occupied
 pub mod WithoutBlossoms

@@ -49,7 +49,7 @@ pub record LongDown (m : ℕ) (c : State) (n : ℕ) : Type 0 where
 
 -- ---- small things
 
-none-from : (p : ℕ → Bool) (l : List ℕ) → ((s : ℕ) → member s l ≡ true → p s ≡ false) → any p l ≡ false
+pub none-from : (p : ℕ → Bool) (l : List ℕ) → ((s : ℕ) → member s l ≡ true → p s ≡ false) → any p l ≡ false
 unfolding any
 none-from p [] g = refl
 none-from p (s ∷ l) g = rw (g s (member-head s l)) (none-from p l (λ t i. g t (member-tail t s l i)))
