@@ -5,6 +5,7 @@ pub mod Defect
 pub mod Read
 pub mod Readable
 pub mod Refuse
+pub mod Remove
 pub mod Replies
 pub mod Shapes
 pub mod Sounds

@@ -27,3 +27,5 @@ pub mod Refused
 pub mod Length
 pub mod Facts
 pub mod WithoutBlossoms
+pub mod history
+pub mod remove

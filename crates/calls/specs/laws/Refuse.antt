@@ -29,18 +29,18 @@ short-new c u e = rw (e, ← entries-none c)
 -- ---- the refusal of a call on a node
 
 module _ (c : State) (n : ℕ) (wrong short : Bool) where
-  pub refuses-number : leb (nodeCount c) n || wrong ≡ true → 3 ≡ nodeRefusal c n wrong short
-  unfolding nodeRefusal badNode
+  pub refuses-number : badNode c n || wrong ≡ true → 3 ≡ nodeRefusal c n wrong short
+  unfolding nodeRefusal
   refuses-number e = rw e
 
-  pub refuses-inner : leb (nodeCount c) n || wrong ≡ false → inBlossom c n ≡ true → 6 ≡ nodeRefusal c n wrong short
-  unfolding nodeRefusal badNode
+  pub refuses-inner : badNode c n || wrong ≡ false → inBlossom c n ≡ true → 6 ≡ nodeRefusal c n wrong short
+  unfolding nodeRefusal
   refuses-inner e i = rw (e, i)
 
-  pub refuses-store : leb (nodeCount c) n || wrong ≡ false → inBlossom c n ≡ false → short ≡ true → 9 ≡ nodeRefusal c n wrong short
-  unfolding nodeRefusal badNode
+  pub refuses-store : badNode c n || wrong ≡ false → inBlossom c n ≡ false → short ≡ true → 9 ≡ nodeRefusal c n wrong short
+  unfolding nodeRefusal
   refuses-store e i s = rw (e, i, s)
 
-  pub refuses-not : leb (nodeCount c) n || wrong ≡ false → inBlossom c n ≡ false → short ≡ false → 0 ≡ nodeRefusal c n wrong short
-  unfolding nodeRefusal badNode
+  pub refuses-not : badNode c n || wrong ≡ false → inBlossom c n ≡ false → short ≡ false → 0 ≡ nodeRefusal c n wrong short
+  unfolding nodeRefusal
   refuses-not e i s = rw (e, i, s)
