@@ -201,8 +201,8 @@ class-number v x =
     elim (decLt x v) [
       | yes h ↦ rw (lt-ltb x v h)
       | no h ↦ rw (le-ltb x v (omega arith))
-        (elim (decEq x (v + 1024)) [
-          | yes e ↦ rw (eq-eqb x (v + 1024) e) (sym e)
-          | no e ↦ rw (ne-eqb x (v + 1024) e) (omega arith)
-        ])
+          (elim (decEq x (v + 1024)) [
+            | yes e ↦ rw (eq-eqb x (v + 1024) e) (sym e)
+            | no e ↦ rw (ne-eqb x (v + 1024) e) (omega arith)
+          ])
     ]
