@@ -296,7 +296,7 @@ module _ (r : State) (g : Invariant r) where
 
   begins : Readied (activeIn r shrinking) (activeIn r growing) r
   begins = record {
-    along = record { invariant = g; growState = refl; parent = refl };
+    along = record { invariant = g; class = refl; growState = refl; parent = refl };
     active = refl;
     downs = λ n i o. clash (member n (activeIn r shrinking)) i o;
     ups = λ n i o. clash (member n (activeIn r growing)) i o;
