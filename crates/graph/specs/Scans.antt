@@ -8,7 +8,7 @@ use lib.ListN.{length, getD}
 use Rattle.graph.specs.Basic.{all, distinct, same}
 use Rattle.graph.specs.State.{State, Overgrown, vertexCount, sideCount, sidesAt, virtualAt, defectAt, holderAt, vertexHolderAt, vertexGrandsonAt, classOf, growStateOf, dualOf, overgrownOf}
 use Rattle.graph.specs.Open.{dualLimit, sidesOf}
-use Rattle.graph.specs.Sound.{nodeOrNone, classSound, parentSound}
+use Rattle.graph.specs.Sound.{nodeOrNone, classSound, parentSound, isRemoved}
 use Rattle.graph.specs.laws.SidesAt.{firstWord, lastWord}
 
 -- the numbers of vertex v
@@ -18,6 +18,10 @@ vertexNumbers c v = leb (virtualAt c v) 1 && leb (defectAt c v) 1 && nodeOrNone 
 -- the numbers of node n
 unfoldable pub nodeNumbers : State → ℕ → Bool
 nodeNumbers c n = classSound c n (classOf c n) && leb (growStateOf c n) 2 && parentSound c n && leb (dualOf c n) dualLimit
+
+-- node n is not removed
+unfoldable pub live : State → ℕ → Bool
+live c n = not (isRemoved (classOf c n))
 
 -- the sides at vertex v do not end before they begin
 unfoldable pub risesAt : List ℤ → ℕ → Bool

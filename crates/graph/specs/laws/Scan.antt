@@ -2,7 +2,7 @@
 use Prim.Native.Nat.{ℕ, zero, suc, _+_, _-_, _*_, _/_, _≤_, _<_}
 use native.Mathlib.Omega.{arith}
 use native.Mathlib.Numerals.{add-one}
-use native.Mathlib.Decide.{ℕ-discrete as decEq, decLt}
+use native.Mathlib.Decide.{ℕ-discrete as decEq}
 use mathlib.Core.Path.{_≡_, refl, sym, _∙_}
 use mathlib.Core.Logic.{_≢_}
 use mathlib.Core.Bool.{Bool, true, false, _&&_, _||_, not}
@@ -11,11 +11,12 @@ use lib.IntN.{ℤ}
 use lib.Dec.{eqb, leb, ltb}
 use lib.ListN.{length, getD, take}
 use lib.Seq.{take-suc, take-all, getD-take}
-use borrow.Author.Tests.{leb-true, lt-ltb, le-ltb, eq-eqb, ne-eqb}
+use borrow.Author.Tests.{leb-true, lt-ltb, eq-eqb, ne-eqb}
 use Rattle.graph.specs.Basic.{if_then_else_, allBelow, all}
 use Rattle.graph.specs.State.{State, defectVertex, blossom, removed, removedPlace, classOf, vertexCount, edgeCount, sideCount, nodeCount, endAt, parentOf, overgrownOf}
 use Rattle.graph.specs.Sound.{isDefect, isRemoved, edgeSound, vertexSound, classSound, overSound, ownLists, nodeSound}
 use Rattle.graph.specs.laws.State.{and-left, and-right, by-parity}
+use Rattle.graph.specs.laws.Class.{is-removed}
 use Rattle.graph.specs.laws.Members.{all-below-at, all-snoc}
 use Rattle.graph.specs.laws.Shape.{SoundEdge, edge-facts}
 use Rattle.graph.specs.Layout.{rowsOf, row, classFrom, stateFrom, stateOf}
@@ -136,18 +137,6 @@ is-defect v x = go (ltb x v) (eqb x (v + removedPlace))
     go false false = refl
 
 -- a node is a removed one where its class word is V + 1024
-is-removed : (v x : ℕ) → isRemoved (classFrom v x) ≡ eqb x (v + removedPlace)
-unfolding classFrom isRemoved
-is-removed v x =
-    elim (decLt x v) [
-      | yes h ↦ rw (lt-ltb x v h, ne-eqb x (v + 1024) (λ e. omega arith))
-      | no h ↦ rw (le-ltb x v (omega arith)) (go (eqb x (v + removedPlace)))
-    ]
-  where
-    go : (r : Bool) → isRemoved (if r then removed else blossom (x - v)) ≡ r
-    go true = refl
-    go false = refl
-
 pub removed-node : (b : List ℤ) (n : ℕ) → Laid b → n < nodeCount (stateOf b)
     → isRemoved (classOf (stateOf b) n) ≡ eqb (getD (row (rowsOf b) 11) n 0) (vertexCount (stateOf b) + removedPlace)
 removed-node b n q h = rw (class-get b n q h) (is-removed (vertexCount (stateOf b)) (getD (row (rowsOf b) 11) n 0))
