@@ -19,7 +19,7 @@ use Rattle.calls.specs.Calls.{Call, maxUpdateLength, advance, respond}
 use Rattle.calls.specs.Round.{prepareAll, round, groupLength}
 use Rattle.calls.specs.declared.group.GroupMaxUpdateLength.the-variants.{NonZeroGrow as groupFree, Refused as groupRefused}
 use Rattle.calls.specs.Remove.{isBlossom, removeRefusal, removeBlossom}
-use Rattle.calls.specs.laws.Remove.{remove-growth}
+use Rattle.calls.specs.laws.Remove.{remove-keeps}
 use Rattle.reachable.specs.laws.state.Live.{invariant-sound}
 use Rattle.reachable.specs.laws.remove.Answer.{MemberBack, Gone, opening-member, opening-gone, opening-done, opening-back, opening-refused-15}
 use Rattle.reachable.specs.laws.remove.Opening.{GivesBack}
@@ -63,7 +63,7 @@ preparation-passes = prepare-passes
 
 -- on every state: opening, refused or not, leaves the growth of every side
 pub opening-growth : (c : State) (n : ℕ) → removeBlossom c n .state .sides .growth ≡ c .sides .growth
-opening-growth = remove-growth
+opening-growth c n = remove-keeps c n .growth
 
 module _ (c : State) (r : Reachable c) where
   -- what is not refused before the preparation is opened
