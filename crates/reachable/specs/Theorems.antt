@@ -21,7 +21,7 @@ use Rattle.calls.specs.declared.group.GroupMaxUpdateLength.the-variants.{NonZer
 use Rattle.calls.specs.Remove.{isBlossom, removeRefusal, removeBlossom}
 use Rattle.calls.specs.laws.Remove.{remove-keeps}
 use Rattle.reachable.specs.laws.state.Live.{invariant-sound}
-use Rattle.reachable.specs.laws.remove.Answer.{MemberBack, Gone, opening-member, opening-gone, opening-done, opening-back, opening-refused-15}
+use Rattle.reachable.specs.laws.remove.Answer.{MemberOutermost, NumberRemoved, opening-member, opening-removed, opening-done, opening-back, opening-refused-15}
 use Rattle.reachable.specs.laws.remove.Opening.{GivesBack}
 use Rattle.reachable.specs.laws.remove.Stays.{isClear, stays-removed}
 use Rattle.reachable.specs.Reachable.{after, Reachable}
@@ -71,12 +71,12 @@ module _ (c : State) (r : Reachable c) where
   opening-accepted = opening-done c (reachable-past c r)
 
   -- then its members are outermost, each with its list, which it holds
-  pub opening-members : (n : ℕ) → removeRefusal c n ≡ 0 → (m : ℕ) → parentOf c m ≡ n + 1 → MemberBack c (removeBlossom c n .state) m
+  pub opening-members : (n : ℕ) → removeRefusal c n ≡ 0 → (m : ℕ) → parentOf c m ≡ n + 1 → MemberOutermost c (removeBlossom c n .state) m
   opening-members = opening-member c (reachable-past c r)
 
   -- its number still counts, names nothing and has no lists
-  pub opening-removes : (n : ℕ) → removeRefusal c n ≡ 0 → Gone c (removeBlossom c n .state) n
-  opening-removes = opening-gone c (reachable-past c r)
+  pub opening-removes : (n : ℕ) → removeRefusal c n ≡ 0 → NumberRemoved c (removeBlossom c n .state) n
+  opening-removes = opening-removed c (reachable-past c r)
 
   -- and every call but a clear leaves it so
   pub removed-stays : (n : ℕ) (k : Call) → isClear k ≡ false → classOf c n ≡ removed → classOf (respond c k .state) n ≡ removed

@@ -163,7 +163,7 @@ remove-past {log} c g n =
     unless-past (removeRefusal c n) c _ g
     (λ e.
     let o : Opens log (prepareNode c n down .state) n = opens c g n (remove-accepted c n e) in
-    rw (o .free) (o .opened))
+    rw (o .no-stop) (o .opened))
 
 -- ---- other grow states, another active list
 
