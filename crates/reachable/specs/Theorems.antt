@@ -46,7 +46,9 @@ reachable-sound c r = invariant-sound (reachable-invariant c r)
 -- calls among them
 pub calls-sound : (v e n l : ℕ) (edges : List Edge) (virtuals : List ℕ) (fits : Bool) → openRefusal v e n l edges virtuals fits ≡ 0
     → (ks : List Call) → stateSound (after (opened v n l edges virtuals) ks) ≡ true
-calls-sound v e n l edges virtuals fits h ks = invariant-sound (after-past (opened v n l edges virtuals) (opened-past {log = λ i. opened v n l edges virtuals} v e n l edges virtuals fits h) ks .invariant)
+calls-sound v e n l edges virtuals fits h ks =
+    invariant-sound
+    (after-past (opened v n l edges virtuals) (opened-past {log = λ i. opened v n l edges virtuals} v e n l edges virtuals fits h) ks .invariant)
 
 -- ---- preparation, on every sound state
 

@@ -25,7 +25,14 @@ withStates c x l = record {
   graph = c .graph;
   vertices = c .vertices;
   sides = c .sides;
-  nodes = record { class = c .nodes .class; growState = x; parent = c .nodes .parent; dual = c .nodes .dual; boundary = c .nodes .boundary; overgrown = c .nodes .overgrown };
+  nodes = record {
+    class = c .nodes .class;
+    growState = x;
+    parent = c .nodes .parent;
+    dual = c .nodes .dual;
+    boundary = c .nodes .boundary;
+    overgrown = c .nodes .overgrown;
+  };
   nodeLimit = c .nodeLimit;
   storeLimit = c .storeLimit;
   active = l;
@@ -50,7 +57,8 @@ pub sound-clusters-of : {c : State} → Invariant c → SoundClusters c
 sound-clusters-of g = record { shape = g .shape; one = g .one; sounds = g .sounds; labels = g .labels; clusters = g .clusters; fits = g .fits; live = g .live }
 
 -- the list l instead: nodes, each once, and every node that is not in Stay
-pub active-invariant : (c : State) (l : List ℕ) → SoundClusters c → activeSound (withActive c l) ≡ true → ((n : ℕ) → n < nodeCount c → growStateOf c n ≢ stay → member n l ≡ true) → InnerStay c → Invariant (withActive c l)
+pub active-invariant : (c : State) (l : List ℕ) → SoundClusters c → activeSound (withActive c l) ≡ true
+    → ((n : ℕ) → n < nodeCount c → growStateOf c n ≢ stay → member n l ≡ true) → InnerStay c → Invariant (withActive c l)
 active-invariant c l g s f i = record {
   shape = shape-active c l (g .shape);
   one = unfold withActive in (g .one);
@@ -63,7 +71,8 @@ active-invariant c l g s f i = record {
   inner-stay = unfold withActive in i;
 }
 
-pub join-invariant : (c : State) → SoundClusters c → (n : ℕ) → n < nodeCount c → ((m : ℕ) → m < nodeCount c → growStateOf c m ≢ stay → member m (joinedTo (c .active) n) ≡ true) → InnerStay c → Invariant (joinActive c n)
+pub join-invariant : (c : State) → SoundClusters c → (n : ℕ) → n < nodeCount c
+    → ((m : ℕ) → m < nodeCount c → growStateOf c m ≢ stay → member m (joinedTo (c .active) n) ≡ true) → InnerStay c → Invariant (joinActive c n)
 unfolding joinActive
 join-invariant c g n b f i = active-invariant c (joinedTo (c .active) n) g (unfold joinActive in (join-sound c n b (sound-active c (g .sounds)))) f i
 
@@ -84,7 +93,9 @@ activated-in c f n x b ne =
 
 pub renewed-invariant : (c : State) → Invariant c → Invariant (renewed c)
 unfolding renewed
-renewed-invariant c g = active-invariant c _ (sound-clusters-of g) (unfold renewed in (renewed-sound c (sound-active c (g .sounds)))) (unfold renewed withActive in (renewed-all c (g .active-all))) (g .inner-stay)
+renewed-invariant c g =
+    active-invariant c _ (sound-clusters-of g) (unfold renewed in (renewed-sound c (sound-active c (g .sounds))))
+    (unfold renewed withActive in (renewed-all c (g .active-all))) (g .inner-stay)
 
 -- who is not in Stay lies in no blossom
 pub active-outer : (c : State) → Invariant c → (n : ℕ) → n < nodeCount c → growStateOf c n ≢ stay → parentOf c n ≡ 0

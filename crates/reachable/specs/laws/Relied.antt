@@ -379,7 +379,8 @@ module _ (r : State) (g : Invariant r) (m : ℕ) where
         let fd' : Free d n = free-along (p .along) f in
         let out : member n ns ≡ false = distinct-head n ns w in
         let e : prepareNode d n up .state ≡ d = idle-up n ns d p f x out z (ups n i) in
-        let h : Among (0 ∷ 9 ∷ 12 ∷ []) (refusalOf (growToward d n up m .answer)) = toward-among (0 ∷ 9 ∷ 12 ∷ []) zero-met nine-met d n up m fd' (rw e (check-up n ns d p f x out z (ups n i))) in
+        let h : Among (0 ∷ 9 ∷ 12 ∷ []) (refusalOf (growToward d n up m .answer)) =
+        toward-among (0 ∷ 9 ∷ 12 ∷ []) zero-met nine-met d n up m fd' (rw e (check-up n ns d p f x out z (ups n i))) in
         next-among (0 ∷ 9 ∷ 12 ∷ []) (moving up m) d n ns Met
         (λ t ne q. rw q h)
         (λ ok. grow-all ns (growToward d n up m .state) (step-up n ns d p f x out z (ups n i) ok) (distinct-tail n ns w) (λ q j. k q (member-tail q n ns j)))
@@ -399,7 +400,8 @@ module _ (r : State) (g : Invariant r) (m : ℕ) where
         let out : member n ms ≡ false = distinct-head n ms w in
         let e : prepareNode d n down .state ≡ d = idle-down n ms ns d p f x out z (downs n i) in
         let y : growCheck d n down m ≡ 0 = check-down n ms ns d p f x out z (downs n i) in
-        let h : Among (0 ∷ 9 ∷ 12 ∷ []) (refusalOf (growToward d n down m .answer)) = toward-among (0 ∷ 9 ∷ 12 ∷ []) zero-met nine-met d n down m fd' (rw (e, y) zero-met) in
+        let h : Among (0 ∷ 9 ∷ 12 ∷ []) (refusalOf (growToward d n down m .answer)) =
+        toward-among (0 ∷ 9 ∷ 12 ∷ []) zero-met nine-met d n down m fd' (rw (e, y) zero-met) in
         next-among (0 ∷ 9 ∷ 12 ∷ []) (moving down m) d n ms (Drawn ns)
         (λ t ne q. (rw q h, λ v. absurd (ne v)))
         (λ ok. shrink-all ns ms (growToward d n down m .state) (step-down n ms ns d p f x out z (downs n i) ok) (distinct-tail n ms w) (λ q j. k q (member-tail q n ms j)))

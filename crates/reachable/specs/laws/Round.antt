@@ -50,7 +50,8 @@ node-among : (ks : List ℕ) → Among ks 0 → Among ks 9 → (c : State) (n : 
 unfolding nodeRefusal badNode inBlossom
 node-among ks z i c n short f = rw (lt-leb (nodeCount c) n (f .inside), f .live, eq-eqb (parentOf c n) 0 (f .outer)) (if-both (Among ks) short i z)
 
-pub prepare-among : (ks : List ℕ) → Among ks 0 → Among ks 9 → (c : State) (n d : ℕ) → ltb up d ≡ false → Free c n → Among ks (refusalOf (prepareDualNodeGrowth c n d .answer))
+pub prepare-among : (ks : List ℕ) → Among ks 0 → Among ks 9 → (c : State) (n d : ℕ) → ltb up d ≡ false → Free c n
+    → Among ks (refusalOf (prepareDualNodeGrowth c n d .answer))
 unfolding prepareDualNodeGrowth refusalOf
 prepare-among ks z i c n d u f =
     unless-among (Among ks) (nodeRefusal c n (ltb up d) (storeShort c (n ∷ []) 1)) c _ (rw u (node-among ks z i c n (storeShort c (n ∷ []) 1) f)) (λ e. z)
@@ -103,20 +104,24 @@ same-nodes : (c : State) → SameNodes c c
 same-nodes c = record { class = refl; growState = refl; parent = refl }
 
 prepared-nodes : (c : State) (n d : ℕ) → SameNodes c (prepareNode c n d .state)
-prepared-nodes c n d = let p : Passed n c (prepareNode c n d .state) = prepare-passed c n d in record { class = p .class; growState = p .growState; parent = p .parent }
+prepared-nodes c n d =
+    let p : Passed n c (prepareNode c n d .state) = prepare-passed c n d in record { class = p .class; growState = p .growState; parent = p .parent }
 
 pub prepare-along : (r c : State) (n d : ℕ) → Along r c → Along r (prepareDualNodeGrowth c n d .state)
 prepare-along r c n d a =
     along-by a (prepare-call-invariant c (a .invariant) n d)
     (unfold prepareDualNodeGrowth says in
-    (unless-cases (λ (x : Reply). SameNodes c (x .state)) (nodeRefusal c n (ltb up d) (storeShort c (n ∷ []) 1)) c _ (λ e. same-nodes c) (λ e. prepared-nodes c n d)))
+    (unless-cases (λ (x : Reply). SameNodes c (x .state)) (nodeRefusal c n (ltb up d) (storeShort c (n ∷ []) 1)) c _ (λ e. same-nodes c)
+    (λ e. prepared-nodes c n d)))
 
 pub toward-along : (r c : State) (n d l : ℕ) → Along r c → Along r (growToward c n d l .state)
 toward-along r c n d l a =
     along-by a (grow-toward-invariant c (a .invariant) n d l)
     (unfold growToward growPrepared says in
     (unless-cases (λ (x : Reply). SameNodes c (x .state)) (nodeRefusal c n false (storeShort c (n ∷ []) 1)) c _ (λ e. same-nodes c)
-    (λ e. unless-cases (λ (x : Reply). SameNodes c (x .state)) (growCheck (prepareNode c n d .state) n d l) (prepareNode c n d .state) _ (λ q. prepared-nodes c n d) (λ q. grown))))
+    (λ e.
+    unless-cases (λ (x : Reply). SameNodes c (x .state)) (growCheck (prepareNode c n d .state) n d l) (prepareNode c n d .state) _
+    (λ q. prepared-nodes c n d) (λ q. grown))))
   where
     grown : SameNodes c (growApply (prepareNode c n d .state) n d l)
     grown =
@@ -134,10 +139,14 @@ pub prepared-all-among : (c : State) → Invariant c → Along (renewed c) (prep
 unfolding preparedAll preparing member any
 prepared-all-among c g =
     turn-among (Along (renewed c)) (Among (0 ∷ 9 ∷ [])) (preparing down) (preparing up) c (λ d a. invariant-sound (a .invariant))
-    (λ d n m a.
-    (prepare-along (renewed c) d n down a, prepare-among (0 ∷ 9 ∷ []) refl refl d n down refl (free-along a (listed-free (renewed c) (renewed-invariant c g) shrinking n (λ z. omega arith) m))))
-    (λ d n m a.
-    (prepare-along (renewed c) d n up a, prepare-among (0 ∷ 9 ∷ []) refl refl d n up refl (free-along a (listed-free (renewed c) (renewed-invariant c g) growing n (λ z. omega arith) m))))
+    (λ d n m a. (
+      prepare-along (renewed c) d n down a,
+      prepare-among (0 ∷ 9 ∷ []) refl refl d n down refl (free-along a (listed-free (renewed c) (renewed-invariant c g) shrinking n (λ z. omega arith) m)),
+    ))
+    (λ d n m a. (
+      prepare-along (renewed c) d n up a,
+      prepare-among (0 ∷ 9 ∷ []) refl refl d n up refl (free-along a (listed-free (renewed c) (renewed-invariant c g) growing n (λ z. omega arith) m)),
+    ))
     (begin-along c g) refl
 
 check-among : (c : State) (n d l : ℕ) → Among (0 ∷ 9 ∷ 10 ∷ 11 ∷ 12 ∷ []) (growCheck c n d l)
@@ -153,8 +162,10 @@ unfolding movedAll moving member any
 moved-all-among c g l =
     turn-among (Along (renewed c)) (Among (0 ∷ 9 ∷ 10 ∷ 11 ∷ 12 ∷ [])) (moving down l) (moving up l) c (λ d a. invariant-sound (a .invariant))
     (λ d n m a.
-    let f : Free d n = free-along a (listed-free (renewed c) (renewed-invariant c g) shrinking n (λ z. omega arith) m) in
-    (toward-along (renewed c) d n down l a, toward-among (0 ∷ 9 ∷ 10 ∷ 11 ∷ 12 ∷ []) refl refl d n down l f (check-among (prepareNode d n down .state) n down l)))
+    let f : Free d n = free-along a (listed-free (renewed c) (renewed-invariant c g) shrinking n (λ z. omega arith) m) in (
+      toward-along (renewed c) d n down l a,
+      toward-among (0 ∷ 9 ∷ 10 ∷ 11 ∷ 12 ∷ []) refl refl d n down l f (check-among (prepareNode d n down .state) n down l),
+    ))
     (λ d n m a.
     let f : Free d n = free-along a (listed-free (renewed c) (renewed-invariant c g) growing n (λ z. omega arith) m) in
     (toward-along (renewed c) d n up l a, toward-among (0 ∷ 9 ∷ 10 ∷ 11 ∷ 12 ∷ []) refl refl d n up l f (check-among (prepareNode d n up .state) n up l)))

@@ -39,7 +39,8 @@ module _ {v : ℕ} {edges : List Edge} {virtuals : List ℕ} (r : Run v edges vi
 
   end-good : Invariant (end r)
   end-good =
-      after-past (start r) (opened-past {log = λ n. start r} v (r .edgeNumber) (r .nodeLimit) (r .storeLimit) edges virtuals (r .fits) (r .opening)) (r .calls) .invariant
+      after-past (start r) (opened-past {log = λ n. start r} v (r .edgeNumber) (r .nodeLimit) (r .storeLimit) edges virtuals (r .fits) (r .opening))
+      (r .calls) .invariant
 
   pub end-matches : Matches (graphOf v edges virtuals) (end r) (history r)
   end-matches = calls-match (graphOf v edges virtuals) (start r) [] start-good (unfold opened in (blank-matches (graphOf v edges virtuals) (r .nodeLimit) (r .storeLimit))) (r .calls) (r .withoutBlossoms)

@@ -121,7 +121,9 @@ module _ {v : ℕ} {edges : List Edge} {virtuals : List ℕ} (r : LentRun v edge
   first-whole = record {
     formed = subst Formed (sym first-words) (opened-formed v (r .edgeNumber) (r .nodeLimit) (r .storeLimit) edges virtuals fit passed);
     log = λ n. runStart r;
-    good = subst (PastInvariant (λ n. runStart r)) (sym first-state) (opened-past v (r .edgeNumber) (r .nodeLimit) (r .storeLimit) edges virtuals fit opening-accepted);
+    good =
+        subst (PastInvariant (λ n. runStart r)) (sym first-state)
+        (opened-past v (r .edgeNumber) (r .nodeLimit) (r .storeLimit) edges virtuals fit opening-accepted);
     edges-are = ap (λ (c : State). edgeCount c) first-state ∙ opened-edges;
     nodes-are = ap (λ (c : State). c .nodeLimit) first-state ∙ unfold opened blankState in refl;
     size = ap length first-words ∙ opened-length v (r .edgeNumber) (r .nodeLimit) (r .storeLimit) edges virtuals fit passed;

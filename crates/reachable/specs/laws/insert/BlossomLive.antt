@@ -22,7 +22,8 @@ head-member : (l : List ℕ) → 3 ≤ length l → member (getD l 0 0) l ≡ tr
 head-member [] h = absurd (omega arith)
 head-member (i ∷ l) h = member-head i l
 
-module _ (c : State) (x : ℕ) (circle : List ℕ) (ok : BlossomAccepted c x circle) (ready made : State) (prepared : CirclePreparing circle c ready []) (made-by : BlossomMade c x circle ready made) where
+module _ (c : State) (x : ℕ) (circle : List ℕ) (ok : BlossomAccepted c x circle) (ready made : State) (prepared : CirclePreparing circle c ready [])
+    (made-by : BlossomMade c x circle ready made) where
   count : nodeCount ready ≡ nodeCount c
   count = ap (λ (l : List ℕ). length l) (prepared .growState)
 
@@ -68,7 +69,8 @@ module _ (c : State) (x : ℕ) (circle : List ℕ) (ok : BlossomAccepted c x cir
         by-cases (decLt m (nodeCount c))
         (λ a.
         let r : isRemoved (classOf ready m) ≡ true = rw (made-by .class-old m a) at e in
-        let off : member m circle ≡ false = by-test (member m circle) (λ h. clash (isRemoved (classOf ready m)) r (rw (prepared .class) (ok .live m h))) (λ h. h) in
+        let off : member m circle ≡ false =
+        by-test (member m circle) (λ h. clash (isRemoved (classOf ready m)) r (rw (prepared .class) (ok .live m h))) (λ h. h) in
         let b : Emptied ready m = prepared .live .emptied m r in
         record {
           parent = made-by .parent-off m a off ∙ b .parent;

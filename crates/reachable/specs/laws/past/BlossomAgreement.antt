@@ -24,8 +24,8 @@ use Rattle.reachable.specs.laws.past.Still.{Apart}
 use Rattle.reachable.specs.laws.past.Tops.{top-inside}
 use Rattle.reachable.specs.laws.past.BlossomTops.{newTop, new-top-in, new-top-off, top-beyond, top-circle, in-new}
 
-module _ (c : State) (g : Invariant c) (x : ℕ) (circle : List ℕ) (ok : BlossomAccepted c x circle) (ready made : State) (prepared : CirclePreparing circle c ready [])
-    (made-by : BlossomMade c x circle ready made) (top : ℕ → ℕ) (tops : Tops (record { state = ready; labels = prepared .labels; top = top })) where
+module _ (c : State) (g : Invariant c) (x : ℕ) (circle : List ℕ) (ok : BlossomAccepted c x circle) (ready made : State)
+    (prepared : CirclePreparing circle c ready []) (made-by : BlossomMade c x circle ready made) (top : ℕ → ℕ) (tops : Tops (record { state = ready; labels = prepared .labels; top = top })) where
   abbrev before : Snapshot
   before = record { state = ready; labels = prepared .labels; top = top }
 
@@ -60,10 +60,13 @@ module _ (c : State) (g : Invariant c) (x : ℕ) (circle : List ℕ) (ok : Bloss
     in-c : (m : ℕ) → top m ≡ q → m < nodeCount c
     in-c m e = omega (arith, top-inside before (prepared .numbers .shape) tops m q (omega (arith, cs .count)) e, cs .count)
 
-    frame : (m : ℕ) → top m ≡ q → Frame (sideGraphOf (ready .graph)) (viewOf ready (prepared .labels)) (viewOf made (blossomLabels ready (prepared .labels) circle (nodeCount c))) m
+    frame : (m : ℕ) → top m ≡ q
+        → Frame (sideGraphOf (ready .graph)) (viewOf ready (prepared .labels)) (viewOf made (blossomLabels ready (prepared .labels) circle (nodeCount c))) m
     frame m e = record {
       holder = λ t h. made-by .side-off t (not-joined c g x circle ok ready made prepared made-by m (not-member m e) t h) ∙ h;
-      holder-back = λ t h. by-test (member t (joinedLists ready circle)) (λ y. absurd (omega (arith, made-by .side-in t y, in-c m e))) (λ y. sym (made-by .side-off t y) ∙ h);
+      holder-back = λ t h.
+          by-test (member t (joinedLists ready circle)) (λ y. absurd (omega (arith, made-by .side-in t y, in-c m e)))
+          (λ y. sym (made-by .side-off t y) ∙ h);
       vertexHolder = λ u h. vertex-holder-eq c g x circle ok ready made prepared made-by u ∙ h;
       vertex-holder-back = λ u h. sym (vertex-holder-eq c g x circle ok ready made prepared made-by u) ∙ h;
       growth = λ t h. growth-eq c g x circle ok ready made prepared made-by t;
@@ -109,7 +112,8 @@ module _ (c : State) (g : Invariant c) (x : ℕ) (circle : List ℕ) (ok : Bloss
   under-c : (m : ℕ) → Under after (nodeCount c) m → m < nodeCount c
   under-c m u = omega (arith, under-inside m u, cs .count)
 
-  new-side : (m t : ℕ) → Under after (nodeCount c) m → holderAt ready t ≡ m + 1 → (holderAt made t ≡ m + 1) ⊎ ((parentOf made m ≡ nodeCount c + 1) × (member t (boundaryOf made m) ≡ true))
+  new-side : (m t : ℕ) → Under after (nodeCount c) m → holderAt ready t ≡ m + 1
+      → (holderAt made t ≡ m + 1) ⊎ ((parentOf made m ≡ nodeCount c + 1) × (member t (boundaryOf made m) ≡ true))
   new-side m t u h =
       by-test (member t (joinedLists ready circle))
       (λ y.
@@ -128,7 +132,8 @@ module _ (c : State) (g : Invariant c) (x : ℕ) (circle : List ℕ) (ok : Bloss
   new-level m t e l =
       let i = of-new m e in
       let own : prepared .labels .owner (endAt ready t) ≡ m = tops .side t m (cs .boundary-held m (i .1) t (was-listed m t e l)) ∙ own-top m (i .1) in
-      rw (end-eq t, made-by .dual-old m (i .0), update-same (prepared .labels .base) (nodeCount c) (radiusSum ready (prepared .labels) circle)) (shifted-depth-in ready (prepared .labels) circle (nodeCount c) (endAt ready t) m own (i .1))
+      rw (end-eq t, made-by .dual-old m (i .0), update-same (prepared .labels .base) (nodeCount c) (radiusSum ready (prepared .labels) circle))
+      (shifted-depth-in ready (prepared .labels) circle (nodeCount c) (endAt ready t) m own (i .1))
 
   new-top-back : (m : ℕ) → parentOf made (top m) ≡ nodeCount c + 1 → newTop top circle (nodeCount c) m ≡ nodeCount c
   new-top-back m e = new-top-in top circle (nodeCount c) m (of-new (top m) e .1)
@@ -156,7 +161,9 @@ module _ (c : State) (g : Invariant c) (x : ℕ) (circle : List ℕ) (ok : Bloss
     vertex-back = λ m u y h. sym (vertex-holder-eq c g x circle ok ready made prepared made-by u) ∙ h;
     vertex-defect = λ m u y h. defect-eq c g x circle ok ready made prepared made-by u;
     side = new-side;
-    side-back = λ m t u h. by-test (member t (joinedLists ready circle)) (λ y. absurd (u .other (omega (arith, made-by .side-in t y)))) (λ y. sym (made-by .side-off t y) ∙ h);
+    side-back = λ m t u h.
+        by-test (member t (joinedLists ready circle)) (λ y. absurd (u .other (omega (arith, made-by .side-in t y))))
+        (λ y. sym (made-by .side-off t y) ∙ h);
     growth = λ m t u h. sym (growth-eq c g x circle ok ready made prepared made-by t);
     grandson = λ m t u h. sym (grandson-eq t);
     joined-grandson = λ m t e l. sym (grandson-eq t);

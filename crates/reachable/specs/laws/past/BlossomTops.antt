@@ -34,12 +34,13 @@ pub new-top-off : (top : ℕ → ℕ) (circle : List ℕ) (n m : ℕ) → member
 unfolding newTop
 new-top-off top circle n m e = rw e
 
-owner-top : (c : State) (k : Labels) (top : ℕ → ℕ) (circle : List ℕ) (n u m : ℕ) → k .owner u ≡ top m → blossomLabels c k circle n .owner u ≡ newTop top circle n m
+owner-top : (c : State) (k : Labels) (top : ℕ → ℕ) (circle : List ℕ) (n u m : ℕ) → k .owner u ≡ top m
+    → blossomLabels c k circle n .owner u ≡ newTop top circle n m
 unfolding newTop newOwner blossomLabels
 owner-top c k top circle n u m e = rw e
 
-module _ (c : State) (g : Invariant c) (x : ℕ) (circle : List ℕ) (ok : BlossomAccepted c x circle) (ready made : State) (prepared : CirclePreparing circle c ready [])
-    (made-by : BlossomMade c x circle ready made) (top : ℕ → ℕ) (tops : Tops (record { state = ready; labels = prepared .labels; top = top })) where
+module _ (c : State) (g : Invariant c) (x : ℕ) (circle : List ℕ) (ok : BlossomAccepted c x circle) (ready made : State)
+    (prepared : CirclePreparing circle c ready []) (made-by : BlossomMade c x circle ready made) (top : ℕ → ℕ) (tops : Tops (record { state = ready; labels = prepared .labels; top = top })) where
   abbrev pub before : Snapshot
   before = record { state = ready; labels = prepared .labels; top = top }
 
@@ -149,9 +150,12 @@ module _ (c : State) (g : Invariant c) (x : ℕ) (circle : List ℕ) (ok : Bloss
         by-test (member t (joinedLists ready circle))
         (λ h.
         let q : m ≡ nodeCount c = omega (arith, made-by .side-in t h) in
-        clusters .node (nodeCount c) new-inside (made-by .parent-new) .owner-side t (made-by .side-in t h) ∙ sym (new-beyond (nodeCount c) (omega arith)) ∙ ap (newTop top circle (nodeCount c)) (sym q))
+        clusters .node (nodeCount c) new-inside (made-by .parent-new) .owner-side t (made-by .side-in t h)
+        ∙ sym (new-beyond (nodeCount c) (omega arith)) ∙ ap (newTop top circle (nodeCount c)) (sym q))
         (λ h. rw (end-eq t) (owner-top ready (prepared .labels) top circle (nodeCount c) (endAt ready t) m (tops .side t m (sym (made-by .side-off t h) ∙ e))));
-    vertex = λ u m e. owner-top ready (prepared .labels) top circle (nodeCount c) u m (tops .vertex u m (sym (vertex-holder-eq c g x circle ok ready made prepared made-by u) ∙ e));
+    vertex = λ u m e.
+        owner-top ready (prepared .labels) top circle (nodeCount c) u m
+        (tops .vertex u m (sym (vertex-holder-eq c g x circle ok ready made prepared made-by u) ∙ e));
   }
 
   pub made-facts : Facts after

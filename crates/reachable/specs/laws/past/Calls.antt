@@ -70,12 +70,15 @@ blank-past g n l i = record {
   has-past = record {
     labels = initialLabels;
     top = λ m. m;
-    past = past (record { numbers = invariant-numbers i; clusters = blank-clusters g n l; tops = blank-tops g n l }) (λ q. record { state = blankState g n l; labels = initialLabels; top = λ m. m })
+    past =
+        past (record { numbers = invariant-numbers i; clusters = blank-clusters g n l; tops = blank-tops g n l })
+        (λ q. record { state = blankState g n l; labels = initialLabels; top = λ m. m })
         (λ q b. absurd (no-blossom g n l q b)) (λ q b. absurd (no-blossom g n l q b)) (λ q b. absurd (no-blossom g n l q b));
   };
 }
 
-pub opened-past : {log : ℕ → State} (v e n l : ℕ) (edges : List Edge) (virtuals : List ℕ) (fits : Bool) → openRefusal v e n l edges virtuals fits ≡ 0 → PastInvariant log (opened v n l edges virtuals)
+pub opened-past : {log : ℕ → State} (v e n l : ℕ) (edges : List Edge) (virtuals : List ℕ) (fits : Bool) → openRefusal v e n l edges virtuals fits ≡ 0
+    → PastInvariant log (opened v n l edges virtuals)
 unfolding opened
 opened-past v e n l edges virtuals fits h = blank-past _ n l (unfold opened in (opened-invariant v e n l edges virtuals fits h))
 
@@ -88,12 +91,14 @@ cleared-past c g = blank-past (c .graph) (c .nodeLimit) (c .storeLimit) (unfold 
 abbrev PastReply : (ℕ → State) → Reply → Type 0
 PastReply log r = PastInvariant log (r .state)
 
-unless-past : {log : ℕ → State} (k : ℕ) (c : State) (r : Reply) → PastInvariant log c → (k ≡ 0 → PastInvariant log (r .state)) → PastInvariant log (unless k c r .state)
+unless-past : {log : ℕ → State} (k : ℕ) (c : State) (r : Reply) → PastInvariant log c → (k ≡ 0 → PastInvariant log (r .state))
+    → PastInvariant log (unless k c r .state)
 unfolding says
 unless-past {log} k c r g f = unless-cases (PastReply log) k c r (λ e. g) f
 
 -- accepted preparation
-prepare-past : {log : ℕ → State} (c : State) → PastInvariant log c → (n d : ℕ) {wrong : Bool} → NodeAccepted c n wrong (storeShort c (n ∷ []) 1) → PastInvariant log (prepareNode c n d .state)
+prepare-past : {log : ℕ → State} (c : State) → PastInvariant log c → (n d : ℕ) {wrong : Bool} → NodeAccepted c n wrong (storeShort c (n ∷ []) 1)
+    → PastInvariant log (prepareNode c n d .state)
 prepare-past c s n d a = record {
   invariant = prepare-invariant c n d (s .invariant) (a .inside) (a .live) (a .outer) (a .room);
   has-past = prepare-has-past c (s .has-past) n d (a .inside) (a .outer);
@@ -101,10 +106,13 @@ prepare-past c s n d a = record {
 
 prepare-call-past : {log : ℕ → State} (c : State) → PastInvariant log c → (n d : ℕ) → PastInvariant log (prepareDualNodeGrowth c n d .state)
 unfolding prepareDualNodeGrowth
-prepare-call-past c g n d = unless-past (nodeRefusal c n (ltb up d) (storeShort c (n ∷ []) 1)) c _ g (λ e. prepare-past c g n d (node-accepted c n (ltb up d) (storeShort c (n ∷ []) 1) e))
+prepare-call-past c g n d =
+    unless-past (nodeRefusal c n (ltb up d) (storeShort c (n ∷ []) 1)) c _ g
+    (λ e. prepare-past c g n d (node-accepted c n (ltb up d) (storeShort c (n ∷ []) 1) e))
 
 -- accepted growth
-growth-past : {log : ℕ → State} (c : State) → PastInvariant log c → (n d l : ℕ) → n < nodeCount c → isRemoved (classOf c n) ≡ false → parentOf c n ≡ 0 → growCheck c n d l ≡ 0
+growth-past : {log : ℕ → State} (c : State) → PastInvariant log c → (n d l : ℕ) → n < nodeCount c → isRemoved (classOf c n) ≡ false → parentOf c n ≡ 0
+    → growCheck c n d l ≡ 0
     → PastInvariant log (growApply c n d l)
 growth-past c s n d l b live o ok =
     let g : Invariant (growApply c n d l) = growth-invariant c (s .invariant) n d l b live o ok in
@@ -131,7 +139,8 @@ length-past : {log : ℕ → State} (c : State) → PastInvariant log c → (n d
 unfolding maxUpdateLength readied
 length-past c g n d false = unless-past (nodeRefusal c n (ltb up d) (false && storeShort c (n ∷ []) 1)) c _ g (λ e. g)
 length-past c g n d true =
-    unless-past (nodeRefusal c n (ltb up d) (true && storeShort c (n ∷ []) 1)) c _ g (λ e. prepare-past c g n d (node-accepted c n (ltb up d) (storeShort c (n ∷ []) 1) e))
+    unless-past (nodeRefusal c n (ltb up d) (true && storeShort c (n ∷ []) 1)) c _ g
+    (λ e. prepare-past c g n d (node-accepted c n (ltb up d) (storeShort c (n ∷ []) 1) e))
 
 follow-past : {log : ℕ → State} (c : State) → PastInvariant log c → (n x : ℕ) (a : Answer) → PastInvariant log (follow c n x a .state)
 unfolding follow says
@@ -154,7 +163,8 @@ advance-past {log} c g n =
     unless-past (nodeRefusal c n false false) c _ g
     (λ e.
     if-both (PastReply log) (eqb (growStateOf c n) stay) g
-    (follow-past (maxUpdateLength c n (toward (growStateOf c n)) true .state) (length-past c g n (toward (growStateOf c n)) true) n (growStateOf c n) (maxUpdateLength c n (toward (growStateOf c n)) true .answer)))
+    (follow-past (maxUpdateLength c n (toward (growStateOf c n)) true .state) (length-past c g n (toward (growStateOf c n)) true) n (growStateOf c n)
+    (maxUpdateLength c n (toward (growStateOf c n)) true .answer)))
 
 -- opening a blossom, refused or not
 pub remove-past : {log : ℕ → State} (c : State) → PastInvariant log c → (n : ℕ) → PastInvariant log (removeBlossom c n .state)
@@ -179,10 +189,12 @@ joined-past : {log : ℕ → State} (c : State) → HasPast log c → (n : ℕ) 
 unfolding joinActive
 joined-past c h n i = active-past c h _ i
 
-set-past : {log : ℕ → State} (c : State) → PastInvariant log c → (n x : ℕ) → NodeAccepted c n (ltb shrinking x) false → PastInvariant log (withGrowState (activated c n x) n x)
+set-past : {log : ℕ → State} (c : State) → PastInvariant log c → (n x : ℕ) → NodeAccepted c n (ltb shrinking x) false
+    → PastInvariant log (withGrowState (activated c n x) n x)
 unfolding activated withActive withGrowState withNodes
 set-past c s n x a =
-    let i : Invariant (withGrowState (activated c n x) n x) = set-invariant c (s .invariant) n x (a .inside) (a .live) (a .outer) (ltb-false shrinking x (a .right)) in
+    let i : Invariant (withGrowState (activated c n x) n x) =
+    set-invariant c (s .invariant) n x (a .inside) (a .live) (a .outer) (ltb-false shrinking x (a .right)) in
     record { invariant = i; has-past = states-has-past c (s .has-past) _ _ (length-set (c .nodes .growState) n x) (invariant-numbers i) }
 
 -- ---- all clusters at once
@@ -190,12 +202,14 @@ set-past c s n x a =
 prepared-all-past : {log : ℕ → State} (c : State) → PastInvariant log c → PastInvariant log (preparedAll c .state)
 unfolding preparedAll preparing
 prepared-all-past {log} c s =
-    turn-keeps (PastInvariant log) (preparing down) (preparing up) (λ d n h. prepare-call-past d h n down) (λ d n h. prepare-call-past d h n up) c (renewed-past c s)
+    turn-keeps (PastInvariant log) (preparing down) (preparing up) (λ d n h. prepare-call-past d h n down) (λ d n h. prepare-call-past d h n up) c
+    (renewed-past c s)
 
 moved-all-past : {log : ℕ → State} (c : State) → PastInvariant log c → (l : ℕ) → PastInvariant log (movedAll l c .state)
 unfolding movedAll moving
 moved-all-past {log} c s l =
-    turn-keeps (PastInvariant log) (moving down l) (moving up l) (λ d n h. grow-toward-past d h n down l) (λ d n h. grow-toward-past d h n up l) c (renewed-past c s)
+    turn-keeps (PastInvariant log) (moving down l) (moving up l) (λ d n h. grow-toward-past d h n down l) (λ d n h. grow-toward-past d h n up l) c
+    (renewed-past c s)
 
 group-past : {log : ℕ → State} (c : State) → PastInvariant log c → PastInvariant log (groupLength c .state)
 unfolding groupLength
@@ -235,7 +249,9 @@ insert-past c s x circle =
     by-test (eqb (blossomRefusal c x circle) 0)
     (λ e.
     let ok = blossom-accepted c x circle (eqb-true _ _ e) in
-    rw e (joined-past (blossomPut c x circle) (blossom-has-past c (s .invariant) (s .has-past) x circle ok) (nodeCount c) (blossom-invariant c (s .invariant) x circle ok)))
+    rw e
+    (joined-past (blossomPut c x circle) (blossom-has-past c (s .invariant) (s .has-past) x circle ok) (nodeCount c)
+    (blossom-invariant c (s .invariant) x circle ok)))
     (λ e. rw e s)
 
 pub call-past : {log : ℕ → State} (c : State) → PastInvariant log c → (k : Call) → PastInvariant (logged c k log) (respond c k .state)
@@ -246,7 +262,8 @@ call-past c s (InsertDefect v x) =
     let ok = defect-accepted c v x e in
     joined-past (defectPut c v x) (defect-has-past c (s .invariant) (s .has-past) v x ok) (nodeCount c) (defect-invariant c (s .invariant) v x ok))
 call-past c s (InsertBlossom x circle) = insert-past c s x circle
-call-past c s (SetGrowState n x) = unless-past (nodeRefusal c n (ltb shrinking x) false) c _ s (λ e. set-past c s n x (node-accepted c n (ltb shrinking x) false e))
+call-past c s (SetGrowState n x) =
+    unless-past (nodeRefusal c n (ltb shrinking x) false) c _ s (λ e. set-past c s n x (node-accepted c n (ltb shrinking x) false e))
 call-past c s (Prepare n d) = prepare-call-past c s n d
 call-past c s (MaxUpdateLength n d first) = length-past c s n d first
 call-past c s (Grow n l) = grow-past c s n l
@@ -275,7 +292,9 @@ after-past c g (k ∷ ks) = after-past (respond c k .state) (call-past c g k) ks
 
 -- the log of a reachable state: what its calls joined
 unfoldable pub logOf : (c : State) → Reachable c → ℕ → State
-logOf c r = afterLog (opened (r .vertices) (r .nodes) (r .store) (r .edges) (r .virtuals)) (r .calls) (λ n. opened (r .vertices) (r .nodes) (r .store) (r .edges) (r .virtuals))
+logOf c r =
+    afterLog (opened (r .vertices) (r .nodes) (r .store) (r .edges) (r .virtuals)) (r .calls)
+    (λ n. opened (r .vertices) (r .nodes) (r .store) (r .edges) (r .virtuals))
 
 pub reachable-past : (c : State) (r : Reachable c) → PastInvariant (logOf c r) c
 unfolding logOf

@@ -11,7 +11,8 @@ use Rattle.reachable.specs.laws.prepare.Since.{frame-refl}
 use Rattle.reachable.specs.laws.Active.{withStates, states-clusters}
 use Rattle.reachable.specs.laws.past.Still.{agreement-still, Apart, apart-still}
 
-module _ (c : State) (k : Labels) (top : ℕ → ℕ) (f : Facts (record { state = c; labels = k; top = top })) (x l : List ℕ) (e : length x ≡ nodeCount c) (numbers : SoundNumbers (withStates c x l)) where
+module _ (c : State) (k : Labels) (top : ℕ → ℕ) (f : Facts (record { state = c; labels = k; top = top })) (x l : List ℕ) (e : length x ≡ nodeCount c)
+    (numbers : SoundNumbers (withStates c x l)) where
   abbrev before : Snapshot
   before = record { state = c; labels = k; top = top }
 
@@ -19,7 +20,14 @@ module _ (c : State) (k : Labels) (top : ℕ → ℕ) (f : Facts (record { state
   after = record { state = withStates c x l; labels = k; top = top }
 
   tops-after : Tops after
-  tops-after = record { outer = f .tops .outer; inner = f .tops .inner; over = f .tops .over; inside = λ m b. rw e (f .tops .inside m (rw e at b)); side = f .tops .side; vertex = f .tops .vertex }
+  tops-after = record {
+    outer = f .tops .outer;
+    inner = f .tops .inner;
+    over = f .tops .over;
+    inside = λ m b. rw e (f .tops .inside m (rw e at b));
+    side = f .tops .side;
+    vertex = f .tops .vertex;
+  }
 
   facts-after : Facts after
   facts-after = record { numbers = numbers; clusters = states-clusters c x l k e (f .clusters); tops = tops-after }
@@ -45,17 +53,22 @@ module _ (c : State) (k : Labels) (top : ℕ → ℕ) (f : Facts (record { state
   blossom-before : (q : ℕ) → OuterBlossom (withStates c x l) q → OuterBlossom c q
   blossom-before q o = record { inside = rw e at (o .inside); outer = o .outer; first = o .first; class = o .class }
 
-  pub states-past : {log : ℕ → State} (snap : ℕ → Snapshot) → ((q : ℕ) → OuterBlossom c q → Past log (snap q)) → ((q : ℕ) → OuterBlossom c q → Agreement before q (snap q))
+  pub states-past : {log : ℕ → State} (snap : ℕ → Snapshot) → ((q : ℕ) → OuterBlossom c q → Past log (snap q))
+      → ((q : ℕ) → OuterBlossom c q → Agreement before q (snap q))
       → ((q : ℕ) → OuterBlossom c q → snap q .state ≡ log q) → Past log after
   states-past snap w a h =
       past facts-after snap
       (λ q o. w q (blossom-before q o))
-      (λ q o. agreement-still before after q (snap q) (a q (blossom-before q o)) (f .tops) tops-after (f .clusters .global) (apart-still before after q (f .tops) (apart q (blossom-before q o .outer))))
+      (λ q o.
+      agreement-still before after q (snap q) (a q (blossom-before q o)) (f .tops) tops-after (f .clusters .global)
+      (apart-still before after q (f .tops) (apart q (blossom-before q o .outer))))
       (λ q o. h q (blossom-before q o))
 
-past-states : {log : ℕ → State} (c : State) (k : Labels) (top : ℕ → ℕ) → Past log (record { state = c; labels = k; top = top }) → (x l : List ℕ) → length x ≡ nodeCount c
+past-states : {log : ℕ → State} (c : State) (k : Labels) (top : ℕ → ℕ) → Past log (record { state = c; labels = k; top = top }) → (x l : List ℕ)
+    → length x ≡ nodeCount c
     → SoundNumbers (withStates c x l) → Past log (record { state = withStates c x l; labels = k; top = top })
 past-states c k top (past f snap w a h) x l e z = states-past c k top f x l e z snap w a h
 
-pub states-has-past : {log : ℕ → State} (c : State) → HasPast log c → (x l : List ℕ) → length x ≡ nodeCount c → SoundNumbers (withStates c x l) → HasPast log (withStates c x l)
+pub states-has-past : {log : ℕ → State} (c : State) → HasPast log c → (x l : List ℕ) → length x ≡ nodeCount c → SoundNumbers (withStates c x l)
+    → HasPast log (withStates c x l)
 states-has-past c p x l e z = record { labels = p .labels; top = p .top; past = past-states c (p .labels) (p .top) (p .past) x l e z }

@@ -43,5 +43,6 @@ pub record Since (n : ℕ) (b : State) (i : Labels) (c : State) (k : Labels) : T
 pub since-none : (n : ℕ) (b : State) (i : Labels) → Since n b i b i
 since-none n b i = record { graph = refl; frame = λ m e. frame-refl; base = refl }
 
-pub since-more : (n : ℕ) (b : State) (i : Labels) (c : State) (k : Labels) (d : State) (z : Labels) → Since n b i c k → d .graph ≡ c .graph → ((m : ℕ) → m ≢ n → Frame (sideGraphOf (c .graph)) (viewOf c k) (viewOf d z) m) → z .base ≡ k .base → Since n b i d z
+pub since-more : (n : ℕ) (b : State) (i : Labels) (c : State) (k : Labels) (d : State) (z : Labels) → Since n b i c k → d .graph ≡ c .graph
+    → ((m : ℕ) → m ≢ n → Frame (sideGraphOf (c .graph)) (viewOf c k) (viewOf d z) m) → z .base ≡ k .base → Since n b i d z
 since-more n b i c k d z s g f e = record { graph = g ∙ s .graph; frame = λ m ne. frame-trans (s .frame m ne) (rw (s .graph) at (f m ne)); base = e ∙ s .base }
