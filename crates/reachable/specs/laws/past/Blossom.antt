@@ -49,7 +49,8 @@ unfolding joinLog
 join-log-off log n z q e = rw (ne-eqb q n e)
 
 module _ (c : State) (g : Invariant c) (x : ℕ) (circle : List ℕ) (ok : BlossomAccepted c x circle) (ready made : State)
-    (prepared : CirclePreparing circle c ready []) (made-by : BlossomMade c x circle ready made) (top : ℕ → ℕ) (tops : Tops (record { state = ready; labels = prepared .labels; top = top })) where
+    (prepared : CirclePreparing circle c ready []) (made-by : BlossomMade c x circle ready made) (top : ℕ → ℕ)
+    (tops : Tops (record { state = ready; labels = prepared .labels; top = top })) where
   abbrev before : Snapshot
   before = record { state = ready; labels = prepared .labels; top = top }
 
@@ -112,8 +113,10 @@ module _ (c : State) (g : Invariant c) (x : ℕ) (circle : List ℕ) (ok : Bloss
       off q b = join-log-off log (nodeCount c) ready q (λ e. omega arith)
 
 past-by : {log : ℕ → State} (c : State) (g : Invariant c) (x : ℕ) (circle : List ℕ) (ok : BlossomAccepted c x circle) (ready made : State)
-    (prepared : CirclePreparing circle c ready []) (made-by : BlossomMade c x circle ready made) (top : ℕ → ℕ) → Past log (record { state = ready; labels = prepared .labels; top = top })
-    → Past (joinLog log (nodeCount c) ready) (record { state = made; labels = blossomLabels ready (prepared .labels) circle (nodeCount c); top = newTop top circle (nodeCount c) })
+    (prepared : CirclePreparing circle c ready []) (made-by : BlossomMade c x circle ready made) (top : ℕ → ℕ)
+    → Past log (record { state = ready; labels = prepared .labels; top = top })
+    → Past (joinLog log (nodeCount c) ready)
+    (record { state = made; labels = blossomLabels ready (prepared .labels) circle (nodeCount c); top = newTop top circle (nodeCount c) })
 past-by c g x circle ok ready made prepared made-by top (past f snap l a e) =
     blossom-past c g x circle ok ready made prepared made-by top (f .tops) (past f snap l a e) snap l a e
 

@@ -25,7 +25,8 @@ use Rattle.reachable.specs.laws.past.Tops.{top-inside}
 use Rattle.reachable.specs.laws.past.BlossomTops.{newTop, new-top-in, new-top-off, top-beyond, top-circle, in-new}
 
 module _ (c : State) (g : Invariant c) (x : ℕ) (circle : List ℕ) (ok : BlossomAccepted c x circle) (ready made : State)
-    (prepared : CirclePreparing circle c ready []) (made-by : BlossomMade c x circle ready made) (top : ℕ → ℕ) (tops : Tops (record { state = ready; labels = prepared .labels; top = top })) where
+    (prepared : CirclePreparing circle c ready []) (made-by : BlossomMade c x circle ready made) (top : ℕ → ℕ)
+    (tops : Tops (record { state = ready; labels = prepared .labels; top = top })) where
   abbrev before : Snapshot
   before = record { state = ready; labels = prepared .labels; top = top }
 
@@ -127,7 +128,8 @@ module _ (c : State) (g : Invariant c) (x : ℕ) (circle : List ℕ) (ok : Bloss
   was-listed m t e l = rw (made-by .boundary-old m (of-new m e .0)) at l
 
   new-level : (m t : ℕ) → parentOf made m ≡ nodeCount c + 1 → member t (boundaryOf made m) ≡ true
-      → blossomLabels ready (prepared .labels) circle (nodeCount c) .depth (endAt made t) + (prepared .labels .base m + dualOf made m) ≡ prepared .labels .depth (endAt made t) + blossomLabels ready (prepared .labels) circle (nodeCount c) .base (nodeCount c)
+      → blossomLabels ready (prepared .labels) circle (nodeCount c) .depth (endAt made t) + (prepared .labels .base m + dualOf made m)
+      ≡ prepared .labels .depth (endAt made t) + blossomLabels ready (prepared .labels) circle (nodeCount c) .base (nodeCount c)
   unfolding blossomLabels radiusOf
   new-level m t e l =
       let i = of-new m e in

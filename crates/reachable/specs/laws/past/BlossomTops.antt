@@ -40,7 +40,8 @@ unfolding newTop newOwner blossomLabels
 owner-top c k top circle n u m e = rw e
 
 module _ (c : State) (g : Invariant c) (x : ℕ) (circle : List ℕ) (ok : BlossomAccepted c x circle) (ready made : State)
-    (prepared : CirclePreparing circle c ready []) (made-by : BlossomMade c x circle ready made) (top : ℕ → ℕ) (tops : Tops (record { state = ready; labels = prepared .labels; top = top })) where
+    (prepared : CirclePreparing circle c ready []) (made-by : BlossomMade c x circle ready made) (top : ℕ → ℕ)
+    (tops : Tops (record { state = ready; labels = prepared .labels; top = top })) where
   abbrev pub before : Snapshot
   before = record { state = ready; labels = prepared .labels; top = top }
 
