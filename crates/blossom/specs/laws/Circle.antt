@@ -21,7 +21,8 @@ use Rattle.graph.specs.Scans.{onceAll}
 use Rattle.graph.specs.laws.Form.{laid-shape, formed-vertices}
 use Rattle.graph.specs.laws.Used.{entries-within}
 use Rattle.graph.specs.laws.Members.{by-test, or-neither-right, all-from, member-at, member-head, member-tail, distinct-head, distinct-tail, distinct-length}
-use Rattle.graph.specs.laws.Stamp.{Stamped, stamped-none, stamped-more, stamped-fails, stamped-all}
+use Rattle.graph.specs.laws.Stamp.{stamped-none, stamped-more, stamped-fails, stamped-all}
+use Rattle.graph.specs.Scans.{Stamped}
 use Rattle.graph.specs.laws.Opened.{getD-zeros}
 use Rattle.pass.specs.Ready.{Shrinkable}
 use Rattle.pass.specs.laws.Ready.{sound-shrinkable}
