@@ -41,7 +41,7 @@ loop-again : tie.Need-loop-again Inv-loop μ-loop
 loop-again c = ?
 
 returns-2 : tie.Need-returns-2 Inv-loop μ-loop
-returns-2 c = let a = c .before .before .before .args in any-end (badNode (stateOf (a .b .now))) (map toNat (a .circle .now)) (c .before .loop .i) (c .before .loop .inv .1) (rw (length-map (a .circle .now) toNat) (omega arith))
+returns-2 c = let a = c .before .before .args in any-end (badNode (stateOf (a .b .now))) (map toNat (a .circle .now)) (c .before .loop .i) (c .before .loop .inv .1) (rw (length-map (a .circle .now) toNat) (omega arith))
 
 pub any-bad-spec : {M : Type 1} → statement M
 any-bad-spec =

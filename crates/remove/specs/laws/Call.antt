@@ -133,6 +133,6 @@ module _ {b t : List ℤ} (u : Usable b t) (n k : ℕ) (e : k ≡ removeRefusal 
 
       pub removal-done : {b'' : List ℤ} {a : Answer} → Replies b' b'' a (openPrepared (stateOf b') n) → Replies b b'' a (removeBlossom (stateOf b) n)
       unfolding removeBlossom
-      removal-done r =
-          rw (← e) (replies-accepted k z
-          (rw (p .block .state) at (record { answer = r .answer; block = becomes-then (p .block) (r .block) })))
+      removal-done {b''} {a} r =
+          let q : Replies b b'' a (openPrepared (stateOf b') n) = record { answer = r .answer; block = becomes-then (p .block) (r .block) } in
+          rw (← e) (replies-accepted k z (rw (p .block .state) at q))

@@ -13,12 +13,14 @@ use lib.Seq.{drop-length}
 use Rattle.graph.specs.Basic.{if_then_else_, fold, only, below}
 use Rattle.graph.specs.State.{State, Nodes, nodeCount, sideCount, parentOf, boundaryOf, overgrownOf, removed, withSides, withHolder, withParent, withClass, withGrowState}
 use Rattle.graph.specs.Form.{Formed, Becomes, sidesOk}
+use Rattle.graph.specs.Sound.{entries, entriesOf}
 use Rattle.graph.specs.Word.{numbersAt}
 use Rattle.graph.specs.Layout.{stackFrom, stateOf}
 use Rattle.graph.specs.Replace.{withLists}
 use Rattle.graph.specs.laws.State.{if-both, fold-keeps, fold-more, fold-done, fold-snoc}
 use Rattle.graph.specs.laws.Members.{by-test}
 use Rattle.graph.specs.laws.Row.{becomes-then, becomes-none}
+use Rattle.graph.specs.laws.Used.{entries-within}
 use Rattle.active_list.specs.laws.Renewal.{only-snoc}
 use Rattle.calls.specs.Remove.{membersOf, unheld, freeStep, returnStep, memberStep, removedNode, openedBlossom}
 use Rattle.calls.specs.laws.Remove.{one-rest, one-parent-off}
@@ -32,6 +34,10 @@ pub sides-in : {b₀ b : List ℤ} {d : State} → Becomes b₀ b d → stateOf 
 unfolding sidesOk
 sides-in p e f m h = rw (p .sides, e) (f m (omega (arith, p .nodes, h)))
 
+-- the entries fit the store, those of one node counted twice
+pub entries-fit : {b : List ℤ} → Formed b → (n : ℕ) → entries (stateOf b) + 0 ≤ stateOf b .storeLimit + entriesOf (stateOf b) n
+entries-fit {b} f n = omega (arith, entries-within b (f .laid) (f .listed))
+
 -- ---- the sides of one node get another holder
 
 abbrev holders : ℕ → State → List ℕ → State
@@ -40,6 +46,9 @@ holders x c l = fold (setHolder x) c l
 holders-nodes : (x : ℕ) (c : State) (l : List ℕ) → holders x c l .nodes ≡ c .nodes
 unfolding setHolder withHolder withSides
 holders-nodes x c l = fold-keeps (setHolder x) (λ (d : State). d .nodes ≡ c .nodes) (λ d s e. e) c l refl
+
+pub holders-lists : {b₀ b : List ℤ} (x : ℕ) (l : List ℕ) → Becomes b₀ b (fold (setHolder x) (stateOf b₀) l) → stateOf b .nodes .boundary ≡ stateOf b₀ .nodes .boundary
+holders-lists {b₀} x l p = ap (λ (c : State). c .nodes .boundary) (p .state) ∙ ap (λ (y : Nodes). y .boundary) (holders-nodes x (stateOf b₀) l)
 
 pub record HoldersSet (b₀ b : List ℤ) (n x i : ℕ) : Type 0 where
   pub block : Becomes b₀ b (fold (setHolder x) (stateOf b₀) (take i (boundaryOf (stateOf b₀) n)))
@@ -135,10 +144,10 @@ module _ {b₀ b : List ℤ} {n k : ℕ} (p : Returned b₀ b n k) where
 
 -- ---- the node itself
 
-pub node-removed : {b₀ b₁ b₂ b₃ t : List ℤ} (n : ℕ) → Becomes b₀ b₁ (withClass (stateOf b₀) n removed) → Becomes b₁ b₂ (withGrowState (stateOf b₁) n 0)
+pub node-removed : {b₀ b₁ b₂ b₃ : List ℤ} (t : List ℤ) (n : ℕ) → Becomes b₀ b₁ (withClass (stateOf b₀) n removed) → Becomes b₁ b₂ (withGrowState (stateOf b₁) n 0)
     → Becomes b₂ b₃ (withLists (stateOf b₂) n (numbersAt t 0 0) 0 (numbersAt t 0 0)) → Becomes b₀ b₃ (removedNode (stateOf b₀) n)
 unfolding removedNode withLists numbersAt stackFrom
-node-removed {b₀} {b₁} {b₂} {b₃} {t} n p q r =
+node-removed {b₀} {b₁} {b₂} {b₃} t n p q r =
     let d : State = withGrowState (withClass (stateOf b₀) n removed) n 0 in
     let e : stateOf b₂ ≡ d = q .state ∙ ap (λ (c : State). withGrowState c n 0) (p .state) in
     let z : length (overgrownOf d n) - 0 ≡ length (overgrownOf d n) = omega arith in
@@ -159,4 +168,6 @@ unfolding openedBlossom unheld freeStep setHolder
 blossom-opened {b₀} {b₁} {b₂} {b₃} n p q r =
     let y : stateOf b₁ .nodes ≡ stateOf b₀ .nodes = ap (λ (c : State). c .nodes) (p .state) ∙ holders-nodes 0 (stateOf b₀) (boundaryOf (stateOf b₀) n) in
     let e : membersOf (stateOf b₁) n ≡ membersOf (stateOf b₀) n = same-members (stateOf b₀) (stateOf b₁) n y in
-    becomes-then p (becomes-then q (subst (Becomes b₂ b₃) (ap (λ (c : State). removedNode c n) (q .state ∙ rw (p .state, e) refl)) r))
+    let w : stateOf b₂ ≡ fold memberStep (unheld (stateOf b₀) n) (membersOf (stateOf b₀) n) =
+    q .state ∙ ap (fold memberStep (stateOf b₁)) e ∙ ap (λ (c : State). fold memberStep c (membersOf (stateOf b₀) n)) (p .state) in
+    becomes-then p (becomes-then q (subst (Becomes b₂ b₃) (ap (λ (c : State). removedNode c n) w) r))

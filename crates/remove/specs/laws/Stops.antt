@@ -3,12 +3,12 @@ use Prim.Native.Nat.{ℕ, zero, suc, _+_, _≤_, _<_}
 use native.Mathlib.Decide.{ℕ-discrete as decEq}
 use native.Mathlib.Omega.{arith}
 use native.Mathlib.Numerals.{add-one}
-use mathlib.Core.Path.{_≡_, refl, sym, ap, _∙_}
+use mathlib.Core.Path.{_≡_, refl, sym, ap, _∙_, subst}
 use mathlib.Core.Logic.{_≢_}
 use mathlib.Core.Bool.{Bool, true, false, _&&_, _||_, not}
 use mathlib.Core.List.{List, [], _∷_, _++_, append-nil, append-assoc}
 use lib.Dec.{eqb, ltb}
-use lib.ListN.{length, getD, replicate, take, length-append, List·getD-append}
+use lib.ListN.{length, getD, set, replicate, take, length-append, List·getD-append}
 use lib.Seq.{take-all, getD-append-add}
 use borrow.Author.Tests.{eq-eqb, ne-eqb, ltb-true}
 use Rattle.graph.specs.Basic.{if_then_else_, all, any, member, only, below, distinct}
@@ -18,11 +18,13 @@ use Rattle.graph.specs.Scans.{onceAll, Carry, Stamped}
 use Rattle.graph.specs.laws.State.{and-left, and-right}
 use Rattle.graph.specs.laws.Members.{by-test, member-head, member-tail, all-append}
 use Rattle.graph.specs.laws.Opened.{getD-zeros}
+use Rattle.graph.specs.laws.Scan.{list-more, list-done, list-fails}
 use Rattle.graph.specs.laws.Shape.{Shape}
+use Rattle.graph.specs.laws.Stamp.{carry-more, stamped-none, stamped-more, stamped-all, stamped-fails}
 use Rattle.active_list.specs.laws.Renewal.{only-snoc}
 use Rattle.calls.specs.Remove.{membersOf, listsOf, unheld, stopsOpening}
 use Rattle.calls.specs.laws.Remove.{of-members, unheld-held}
-use Rattle.remove.specs.Stops.{SidesIn, isHeld, freeBy, memberLists, isMember, entriesBefore}
+use Rattle.remove.specs.Stops.{SidesIn, isHeld, freeBy, memberLists, isMember, entriesBefore, Met}
 
 not-both : (x y : Bool) → not x || not y ≡ not (x && y)
 not-both true y = refl
@@ -34,6 +36,34 @@ not-both false y = refl
 pub carry-none : (m : ℕ) (l : List ℕ) → Carry 1 l 0 (replicate m 0)
 unfolding member any
 carry-none m l x h = rw (getD-zeros m x)
+
+-- the first i sides of node n are held and marked, and no other side is marked
+pub record HeldTo (c : State) (n i : ℕ) (own : List ℕ) : Type 0 where
+  pub carries : Carry 1 (boundaryOf c n) i own
+  pub held : all (isHeld c) (take i (boundaryOf c n)) ≡ true
+
+pub held-none : (c : State) (n : ℕ) (own : List ℕ) → Carry 1 (boundaryOf c n) 0 own → HeldTo c n 0 own
+unfolding all
+held-none c n own k = record { carries = k; held = refl }
+
+module _ {c : State} {n i : ℕ} {own : List ℕ} (q : HeldTo c n i own) where
+  pub held-all-sides : length (boundaryOf c n) ≤ i → true ≡ all (isHeld c) (boundaryOf c n)
+  held-all-sides h = list-done (isHeld c) (boundaryOf c n) i h (q .held)
+
+  pub held-carries : i ≡ length (boundaryOf c n) → Carry 1 (boundaryOf c n) (length (boundaryOf c n)) own
+  held-carries e = rw e at (q .carries)
+
+  module _ (s : ℕ) (h : i < length (boundaryOf c n)) (e : s ≡ getD (boundaryOf c n) i 0) where
+    pub held-more : s < length own → holderAt c s ≢ 0 → HeldTo c n (i + 1) (set own s 1)
+    unfolding isHeld
+    held-more b ne = record {
+      carries = carry-more 1 (boundaryOf c n) i own s h e b (q .carries);
+      held = list-more (isHeld c) (boundaryOf c n) i 0 h (q .held) (rw (← e, ne-eqb (holderAt c s) 0 ne));
+    }
+
+    pub held-not : holderAt c s ≡ 0 → false ≡ all (isHeld c) (boundaryOf c n)
+    unfolding isHeld
+    held-not z = sym (list-fails (isHeld c) (boundaryOf c n) i 0 h (rw (← e, eq-eqb (holderAt c s) 0 z)))
 
 -- ---- the members' lists, one behind the other
 
@@ -47,7 +77,7 @@ unfolding listsOf
 lists-one c m = append-nil (boundaryOf c m)
 
 module _ (c : State) (n : ℕ) where
-  members-below : ℕ → List ℕ
+  abbrev members-below : ℕ → List ℕ
   members-below k = only (isMember c n) (below k)
 
   below-next : (m : ℕ) → members-below (m + 1) ≡ (if isMember c n m then members-below m ++ (m ∷ []) else members-below m)
@@ -92,11 +122,13 @@ module _ (c : State) (n : ℕ) where
   at-below m i zero h b l = absurd (omega arith)
   at-below m i (suc k) h b l =
       elim (decEq m k) [
-        | yes e ↦ rw (← e, ← add-one {n = m}) (at-own m i h b)
-        | no e ↦ rw (← add-one {n = k})
+        | yes e ↦ subst (At m i) (let z : m + 1 ≡ suc k = omega arith in z) (at-own m i h b)
+        | no e ↦ subst (At m i) (let z : k + 1 ≡ suc k = omega arith in z)
             (by-test (isMember c n k)
             (λ t. at-more m i k (boundaryOf c k) (lists-next k t) (at-below m i k h b (omega arith)))
-            (λ t. rw (below-next k ∙ rw t refl) (at-below m i k h b (omega arith))))
+            (λ t.
+            let z : members-below (k + 1) ≡ members-below k = rw (below-next k, t) in
+            rw z (at-below m i k h b (omega arith))))
       ]
 
   all-lists : listsOf c (members-below (nodeCount c)) ≡ memberLists c n
@@ -114,6 +146,30 @@ module _ (c : State) (n : ℕ) where
 
     pub entry-at : getD (boundaryOf c m) i 0 ≡ getD (memberLists c n) (entriesBefore c n m + i) 0
     entry-at = sym (rw all-lists at (at-below m i (nodeCount c) h b l .1))
+
+-- ---- entry after entry
+
+pub met-none : (c : State) (n : ℕ) (own : List ℕ) (k : ℕ) → Met c n own (entriesBefore c n 0) (replicate k 0)
+met-none c n own k = rw (before-none c n) (stamped-none 0 (freeBy c own) (memberLists c n) (replicate k 0) (λ x. omega (arith, getD-zeros k x)))
+
+pub met-other : (c : State) (n m : ℕ) (own met : List ℕ) → isMember c n m ≡ false → Met c n own (entriesBefore c n m) met → Met c n own (entriesBefore c n (m + 1)) met
+met-other c n m own met h q = rw (before-other c n m h) q
+
+pub met-all : (c : State) (n m : ℕ) (own met : List ℕ) → m ≡ nodeCount c → Met c n own (entriesBefore c n m) met → true ≡ onceAll (freeBy c own) (memberLists c n)
+met-all c n m own met e q = stamped-all 1 (freeBy c own) (memberLists c n) (entriesBefore c n m) met q (rw e (omega (arith, before-all c n)))
+
+module _ (c : State) (n m : ℕ) (own met : List ℕ) (h : isMember c n m ≡ true) (l : m < nodeCount c) where
+  pub met-list : (i : ℕ) → i ≡ length (boundaryOf c m) → Met c n own (entriesBefore c n m + i) met → Met c n own (entriesBefore c n (m + 1)) met
+  met-list i e q = rw (before-member c n m h, ← e) q
+
+  module _ (i s : ℕ) (q : Met c n own (entriesBefore c n m + i) met) (b : i < length (boundaryOf c m)) (e : s ≡ getD (boundaryOf c m) i 0) (small : s < length met) where
+    pub met-more : freeBy c own s && not (eqb (getD met s 0) 1) ≡ true → Met c n own (entriesBefore c n m + (i + 1)) (set met s 1)
+    met-more f =
+        let z : entriesBefore c n m + (i + 1) ≡ entriesBefore c n m + i + 1 = omega arith in
+        rw z (stamped-more 1 (freeBy c own) (memberLists c n) (entriesBefore c n m + i) met q s (entry-within c n m i h b l) (e ∙ entry-at c n m i h b l) small f)
+
+    pub met-fails : freeBy c own s && not (eqb (getD met s 0) 1) ≡ false → false ≡ onceAll (freeBy c own) (memberLists c n)
+    met-fails f = stamped-fails 1 (freeBy c own) (memberLists c n) (entriesBefore c n m + i) met q s (entry-within c n m i h b l) (e ∙ entry-at c n m i h b l) small f
 
 -- ---- a side that is free once those of the blossom are
 

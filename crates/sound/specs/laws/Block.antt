@@ -124,8 +124,9 @@ module _ (b : List ℤ) (s : sized b ≡ true) (h : blockSound b ≡ true) where
   pub block-sound : sound (stateOf b) ≡ true
   block-sound = parts-of b h .sound
 
-  pub block-sound-removed : soundRemoved (stateOf b) ≡ true
-  block-sound-removed = parts-of b h .removed
+  pub block-state-sound : stateSound (stateOf b) ≡ true
+  unfolding stateSound
+  block-state-sound = rw (parts-of b h .sound, parts-of b h .removed)
 
   -- the block is in form
   pub block-formed : Formed b
