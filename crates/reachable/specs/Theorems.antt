@@ -19,7 +19,7 @@ use Rattle.calls.specs.Calls.{Call, maxUpdateLength, advance, respond}
 use Rattle.calls.specs.Round.{prepareAll, round, groupLength}
 use Rattle.calls.specs.declared.group.GroupMaxUpdateLength.the-variants.{NonZeroGrow as groupFree, Refused as groupRefused}
 use Rattle.calls.specs.Remove.{isBlossom, removeRefusal, removeBlossom}
-use Rattle.calls.specs.laws.Remove.{remove-keeps}
+use Rattle.calls.specs.laws.RemoveCall.{remove-keeps}
 use Rattle.reachable.specs.laws.state.Live.{invariant-sound}
 use Rattle.reachable.specs.laws.remove.Answer.{MemberOutermost, NumberRemoved, opening-member, opening-removed, opening-done, opening-back, opening-refused-15}
 use Rattle.reachable.specs.laws.remove.Opening.{GivesBack}

@@ -22,6 +22,7 @@ pub mod past
 pub mod remove
 -- what follows
 pub mod Round
+pub mod TrialSteps
 pub mod Relied
 pub mod Group
 pub mod Asked

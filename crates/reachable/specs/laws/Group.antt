@@ -26,7 +26,8 @@ use Rattle.calls.specs.laws.Trial.{unless-among}
 use Rattle.reachable.specs.Invariant.{Invariant}
 use Rattle.reachable.specs.laws.Calls.{group-invariant}
 use Rattle.reachable.specs.laws.Round.{Among}
-use Rattle.reachable.specs.laws.Relied.{LongDown, zero-met, round-relied}
+use Rattle.reachable.specs.laws.TrialSteps.{zero-met}
+use Rattle.reachable.specs.laws.Relied.{LongDown, round-relied}
 
 -- the group leaves at least m
 unfoldable pub groupLong : ℕ → Group → Bool
