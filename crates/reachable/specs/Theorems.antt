@@ -21,14 +21,14 @@ use Rattle.calls.specs.declared.group.GroupMaxUpdateLength.the-variants.{NonZer
 use Rattle.calls.specs.Remove.{isBlossom, removeRefusal, removeBlossom}
 use Rattle.calls.specs.laws.RemoveCall.{remove-keeps}
 use Rattle.reachable.specs.laws.state.Live.{invariant-sound}
-use Rattle.reachable.specs.laws.remove.Answer.{MemberOutermost, NumberRemoved, opening-member, opening-removed, opening-done, opening-back, opening-refused-15}
-use Rattle.reachable.specs.laws.remove.Opening.{GivesBack}
-use Rattle.reachable.specs.laws.remove.Stays.{isClear, stays-removed}
+use Rattle.reachable.specs.laws.remove.Answer.{opening-member, opening-removed, opening-done, opening-back, opening-refused-15}
+use Rattle.reachable.specs.laws.remove.Stays.{stays-removed}
 use Rattle.reachable.specs.Reachable.{after, Reachable}
 use Rattle.reachable.specs.Passes.{Ends}
+use Rattle.reachable.specs.Opening.{logOf, MemberOutermost, NumberRemoved, GivesBack, isClear}
 use Rattle.reachable.specs.Invariant.{BoundaryHeld}
 use Rattle.reachable.specs.laws.prepare.Ends.{prepare-ends, prepare-passes}
-use Rattle.reachable.specs.laws.past.Calls.{logOf, opened-past, after-past, reachable-past, reachable-invariant}
+use Rattle.reachable.specs.laws.past.Calls.{opened-past, after-past, reachable-past, reachable-invariant}
 use Rattle.reachable.specs.laws.Length.{length-refusal, advance-refusal, not-thirteen}
 use Rattle.reachable.specs.laws.Active.{active-outer}
 use Rattle.reachable.specs.laws.GroupAnswer.{group-refused-nine, group-positive}
@@ -85,7 +85,7 @@ module _ (c : State) (r : Reachable c) where
   removed-stays n = stays-removed n c (reachable-past c r)
 
   -- then every node in it holds and lists what it did when the circle was joined (claim R)
-  pub opening-gives-back : (n : ℕ) → removeRefusal c n ≡ 0 → GivesBack (logOf c r n) (prepareNode c n down .state) n (removeBlossom c n .state)
+  pub opening-gives-back : (n : ℕ) → removeRefusal c n ≡ 0 → GivesBack (logOf c r n) c n (removeBlossom c n .state)
   opening-gives-back = opening-back c (reachable-past c r)
 
   -- so 15 says that the node is no blossom or its dual variable is above 0

@@ -24,7 +24,8 @@ none-from p [] g = refl
 none-from p (s ∷ l) g = rw (g s (member-head s l)) (none-from p l (λ t i. g t (member-tail t s l i)))
 
 -- a growth whose preparation changes nothing
-pub toward-idle : (c : State) (n d l : ℕ) → prepareNode c n d .state ≡ c → refusalOf (growToward c n d l .answer) ≡ 0 → growToward c n d l .state ≡ growApply c n d l
+pub toward-idle : (c : State) (n d l : ℕ) → prepareNode c n d .state ≡ c → refusalOf (growToward c n d l .answer) ≡ 0
+    → growToward c n d l .state ≡ growApply c n d l
 unfolding growToward growPrepared
 toward-idle c n d l e h =
     let b : State = prepareNode c n d .state in
