@@ -93,7 +93,26 @@ pub record GivesBack (earlier c : State) (n : ℕ) (d : State) : Type 0 where
   pub outer : (m : ℕ) → parentOf c m ≡ n + 1 → parentOf earlier m ≡ 0
   pub restored : (m : ℕ) → Inside c n m → Restored earlier d m
 
--- ---- which call ends a removed number
+-- ---- a removed number
+
+-- the call names node n
+unfoldable pub names : ℕ → Call → Bool
+names n (InsertBlossom x circle) = member n circle
+names n (SetGrowState m x) = eqb m n
+names n (Prepare m d) = eqb m n
+names n (MaxUpdateLength m d first) = eqb m n
+names n (Grow m l) = eqb m n
+names n (Advance m) = eqb m n
+names n (RepresentativeVertex m) = eqb m n
+names n (RemoveBlossom m) = eqb m n
+names n (InsertDefect v x) = false
+names n ReadTable = false
+names n Contacts = false
+names n Clear = false
+names n RenewActiveList = false
+names n PrepareAll = false
+names n GroupLength = false
+names n (Round l) = false
 
 unfoldable pub isClear : Call → Bool
 isClear Clear = true
