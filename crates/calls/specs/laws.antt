@@ -6,6 +6,7 @@ pub mod Read
 pub mod Readable
 pub mod Refuse
 pub mod Remove
+pub mod RemoveCall
 pub mod Replies
 pub mod Shapes
 pub mod Sounds

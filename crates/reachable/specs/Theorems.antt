@@ -14,21 +14,23 @@ use Rattle.graph.specs.laws.Shape.{Shape, sound-entries, sound-active}
 use Rattle.graph.specs.laws.Active.{active-once}
 use Rattle.pass.specs.Prepare.{prepareNode}
 use Rattle.length.specs.declared.Answer.the-variants.{Done, Refused}
+use Rattle.length.specs.Answer.{says}
 use Rattle.length.specs.laws.Long.{longAs}
-use Rattle.calls.specs.Calls.{Call, maxUpdateLength, advance, respond}
+use Rattle.calls.specs.Calls.{Call, maxUpdateLength, advance, response, respond}
 use Rattle.calls.specs.Round.{prepareAll, round, groupLength}
 use Rattle.calls.specs.declared.group.GroupMaxUpdateLength.the-variants.{NonZeroGrow as groupFree, Refused as groupRefused}
 use Rattle.calls.specs.Remove.{isBlossom, removeRefusal, removeBlossom}
-use Rattle.calls.specs.laws.Remove.{remove-keeps}
+use Rattle.calls.specs.laws.RemoveCall.{remove-keeps}
 use Rattle.reachable.specs.laws.state.Live.{invariant-sound}
-use Rattle.reachable.specs.laws.remove.Answer.{MemberOutermost, NumberRemoved, opening-member, opening-removed, opening-done, opening-back, opening-refused-15}
-use Rattle.reachable.specs.laws.remove.Opening.{GivesBack}
-use Rattle.reachable.specs.laws.remove.Stays.{isClear, stays-removed}
+use Rattle.reachable.specs.laws.remove.Answer.{opening-member, opening-removed, opening-done, opening-back, opening-refused-15}
+use Rattle.reachable.specs.laws.remove.Named.{named-refused}
+use Rattle.reachable.specs.laws.remove.Stays.{stays-removed}
 use Rattle.reachable.specs.Reachable.{after, Reachable}
 use Rattle.reachable.specs.Passes.{Ends}
+use Rattle.reachable.specs.Opening.{logOf, MemberOutermost, NumberRemoved, GivesBack, names, isClear}
 use Rattle.reachable.specs.Invariant.{BoundaryHeld}
 use Rattle.reachable.specs.laws.prepare.Ends.{prepare-ends, prepare-passes}
-use Rattle.reachable.specs.laws.past.Calls.{logOf, opened-past, after-past, reachable-past, reachable-invariant}
+use Rattle.reachable.specs.laws.past.Calls.{opened-past, after-past, reachable-past, reachable-invariant}
 use Rattle.reachable.specs.laws.Length.{length-refusal, advance-refusal, not-thirteen}
 use Rattle.reachable.specs.laws.Active.{active-outer}
 use Rattle.reachable.specs.laws.GroupAnswer.{group-refused-nine, group-positive}
@@ -67,6 +69,10 @@ preparation-passes = prepare-passes
 pub opening-growth : (c : State) (n : ℕ) → removeBlossom c n .state .sides .growth ≡ c .sides .growth
 opening-growth c n = remove-keeps c n .growth
 
+-- on every state: a call that names a removed node is refused 3 and changes nothing
+pub removed-refused-3 : (c : State) (n : ℕ) → classOf c n ≡ removed → (k : Call) → names n k ≡ true → respond c k ≡ response (says (Refused 3) c)
+removed-refused-3 = named-refused
+
 module _ (c : State) (r : Reachable c) where
   -- what is not refused before the preparation is opened
   pub opening-accepted : (n : ℕ) → removeRefusal c n ≡ 0 → removeBlossom c n .answer ≡ Done
@@ -85,7 +91,7 @@ module _ (c : State) (r : Reachable c) where
   removed-stays n = stays-removed n c (reachable-past c r)
 
   -- then every node in it holds and lists what it did when the circle was joined (claim R)
-  pub opening-gives-back : (n : ℕ) → removeRefusal c n ≡ 0 → GivesBack (logOf c r n) (prepareNode c n down .state) n (removeBlossom c n .state)
+  pub opening-gives-back : (n : ℕ) → removeRefusal c n ≡ 0 → GivesBack (logOf c r n) c n (removeBlossom c n .state)
   opening-gives-back = opening-back c (reachable-past c r)
 
   -- so 15 says that the node is no blossom or its dual variable is above 0

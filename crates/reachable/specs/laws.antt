@@ -17,11 +17,13 @@ pub mod Growth
 pub mod insert
 -- every call that opens no blossom
 pub mod Calls
+-- a trial over the active nodes
+pub mod Round
+pub mod TrialSteps
 -- what a state keeps of the past; a blossom opened; so every call, and every reachable state
 pub mod past
 pub mod remove
 -- what follows
-pub mod Round
 pub mod Relied
 pub mod Group
 pub mod Asked

@@ -39,7 +39,7 @@ use Rattle.reachable.specs.laws.prepare.Preparation.{PreparedDown, prepa
 use Rattle.reachable.specs.laws.prepare.Scan.{accepts, stop-accepts}
 use Rattle.reachable.specs.laws.Active.{renewed-invariant}
 use Rattle.reachable.specs.laws.Round.{Among, Along, prepare-along, Free, listed-free, free-along}
-use Rattle.reachable.specs.laws.Relied.{next-among, try-none}
+use Rattle.reachable.specs.laws.TrialSteps.{next-among, try-none}
 
 -- ---- answers that are no refusal, and whose length is above 0
 

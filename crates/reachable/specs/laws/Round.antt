@@ -1,12 +1,11 @@
 -- On a state with the invariant a trial meets only some refusals: never 2, 3 or 6.
-use Prim.Native.Nat.{ℕ, suc, _<_}
+use Prim.Native.Nat.{ℕ, _<_}
 use native.Mathlib.Omega.{arith}
 use native.Mathlib.Decide.{ℕ-discrete as decEq}
 use mathlib.Core.Path.{_≡_, refl, sym, ap, _∙_}
 use mathlib.Core.Logic.{_≢_, by-cases}
 use mathlib.Core.Bool.{Bool, true, false}
 use mathlib.Core.List.{List, [], _∷_}
-use lib.IntN.{pos}
 use lib.Dec.{eqb, ltb}
 use lib.ListN.{getD}
 use borrow.Author.Tests.{lt-leb, eq-eqb}
@@ -25,7 +24,7 @@ use Rattle.growth.specs.Growth.{passesWeight, passesLimit, fallsShort, growChec
 use Rattle.length.specs.Answer.{Reply, says}
 use Rattle.calls.specs.Refuse.{badNode, inBlossom, storeShort, nodeRefusal}
 use Rattle.calls.specs.Calls.{prepareDualNodeGrowth, growPrepared, growToward}
-use Rattle.calls.specs.Round.{refusalOf, tried, preparing, preparedAll, prepareAll, moving, movedAll, round}
+use Rattle.calls.specs.Round.{refusalOf, preparing, preparedAll, moving, movedAll}
 use Rattle.calls.specs.laws.Accepted.{unless-cases}
 use Rattle.calls.specs.laws.Sounds.{apply-applied, apply-states}
 use Rattle.calls.specs.laws.Trial.{turn-among, unless-among}
@@ -170,12 +169,3 @@ moved-all-among c g l =
     let f : Free d n = free-along a (listed-free (renewed c) (renewed-invariant c g) growing n (λ z. omega arith) m) in
     (toward-along (renewed c) d n up l a, toward-among (0 ∷ 9 ∷ 10 ∷ 11 ∷ 12 ∷ []) refl refl d n up l f (check-among (prepareNode d n up .state) n up l)))
     (begin-along c g) refl .1
-
--- as answers
-pub prepare-all-refusal : (c : State) → Invariant c → Among (0 ∷ 9 ∷ []) (refusalOf (prepareAll c .answer))
-unfolding prepareAll tried refusalOf member any
-prepare-all-refusal c g = unless-among (Among (0 ∷ 9 ∷ [])) (preparedAll c .refusal) c _ (prepared-all-among c g .1) (λ e. refl)
-
-pub round-refusal : (c : State) → Invariant c → (l : ℕ) → Among (0 ∷ 9 ∷ 10 ∷ 11 ∷ 12 ∷ []) (refusalOf (round c (pos (suc l)) .answer))
-unfolding round tried refusalOf member any
-round-refusal c g l = unless-among (Among (0 ∷ 9 ∷ 10 ∷ 11 ∷ 12 ∷ [])) (movedAll (suc l) c .refusal) c _ (moved-all-among c g (suc l)) (λ e. refl)

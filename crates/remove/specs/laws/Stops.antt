@@ -108,15 +108,17 @@ module _ (c : State) (n : ℕ) where
       × (getD (listsOf c (members-below k)) (entriesBefore c n m + i) 0 ≡ getD (boundaryOf c m) i 0)
 
   at-more : (m i k : ℕ) (l : List ℕ) → listsOf c (members-below (k + 1)) ≡ listsOf c (members-below k) ++ l → At m i k → At m i (k + 1)
-  at-more m i k l e a =
-      (rw (e, length-append (listsOf c (members-below k)) l) (omega (arith, a .0)),
-      rw e (List·getD-append (listsOf c (members-below k)) l 0 (entriesBefore c n m + i) (a .0) ∙ a .1))
+  at-more m i k l e a = (
+    rw (e, length-append (listsOf c (members-below k)) l) (omega (arith, a .0)),
+    rw e (List·getD-append (listsOf c (members-below k)) l 0 (entriesBefore c n m + i) (a .0) ∙ a .1),
+  )
 
   at-own : (m i : ℕ) → isMember c n m ≡ true → i < length (boundaryOf c m) → At m i (m + 1)
   unfolding entriesBefore
-  at-own m i h b =
-      (rw (lists-next m h, length-append (listsOf c (members-below m)) (boundaryOf c m)) (omega arith),
-      rw (lists-next m h) (getD-append-add (listsOf c (members-below m)) (boundaryOf c m) i 0))
+  at-own m i h b = (
+    rw (lists-next m h, length-append (listsOf c (members-below m)) (boundaryOf c m)) (omega arith),
+    rw (lists-next m h) (getD-append-add (listsOf c (members-below m)) (boundaryOf c m) i 0),
+  )
 
   at-below : (m i k : ℕ) → isMember c n m ≡ true → i < length (boundaryOf c m) → m < k → At m i k
   at-below m i zero h b l = absurd (omega arith)

@@ -22,7 +22,7 @@ use Rattle.calls.specs.Calls.{setGrowState, prepareDualNodeGrowth, maxUpdateLen
 use Rattle.graph.specs.Active.{joinActive, activated, renewed}
 use Rattle.calls.specs.Round.{renewActiveList, preparing, preparedAll, prepareAll, moving, movedAll, round, GroupReply, groupRefusal, groupLength}
 use Rattle.calls.specs.Remove.{removeBlossom}
-use Rattle.calls.specs.laws.Remove.{remove-keeps}
+use Rattle.calls.specs.laws.RemoveCall.{remove-keeps}
 use Rattle.calls.specs.laws.Trial.{turn-keeps, tried-keeps}
 use Rattle.calls.specs.laws.Accepted.{unless-cases}
 use Rattle.calls.specs.laws.Sounds.{apply-applied}

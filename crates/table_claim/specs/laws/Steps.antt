@@ -26,7 +26,8 @@ use Rattle.reachable.specs.Reachable.{after}
 use Rattle.graph.specs.Sound.{stateSound}
 use Rattle.reachable.specs.Past.{PastInvariant}
 use Rattle.reachable.specs.laws.state.Live.{invariant-sound}
-use Rattle.reachable.specs.laws.past.Calls.{afterLog, after-past}
+use Rattle.reachable.specs.laws.past.Calls.{after-past}
+use Rattle.reachable.specs.Opening.{afterLog}
 use Rattle.table.specs.laws.Kept.{Fixed, fixedOf, call-fixed}
 use Rattle.table.specs.laws.Append.{after-append}
 use Rattle.table_claim.specs.Lent.{LentCall, lentOpen, Step, open-refused, insert-defect, insert-blossom, set-grow-state, prepare, max-update-length, grow, read-table, advance, contacts, representative-vertex, clear}

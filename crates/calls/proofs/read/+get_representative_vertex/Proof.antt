@@ -39,8 +39,8 @@ vertex-count-requires :
       vertex-count-reads.Learnt,
       class-reads.Asked,
       class-reads.Learnt,
-  is-removed-reads.Asked,
-  is-removed-reads.Learnt,
+      is-removed-reads.Asked,
+      is-removed-reads.Learnt,
       below-number t,
       own.Post,
     ) (at-number t) own.Post
@@ -52,8 +52,8 @@ class-requires :
       vertex-count-reads.Learnt,
       class-reads.Asked,
       class-reads.Learnt,
-  is-removed-reads.Asked,
-  is-removed-reads.Learnt,
+      is-removed-reads.Asked,
+      is-removed-reads.Learnt,
       below-number t,
       own.Post,
     ) (at-number t) own.Post
@@ -78,8 +78,8 @@ walk-requires :
       vertex-count-reads.Learnt,
       class-reads.Asked,
       class-reads.Learnt,
-  is-removed-reads.Asked,
-  is-removed-reads.Learnt,
+      is-removed-reads.Asked,
+      is-removed-reads.Learnt,
       below-number t,
       own.Post,
     ) (at-number t) own.Post
@@ -143,8 +143,8 @@ pub +get-representative-vertex-spec : {M : Type 1} → statement M
       vertex-count-reads.Learnt,
       class-reads.Asked,
       class-reads.Learnt,
-  is-removed-reads.Asked,
-  is-removed-reads.Learnt,
+      is-removed-reads.Asked,
+      is-removed-reads.Learnt,
       below-number t,
       own.Post,
     )

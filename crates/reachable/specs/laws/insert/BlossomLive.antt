@@ -8,7 +8,7 @@ use mathlib.Core.Bool.{true, false}
 use mathlib.Core.List.{List, [], _∷_}
 use lib.ListN.{length, getD}
 use Rattle.graph.specs.Basic.{member}
-use Rattle.graph.specs.State.{State, Vertices, defectVertex, blossom, nodeCount, holderAt, vertexHolderAt, classOf, parentOf}
+use Rattle.graph.specs.State.{State, Vertices, defectVertex, blossom, nodeCount, classOf, parentOf}
 use Rattle.graph.specs.Sound.{isRemoved}
 use Rattle.graph.specs.laws.Members.{by-test, clash, member-head}
 use Rattle.calls.specs.laws.Accepted.{BlossomAccepted}

@@ -1,12 +1,12 @@
 -- A defect is inserted: removed nodes stay with nothing.
-use Prim.Native.Nat.{ℕ, _+_, _≤_, _<_}
+use Prim.Native.Nat.{ℕ, _+_, _≤_}
 use native.Mathlib.Omega.{arith}
 use native.Mathlib.Decide.{ℕ-discrete as decEq, decLt}
 use mathlib.Core.Path.{_≡_, sym, ap, _∙_}
 use mathlib.Core.Logic.{by-cases}
-use mathlib.Core.Bool.{true, false}
+use mathlib.Core.Bool.{false}
 use Rattle.graph.specs.Basic.{member}
-use Rattle.graph.specs.State.{State, defectVertex, blossom, nodeCount, holderAt, vertexHolderAt, sidesAt, classOf, parentOf}
+use Rattle.graph.specs.State.{State, defectVertex, blossom, nodeCount, vertexHolderAt, sidesAt, classOf, parentOf}
 use Rattle.graph.specs.Sound.{isRemoved}
 use Rattle.graph.specs.laws.Members.{by-test, clash}
 use Rattle.graph.specs.laws.Shape.{Shape}

@@ -17,6 +17,7 @@ use Rattle.reachable.specs.laws.insert.Circle.{CirclePreparing}
 use Rattle.reachable.specs.laws.insert.BlossomLabels.{blossomLabels}
 use Rattle.reachable.specs.laws.insert.BlossomState.{BlossomNodes, BlossomMade, blossom-made}
 use Rattle.reachable.specs.laws.insert.Blossom.{ns}
+use Rattle.reachable.specs.Opening.{joinLog}
 use Rattle.reachable.specs.Past.{Snapshot, Tops, Agreement, OuterBlossom, Past, past, HasPast}
 use Rattle.reachable.specs.laws.past.Still.{agreement-still, apart-still}
 use Rattle.reachable.specs.laws.past.Prepare.{relog}
@@ -35,10 +36,6 @@ new-snap-at snap n z = rw (eq-eqb n n refl)
 new-snap-off : (snap : ℕ → Snapshot) (n : ℕ) (z : Snapshot) (q : ℕ) → q ≢ n → newSnap snap n z q ≡ snap q
 unfolding newSnap
 new-snap-off snap n z q e = rw (ne-eqb q n e)
-
--- the log with the state in which node n was joined
-unfoldable pub joinLog : (ℕ → State) → ℕ → State → ℕ → State
-joinLog log n z q = if eqb q n then z else log q
 
 pub join-log-at : (log : ℕ → State) (n : ℕ) (z : State) → joinLog log n z n ≡ z
 unfolding joinLog

@@ -38,13 +38,14 @@ use Rattle.reachable.specs.laws.Growth.{growth-invariant}
 use Rattle.reachable.specs.laws.insert.Defect.{defect-invariant}
 use Rattle.reachable.specs.laws.insert.Blossom.{blossom-invariant}
 use Rattle.reachable.specs.laws.Calls.{initialLabels, blank-clusters, opened-invariant, cleared-invariant, set-invariant}
+use Rattle.reachable.specs.Opening.{joinLog, logged, afterLog, logOf}
 use Rattle.reachable.specs.Past.{Tops, OuterBlossom, past, HasPast, PastInvariant}
 use Rattle.graph.specs.Sound.{isRemoved}
 use Rattle.reachable.specs.laws.past.Prepare.{prepare-has-past}
 use Rattle.reachable.specs.laws.past.Defect.{defect-has-past}
 use Rattle.reachable.specs.laws.past.Growth.{growth-has-past}
 use Rattle.reachable.specs.laws.past.States.{states-has-past}
-use Rattle.reachable.specs.laws.past.Blossom.{joinLog, blossom-has-past}
+use Rattle.reachable.specs.laws.past.Blossom.{blossom-has-past}
 use Rattle.reachable.specs.laws.remove.Opening.{Opens, opens}
 
 -- ---- without nodes there is no past
@@ -223,25 +224,6 @@ round-past {log} c s (pos (suc l)) = tried-keeps (PastInvariant log) c (movedAll
 
 -- ---- any call
 
--- an accepted blossom of number n was joined in the state with its members prepared
-unfoldable pub logged : State → Call → (ℕ → State) → ℕ → State
-logged c (InsertBlossom x circle) log = if eqb (blossomRefusal c x circle) 0 then joinLog log (nodeCount c) (fold prepareStep c circle) else log
-logged c (InsertDefect v x) log = log
-logged c (SetGrowState n x) log = log
-logged c (Prepare n d) log = log
-logged c (MaxUpdateLength n d first) log = log
-logged c (Grow n l) log = log
-logged c ReadTable log = log
-logged c (Advance n) log = log
-logged c Contacts log = log
-logged c (RepresentativeVertex n) log = log
-logged c Clear log = log
-logged c RenewActiveList log = log
-logged c PrepareAll log = log
-logged c GroupLength log = log
-logged c (Round l) log = log
-logged c (RemoveBlossom n) log = log
-
 insert-past : {log : ℕ → State} (c : State) → PastInvariant log c → (x : ℕ) (circle : List ℕ)
     → PastInvariant (if eqb (blossomRefusal c x circle) 0 then joinLog log (nodeCount c) (fold prepareStep c circle) else log) (insertBlossom c x circle .state)
 unfolding insertBlossom unless says
@@ -280,21 +262,10 @@ call-past c s (RemoveBlossom n) = remove-past c s n
 
 -- ---- a list of calls
 
--- the log after a list of calls
-unfoldable pub afterLog : State → List Call → (ℕ → State) → ℕ → State
-afterLog c [] log = log
-afterLog c (k ∷ ks) log = afterLog (respond c k .state) ks (logged c k log)
-
 pub after-past : {log : ℕ → State} (c : State) → PastInvariant log c → (ks : List Call) → PastInvariant (afterLog c ks log) (after c ks)
 unfolding after afterLog
 after-past c g [] = g
 after-past c g (k ∷ ks) = after-past (respond c k .state) (call-past c g k) ks
-
--- the log of a reachable state: what its calls joined
-unfoldable pub logOf : (c : State) → Reachable c → ℕ → State
-logOf c r =
-    afterLog (opened (r .vertices) (r .nodes) (r .store) (r .edges) (r .virtuals)) (r .calls)
-    (λ n. opened (r .vertices) (r .nodes) (r .store) (r .edges) (r .virtuals))
 
 pub reachable-past : (c : State) (r : Reachable c) → PastInvariant (logOf c r) c
 unfolding logOf
