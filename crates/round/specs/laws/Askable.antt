@@ -14,6 +14,7 @@ use Rattle.graph.specs.Basic.{member, fold}
 use Rattle.graph.specs.State.{State, vertexCount, nodeCount, growStateOf, parentOf, stay, growing, shrinking, down, up, withActive}
 use Rattle.graph.specs.Active.{activeIn, renewed}
 use Rattle.graph.specs.Sound.{activeSound, sound, soundRemoved, stateSound}
+use Rattle.graph.specs.laws.State.{and-left}
 use Rattle.graph.specs.Layout.{stateOf}
 use Rattle.graph.specs.Form.{Becomes, sidesOk}
 use Rattle.graph.specs.Readable.{Readable}

@@ -1,5 +1,6 @@
 use Rattle.remove.specs.laws.Stops.{carry-none, stops-overgrown, stops-unheld, stops-members}
 use Rattle.graph.specs.laws.Form.{formed-shape}
+use Rattle.graph.specs.State.{boundaryOf}
 use Rattle.graph.specs.Layout.{stateOf}
 use native.Mathlib.Omega.{arith}
 use mathlib.Core.Path.{sym, _∙_}
@@ -17,7 +18,7 @@ slice-aggregate-mark-held : tie.Need-slice-aggregate-mark-held
 slice-aggregate-mark-held c = search needs
 
 mark-held-requires : tie.Need-mark-held-requires
-mark-held-requires c κs = let s = c .before .before .before in (s .pre .0, s .pre .1, s .pre .2, s .pre .0 .sides-max, carry-none 8192 _)
+mark-held-requires c κs = let s = c .before .before .before in (s .pre .0, s .pre .1, s .pre .2, s .pre .0 .sides-max, carry-none 8192 (boundaryOf (stateOf (s .args .b .now)) (s .args .n)))
 
 slice-aggregate-members-free : tie.Need-slice-aggregate-members-free
 slice-aggregate-members-free c = search needs
