@@ -11,7 +11,8 @@ use borrow.Author.Tests.{ne-eqb}
 use Rattle.graph.specs.Basic.{if_then_else_, fold}
 use Rattle.graph.specs.State.{State, nodeCount, growing, shrinking, up}
 use Rattle.graph.specs.Active.{activeIn, renewed}
-use Rattle.graph.specs.Sound.{sound, stateSound}
+use Rattle.graph.specs.Sound.{sound, soundRemoved, stateSound}
+use Rattle.graph.specs.laws.State.{and-left}
 use Rattle.graph.specs.Layout.{stateOf, blockSound}
 use Rattle.graph.specs.Form.{Formed, Becomes}
 use Rattle.graph.specs.laws.Form.{laid-shape, formed-vertices}
@@ -188,20 +189,21 @@ module _ (b t : List ℤ) (l : ℕ) (s : Shrunk b t) where
   pub grow-none : noneOf (activeIn (stateOf b) growing) ≡ true → TriedTo b b 0 (grownFrom l (stateOf b))
   grow-none h = rw (grown-none l (stateOf b) h) (record { refusal = refl; block = becomes-none b (stateOf b) (s .formed) refl })
 
-  pub grow-stopped : noneOf (activeIn (stateOf b) growing) ≡ false → noneOf (activeIn (stateOf b) shrinking) || sound (stateOf b) ≡ false → TriedTo b b 2 (grownFrom l (stateOf b))
+  pub grow-stopped : noneOf (activeIn (stateOf b) growing) ≡ false → noneOf (activeIn (stateOf b) shrinking) || stateSound (stateOf b) ≡ false → TriedTo b b 2 (grownFrom l (stateOf b))
   grow-stopped h k = rw (grown-stopped l (stateOf b) h k) (record { refusal = refl; block = becomes-none b (stateOf b) (s .formed) refl })
 
-  pub grow-going : noneOf (activeIn (stateOf b) shrinking) || sound (stateOf b) ≡ true → Going growing b t
+  pub grow-going : noneOf (activeIn (stateOf b) shrinking) || stateSound (stateOf b) ≡ true → Going growing b t
+  unfolding stateSound
   grow-going h = record {
     formed = s .formed;
     scratch = s .scratch;
     active = s .active;
     known = λ e. absurd (e refl);
     shrinks = λ e. absurd (omega (arith, e));
-    grows = λ e. by-test (noneOf (activeIn (stateOf b) shrinking)) (λ k. s .still k) (λ k. rw k at h);
+    grows = λ e. by-test (noneOf (activeIn (stateOf b) shrinking)) (λ k. s .still k) (λ k. and-left (sound (stateOf b)) (soundRemoved (stateOf b)) (rw k at h));
   }
 
-  pub grow-ends : noneOf (activeIn (stateOf b) growing) ≡ false → noneOf (activeIn (stateOf b) shrinking) || sound (stateOf b) ≡ true
+  pub grow-ends : noneOf (activeIn (stateOf b) growing) ≡ false → noneOf (activeIn (stateOf b) shrinking) || stateSound (stateOf b) ≡ true
       → (b' : List ℤ) (r : ℕ) → TriedTo b b' r (tryAll (turn l (toward growing)) (begun (stateOf b)) (activeIn (stateOf b) growing)) → TriedTo b b' r (grownFrom l (stateOf b))
   unfolding toward
   grow-ends h k b' r p = rw (grown-on l (stateOf b) h k) p
