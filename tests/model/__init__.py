@@ -19,7 +19,7 @@ from .calls import (
     table,
 )
 from .program import Run, lines
-from .remove import members, remove_blossom, stops_opening
+from .remove import members, remove_blossom, remove_refusal, stops_opening
 from .rounds import group_length, grow_all, prepare_all, renew_active_list
 from .soundness import sound
 from .state import DUAL_MAX, GROW, GROWTH_MAX, NONE, SHRINK, STAY, WEIGHT_MAX, Node, State, open_graph, opp
@@ -53,6 +53,7 @@ __all__ = [
     'prepare',
     'prepare_all',
     'remove_blossom',
+    'remove_refusal',
     'renew_active_list',
     'representative',
     'scan',

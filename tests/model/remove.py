@@ -19,16 +19,22 @@ def stops_opening(st, n):
     return len(set(listed)) != len(listed) or not free.issuperset(listed)
 
 
+def remove_refusal(st, n):
+    """What refuses an opening before it prepares, or None."""
+    if calls.bad_node(st, n):
+        return 3
+    if st.nodes[n].parent != NONE:
+        return 6
+    if st.nodes[n].vertex != NONE or st.nodes[n].dual != 0:
+        return 15
+    return 9 if calls.store_short(st, {n}, 1) else None
+
+
 def remove_blossom(st, n):
     """3 6 15 9 | 15, left as preparation leaves it"""
-    if calls.bad_node(st, n):
-        return ('refused', 3)
-    if st.nodes[n].parent != NONE:
-        return ('refused', 6)
-    if st.nodes[n].vertex != NONE or st.nodes[n].dual != 0:
-        return ('refused', 15)
-    if calls.store_short(st, {n}, 1):
-        return ('refused', 9)
+    refused = remove_refusal(st, n)
+    if refused:
+        return ('refused', refused)
     passes.do_prepare(st, n, 0)
     if stops_opening(st, n):
         return ('refused', 15)
