@@ -15,8 +15,11 @@ pub mod prepare
 pub mod Growth
 -- a defect and a blossom inserted
 pub mod insert
--- every call; so every reachable state
+-- every call that opens no blossom
 pub mod Calls
+-- what a state keeps of the past; a blossom opened; so every call, and every reachable state
+pub mod past
+pub mod remove
 -- what follows
 pub mod Round
 pub mod Relied
@@ -27,5 +30,3 @@ pub mod Refused
 pub mod Length
 pub mod Facts
 pub mod WithoutBlossoms
-pub mod history
-pub mod remove

@@ -25,7 +25,11 @@ fn class_sound(b: &[i64], n: usize) -> bool
     if x < v {
         return true;
     }
-    if x == v + node::REMOVED { true } else { x - v < n }
+    if x == v + node::REMOVED {
+        true
+    } else {
+        x - v < n
+    }
 }
 
 // Whether the parent of node n is none, or a node above n.

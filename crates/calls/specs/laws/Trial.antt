@@ -88,7 +88,8 @@ again-accepted ms ns t h =
 pub again-sound : (ms ns : List ℕ) (t : Tried) → stateSound (t .state) ≡ true → soundAgain ms ns t ≡ t
 unfolding soundAgain
 again-sound ms ns t h =
-    let e : (noneOf ms || noneOf ns || not (eqb (t .refusal) 0) || stateSound (t .state)) ≡ true = or-right (noneOf ms || noneOf ns || not (eqb (t .refusal) 0)) (stateSound (t .state)) h in
+    let e : (noneOf ms || noneOf ns || not (eqb (t .refusal) 0) || stateSound (t .state)) ≡ true =
+    or-right (noneOf ms || noneOf ns || not (eqb (t .refusal) 0)) (stateSound (t .state)) h in
     rw e refl
 
 -- both parts of an accepted trial from the renewed state r

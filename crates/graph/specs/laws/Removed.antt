@@ -40,9 +40,11 @@ module _ (c : State) (z : length (c .nodes .class) ≡ nodeCount c) (h : allBelo
   pub none-removed : soundRemoved c ≡ true
   unfolding soundRemoved
   none-removed =
-      rw (all-below-from (nodeLive c) (nodeCount c) (λ n b. none-node n),
-          all-below-from (λ v. liveOrNone c (vertexHolderAt c v)) (vertexCount c) (λ v b. none-or (vertexHolderAt c v)),
-          all-below-from (λ s. liveOrNone c (holderAt c s)) (sideCount c) (λ s b. none-or (holderAt c s)))
+      rw (
+        all-below-from (nodeLive c) (nodeCount c) (λ n b. none-node n),
+        all-below-from (λ v. liveOrNone c (vertexHolderAt c v)) (vertexCount c) (λ v b. none-or (vertexHolderAt c v)),
+        all-below-from (λ s. liveOrNone c (holderAt c s)) (sideCount c) (λ s b. none-or (holderAt c s)),
+      )
 
 pub blank-removed : (g : Graph) (n l : ℕ) → soundRemoved (blankState g n l) ≡ true
 unfolding blankState allBelow

@@ -37,6 +37,7 @@ use Rattle.reachable.specs.Invariant.{Invariant, sideGraphOf, viewOf, no
 use Rattle.reachable.specs.laws.prepare.Preparation.{invariant-numbers}
 use Rattle.reachable.specs.laws.Active.{renewed-invariant}
 use Rattle.reachable.specs.laws.Calls.{grow-toward-invariant}
+use Rattle.reachable.specs.laws.state.Live.{invariant-sound}
 use Rattle.reachable.specs.laws.Round.{Among, toward-among, Along, toward-along, Free, listed-free, free-along}
 
 -- ---- a length that a node has left
@@ -378,7 +379,8 @@ module _ (r : State) (g : Invariant r) (m : ℕ) where
         let fd' : Free d n = free-along (p .along) f in
         let out : member n ns ≡ false = distinct-head n ns w in
         let e : prepareNode d n up .state ≡ d = idle-up n ns d p f x out z (ups n i) in
-        let h : Among (0 ∷ 9 ∷ 12 ∷ []) (refusalOf (growToward d n up m .answer)) = toward-among (0 ∷ 9 ∷ 12 ∷ []) zero-met nine-met d n up m (fd' .inside) (fd' .outer) (rw e (check-up n ns d p f x out z (ups n i))) in
+        let h : Among (0 ∷ 9 ∷ 12 ∷ []) (refusalOf (growToward d n up m .answer)) =
+        toward-among (0 ∷ 9 ∷ 12 ∷ []) zero-met nine-met d n up m fd' (rw e (check-up n ns d p f x out z (ups n i))) in
         next-among (0 ∷ 9 ∷ 12 ∷ []) (moving up m) d n ns Met
         (λ t ne q. rw q h)
         (λ ok. grow-all ns (growToward d n up m .state) (step-up n ns d p f x out z (ups n i) ok) (distinct-tail n ns w) (λ q j. k q (member-tail q n ns j)))
@@ -398,14 +400,15 @@ module _ (r : State) (g : Invariant r) (m : ℕ) where
         let out : member n ms ≡ false = distinct-head n ms w in
         let e : prepareNode d n down .state ≡ d = idle-down n ms ns d p f x out z (downs n i) in
         let y : growCheck d n down m ≡ 0 = check-down n ms ns d p f x out z (downs n i) in
-        let h : Among (0 ∷ 9 ∷ 12 ∷ []) (refusalOf (growToward d n down m .answer)) = toward-among (0 ∷ 9 ∷ 12 ∷ []) zero-met nine-met d n down m (fd' .inside) (fd' .outer) (rw (e, y) zero-met) in
+        let h : Among (0 ∷ 9 ∷ 12 ∷ []) (refusalOf (growToward d n down m .answer)) =
+        toward-among (0 ∷ 9 ∷ 12 ∷ []) zero-met nine-met d n down m fd' (rw (e, y) zero-met) in
         next-among (0 ∷ 9 ∷ 12 ∷ []) (moving down m) d n ms (Drawn ns)
         (λ t ne q. (rw q h, λ v. absurd (ne v)))
         (λ ok. shrink-all ns ms (growToward d n down m .state) (step-down n ms ns d p f x out z (downs n i) ok) (distinct-tail n ms w) (λ q j. k q (member-tail q n ms j)))
 
     begins : Progress (activeIn r shrinking) (activeIn r growing) r
     begins = record {
-      along = record { invariant = g; growState = refl; parent = refl };
+      along = record { invariant = g; class = refl; growState = refl; parent = refl };
       graph = refl;
       holder = refl;
       boundary = refl;
@@ -430,7 +433,7 @@ round-relied c gc m z downs ups =
     let t : Tried = tryAll (moving down m) (begun r) ms in
     let b = shrink-all r g m z downs ups ns ms r (begins r g m z downs ups) (active-in-once r shrinking (sound-active r (g .sounds))) (λ n i. i) in
     let gt : Invariant (t .state) = try-keeps Invariant (moving down m) (λ d n h. grow-toward-invariant d h n down m) (begun r) ms g in
-    let e : soundAgain ms ns t ≡ t = again-sound ms ns t (gt .sounds) in
+    let e : soundAgain ms ns t ≡ t = again-sound ms ns t (invariant-sound gt) in
     by-cases (decEq (t .refusal) 0)
     (λ k.
     let q : t ≡ begun (t .state) = ap (λ (j : ℕ). record { refusal = j; state = t .state }) k in

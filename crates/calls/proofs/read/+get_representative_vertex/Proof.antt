@@ -154,6 +154,6 @@ pub +get-representative-vertex-spec : {M : Type 1} → statement M
     (class-requires t)
     (returns t)
     (is-removed-requires t)
-    (returns-2 t)
     (walk-requires t)
+    (returns-2 t)
     (returns-3 t)
