@@ -6,6 +6,8 @@ use Rattle.answer_numbers.specs.Numbers.{answerNumbers}
 use Rattle.host.specs.Words.{Told, Kept}
 use Rattle.lent_remove.specs.Called.{RemoveCalled}
 
--- b and t are block and scratch before, b' and t' after; `list` is lent for the answer and is list' after, with k numbers of it in front
+-- b and t are block and scratch before, b' and t' after; `list` is lent for the answer and is list' after, with k numbers of
+-- it in front
 abbrev pub RemoveTold : (b t : List ℤ) (n : ℕ) (b' t' : List ℤ) (list list' : List ℕ) → ℕ → Type 0
-RemoveTold b t n b' t' list list' k = Told answerNumbers list list' k (Kept b t b' t') (λ a. RemoveCalled b t n b' t' a)
+RemoveTold b t n b' t' list list' k =
+    Told answerNumbers list list' k (Kept b t b' t') (λ a. RemoveCalled b t n b' t' a)

@@ -16,4 +16,5 @@ removeWrites c n = eqb (removeRefusal c n) 0
 
 -- b and t are block and scratch before, b' and t' after, a the answer
 abbrev pub RemoveCalled : List ℤ → List ℤ → ℕ → List ℤ → List ℤ → Answer → Type 0
-RemoveCalled b t n b' t' a = CalledWithScratch (memoryRefusal b t) b t b' t' a (removeWrites (stateOf b) n) (removeBlossom (stateOf b) n)
+RemoveCalled b t n b' t' a =
+    CalledWithScratch (memoryRefusal b t) b t b' t' a (removeWrites (stateOf b) n) (removeBlossom (stateOf b) n)

@@ -1,11 +1,12 @@
-// Opening a blossom on memory that a host lends. Block and scratch are tested first (refusals 1 and 2), then what refuses the
-// opening before it prepares (3, 6, 15, 9); until then nothing is written. Then the scratch is set to zero and the core runs.
+// Opening a blossom on memory that a host lends. Block and scratch are tested first (refusals 1 and 2), then what refuses
+// the opening before it prepares (3, 6, 15, 9); until then nothing is written. Then the scratch is set to zero and the
+// core runs.
 
 ghost use Rattle.lent_remove.specs.Called.{RemoveCalled};
 use length::Answer;
 
-// Node n, a blossom of dual variable 0, is opened: its members are outermost again and hold their sides, and its number stands
-// for nothing.
+// Node n, a blossom of dual variable 0, is opened: its members are outermost again and hold their sides, and its number
+// stands for nothing.
 pub fn remove_blossom(b: &mut [i64], t: &mut [i64], n: usize) -> Answer
     ensures { λ r. ⌜ RemoveCalled (now (b .entry)) (now (t .entry)) n (now (b .exit)) (now (t .exit)) r ⌝ }
 {

@@ -29,7 +29,8 @@ same-length-4 : tie.Need-same-length-4
 same-length-4 c = search needs
 
 returns-2 : tie.Need-returns-2
-returns-2 c = told-all (search needs) _ (c .before .before .before .before .before .before .remove-blossom .ensures) (c .before .before .tell .ensures)
+returns-2 c =
+    told-all (search needs) _ (c .before .before .before .before .before .before .remove-blossom .ensures) (c .before .before .tell .ensures)
 
 pub fb-remove-blossom-spec : {M : Type 1} → statement M
 fb-remove-blossom-spec =
