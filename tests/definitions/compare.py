@@ -87,7 +87,10 @@ def line(st, c):
         'prepare_all': (M.prepare_all, lambda: 'PrepareAll'),
         'round': (M.grow_all, lambda l: f'Round {whole(l)}'),
         'clear': (M.clear, lambda: 'Clear')}[kind]
-    return f'{term(*f)} gives answered {answer(call(st, *f))}'
+    worked = kind == 'remove' and M.remove_refusal(st, *f) is None
+    said = call(st, *f)
+    if worked: SEEN['opening done' if said[0] == 'done' else 'opening refused once prepared'] += 1
+    return f'{term(*f)} gives answered {answer(said)}'
 
 # ---------------------------------------------------------------- random graphs, calls and states
 
@@ -103,7 +106,7 @@ def graph(rng):
         if rng.random() < .5: l, r = r, l
         edges.append((l, r, rng.choice(weights)))
     virtuals = [v for v in range(V) if rng.random() < .2]
-    return V, E, rng.choice([2, 3, 4, 6, 8]), rng.choice([25, 50, 80, 120, 200, 400]), edges, virtuals
+    return V, E, rng.choice([2, 3, 4, 6, 8, 12]), rng.choice([25, 50, 80, 120, 200, 400]), edges, virtuals
 
 
 def call(rng, st):
@@ -113,7 +116,8 @@ def call(rng, st):
     i = rng.choice(outermost) if outermost and rng.random() < .93 else rng.randrange(n + 1)
     if outermost and rng.random() < .4: i = outermost[-1]
     if rng.random() < (.18 if blossoms else .02):
-        return 'remove', rng.choice(blossoms) if blossoms and rng.random() < .9 else rng.randrange(n + 1)
+        bare = [i for i in blossoms if st.nodes[i].dual == 0]
+        return 'remove', rng.choice(bare if bare and rng.random() < .8 else blossoms or [rng.randrange(n + 1)])
     if n == 0 or x < .14 or n < 3 and rng.random() < .5:
         return 'defect', rng.randrange(st.V + (rng.random() < .1)), rng.choice([1, 1, 1, 1, 0, 2, 3 if rng.random() < .2 else 1])
     if x < .30 and len(outermost) >= 3 or x < .16:
@@ -221,9 +225,10 @@ def state_case(rng, name):
     while len(lines) < 4 and not M.sound(st):
         n, v = len(st.nodes), rng.randrange(st.V)
         i = rng.randrange(n)
+        p = rng.choice([j for j in range(n) if st.nodes[j].parent == M.NONE and st.nodes[j].vertex == M.NONE] or [i])
         lines.append(line(st, rng.choice([('prepare', i, 0), ('prepare', i, 1), ('length', i, 0, False), ('length', i, 1, False), ('length', i, 1, True),
                                           ('length', i, 0, True), ('grow', i, 1), ('grow', i, -1), ('advance', i), ('defect', v, 1),
-                                          ('prepare_all',), ('group',), ('group',), ('round', 1), ('round', 2), ('renew',), ('state', i, rng.randrange(3)), ('remove', i), ('remove', i),
+                                          ('prepare_all',), ('group',), ('group',), ('round', 1), ('round', 2), ('renew',), ('state', i, rng.randrange(3)), ('remove', p), ('remove', p), ('remove', i),
                                           ('blossom', 1, rng.sample(range(n), 3) if n > 2 else [i])])))
     return case(name, start, lines, st)
 
