@@ -129,7 +129,7 @@ impl Lent {
     }
 
     /// The representative vertex of a node, if there is the node. Block and scratch are tested before, and nothing is written.
-    fn representative(&mut self, n: usize) -> Option<usize> {
+    pub fn representative(&mut self, n: usize) -> Option<usize> {
         let (b, bl, t, tl) = (self.block.as_ptr(), self.block.len(), self.scratch.as_ptr(), self.scratch.len());
         unsafe { c::fb_representative_vertex(b, bl, t, tl, n, self.answer.as_mut_ptr(), 5) };
         (self.answer[0] == 10).then_some(self.answer[1])
@@ -223,8 +223,8 @@ fn agree(s: &streams::Stream, n: &mut Counts) -> Result<(), String> {
     }
     for (m, &v) in s.representatives.iter().enumerate() {
         n.vertices += 1;
-        if lent.representative(m) != Some(v) {
-            return Err(format!("representative vertex of {m}: {} | vertex {v}", lent.line()));
+        if lent.representative(m) != v {
+            return Err(format!("representative vertex of {m}: {} | vertex {v:?}", lent.line()));
         }
     }
     match lent.representative(s.representatives.len()) {

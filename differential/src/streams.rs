@@ -14,7 +14,7 @@ pub struct Stream {
     /// the Rust stopped outside the domain, or a record is the last that is compared
     pub outside: bool,
     /// the representative vertex of each node at the end
-    pub representatives: Vec<usize>,
+    pub representatives: Vec<Option<usize>>,
 }
 
 pub const POLICIES: [&str; 6] = ["decoding", "any calls", "breathing", "nesting", "bad fields", "unprepared"];

@@ -55,7 +55,7 @@ def grouped(a, listed):
 
 def state(st):
     nodes = st.nodes
-    classes = items(f'blossom {n.first}' if n.vertex == M.NONE else f'defectVertex {n.vertex}' for n in nodes)
+    classes = items('removed' if n.removed else f'blossom {n.first}' if n.vertex == M.NONE else f'defectVertex {n.vertex}' for n in nodes)
     stacks = items(items(f'over {v} {a}' for v, a in reversed(n.overgrown)) for n in nodes)
     return f'''record {{
     graph = record {{ end = {nats(st.end)}; weight = {nats(st.weight)}; at = {items(nats(x) for x in st.at)}; virtual = {nats(st.virtual)} }};
@@ -76,6 +76,7 @@ def line(st, c):
     call, term = {
         'defect': (M.insert_defect, lambda v, x: f'InsertDefect {v} {x}'),
         'blossom': (M.insert_blossom, lambda x, ms: f'InsertBlossom {x} {nats(ms)}'),
+        'remove': (M.remove_blossom, lambda n: f'RemoveBlossom {n}'),
         'state': (M.set_state, lambda n, x: f'SetGrowState {n} {x}'),
         'prepare': (M.prepare, lambda n, d: f'Prepare {n} {d}'),
         'length': (M.length, lambda n, d, p: f'MaxUpdateLength {n} {d} {truth(p)}'),
@@ -86,7 +87,10 @@ def line(st, c):
         'prepare_all': (M.prepare_all, lambda: 'PrepareAll'),
         'round': (M.grow_all, lambda l: f'Round {whole(l)}'),
         'clear': (M.clear, lambda: 'Clear')}[kind]
-    return f'{term(*f)} gives answered {answer(call(st, *f))}'
+    worked = kind == 'remove' and M.remove_refusal(st, *f) is None
+    said = call(st, *f)
+    if worked: SEEN['opening done' if said[0] == 'done' else 'opening refused once prepared'] += 1
+    return f'{term(*f)} gives answered {answer(said)}'
 
 # ---------------------------------------------------------------- random graphs, calls and states
 
@@ -102,14 +106,18 @@ def graph(rng):
         if rng.random() < .5: l, r = r, l
         edges.append((l, r, rng.choice(weights)))
     virtuals = [v for v in range(V) if rng.random() < .2]
-    return V, E, rng.choice([2, 3, 4, 6, 8]), rng.choice([25, 50, 80, 120, 200, 400]), edges, virtuals
+    return V, E, rng.choice([2, 3, 4, 6, 8, 12]), rng.choice([25, 50, 80, 120, 200, 400]), edges, virtuals
 
 
 def call(rng, st):
     n, x = len(st.nodes), rng.random()
-    outermost = [i for i in range(n) if st.nodes[i].parent == M.NONE]
+    outermost = [i for i in range(n) if st.nodes[i].parent == M.NONE and not st.nodes[i].removed]
+    blossoms = [i for i in outermost if st.nodes[i].vertex == M.NONE]
     i = rng.choice(outermost) if outermost and rng.random() < .93 else rng.randrange(n + 1)
     if outermost and rng.random() < .4: i = outermost[-1]
+    if rng.random() < (.18 if blossoms else .02):
+        bare = [i for i in blossoms if st.nodes[i].dual == 0]
+        return 'remove', rng.choice(bare if bare and rng.random() < .8 else blossoms or [rng.randrange(n + 1)])
     if n == 0 or x < .14 or n < 3 and rng.random() < .5:
         return 'defect', rng.randrange(st.V + (rng.random() < .1)), rng.choice([1, 1, 1, 1, 0, 2, 3 if rng.random() < .2 else 1])
     if x < .30 and len(outermost) >= 3 or x < .16:
@@ -171,11 +179,11 @@ use mathlib.Core.Path.{{_≡_, refl}}
 use mathlib.Core.Bool.{{Bool, true, false}}
 use mathlib.Core.List.{{List, [], _∷_}}
 use lib.IntN.{{pos, negsuc}}
-use Rattle.graph.specs.State.{{State, Overgrown, NodeClass, defectVertex, blossom}}
+use Rattle.graph.specs.State.{{State, Overgrown, NodeClass, defectVertex, blossom, removed}}
 use Rattle.graph.specs.Open.{{opened}}
-use Rattle.graph.specs.Sound.{{sound}}
+use Rattle.graph.specs.Sound.{{stateSound}}
 use Rattle.length.specs.declared.Answer.the-variants.{{NonZeroGrow, Unlimited, Conflicting, TouchingVirtual, BlossomNeedExpand, VertexShrinkStop, VertexShrinkStopPeer, Done, Node, Prepared, Vertex, Refused}}
-use Rattle.calls.specs.Calls.{{InsertDefect, InsertBlossom, SetGrowState, Prepare, MaxUpdateLength, Grow, ReadTable, Advance, Contacts, RepresentativeVertex, Clear, RenewActiveList, PrepareAll, GroupLength, Round, answered, growths, touching, grouped, respond}}
+use Rattle.calls.specs.Calls.{{InsertDefect, InsertBlossom, SetGrowState, Prepare, MaxUpdateLength, Grow, ReadTable, Advance, Contacts, RepresentativeVertex, Clear, RenewActiveList, PrepareAll, GroupLength, Round, RemoveBlossom, answered, growths, touching, grouped, respond}}
 use Rattle.calls.specs.declared.group.GroupMaxUpdateLength.the-variants.{{NonZeroGrow as groupFree, Unlimited as groupUnlimited, Conflicts as groupConflicts, Refused as groupRefused}}
 use Rattle.calls.specs.Examples.{{Line, _gives_, edge, given, wanted}}
 use Rattle.calls.specs.Opens.{{everything}}
@@ -199,7 +207,7 @@ def case(name, start, lines, st):
 {name}-lines =
     {body}
 
-{name} : (given {name}-start {name}-lines ≡ wanted {name}-lines) × (after {name}-start {name}-lines ≡ {state(st)}) × (sound (after {name}-start {name}-lines) ≡ {truth(not M.sound(st))})
+{name} : (given {name}-start {name}-lines ≡ wanted {name}-lines) × (after {name}-start {name}-lines ≡ {state(st)}) × (stateSound (after {name}-start {name}-lines) ≡ {truth(not M.sound(st))})
 unfolding everything edge given wanted after {name}-start {name}-lines
 {name} = (refl, refl, refl)
 
@@ -217,9 +225,10 @@ def state_case(rng, name):
     while len(lines) < 4 and not M.sound(st):
         n, v = len(st.nodes), rng.randrange(st.V)
         i = rng.randrange(n)
+        p = rng.choice([j for j in range(n) if st.nodes[j].parent == M.NONE and st.nodes[j].vertex == M.NONE] or [i])
         lines.append(line(st, rng.choice([('prepare', i, 0), ('prepare', i, 1), ('length', i, 0, False), ('length', i, 1, False), ('length', i, 1, True),
                                           ('length', i, 0, True), ('grow', i, 1), ('grow', i, -1), ('advance', i), ('defect', v, 1),
-                                          ('prepare_all',), ('group',), ('group',), ('round', 1), ('round', 2), ('renew',), ('state', i, rng.randrange(3)),
+                                          ('prepare_all',), ('group',), ('group',), ('round', 1), ('round', 2), ('renew',), ('state', i, rng.randrange(3)), ('remove', p), ('remove', p), ('remove', i),
                                           ('blossom', 1, rng.sample(range(n), 3) if n > 2 else [i])])))
     return case(name, start, lines, st)
 
