@@ -39,10 +39,10 @@ use Rattle.sheet.specs.declared.SheetOpened.the-variants.{Opened}
 use Rattle.sheet.specs.Theorems.{refused-leaves-all, sheet-opens}
 use Rattle.graph.specs.Opening.{OpenCalled}
 use Rattle.calls.specs.declared.group.GroupMaxUpdateLength.{GroupMaxUpdateLength as Group}
-use Rattle.calls.specs.Calls.{RenewActiveList, PrepareAll, GroupLength, Round}
+use Rattle.calls.specs.Calls.{RenewActiveList, PrepareAll, GroupLength, Round, RemoveBlossom}
 use Rattle.calls.specs.Round.{prepareAll, groupLength}
 use Rattle.lent_round.specs.Called.{trialRefusal, groupTrialRefusal, GroupOnTrial}
-use Rattle.table_claim.specs.Lent.{renew-active-list, prepare-all, group-length, round}
+use Rattle.table_claim.specs.Lent.{renew-active-list, prepare-all, group-length, round, remove-blossom}
 use Rattle.table_claim.specs.Run.{trialFits, groupFits}
 use Rattle.table_claim.specs.laws.Rounds.{Ends, trial-ends, round-ends, group-answers, group-kept}
 
@@ -164,6 +164,7 @@ step-follows {z} w (representative-vertex {t} {n} p) = reading-follows w (scratc
 step-follows {z} w (clear {t} p) = called-follows w (scratchFits z t) (memory-fits w t) p Clear refl
 step-follows {z} w (sheet-refused p) = unchanged-follows w (refused-leaves-all p .1)
 step-follows {z} w (renew-active-list p) = called-follows w true (alone-fits w) p RenewActiveList refl
+step-follows {z} w (remove-blossom {t} {n = n} p) = called-follows w (scratchFits z t) (memory-fits w t) (p .block) (RemoveBlossom n) refl
 step-follows {z} w (prepare-all {s} {t} p) = ends-follows w (trialFits z s t) (trial-ends (trialFits z s t) (trial-fits w s t) p) PrepareAll refl
 step-follows {z} w (group-length {s} {t} {entries = entries} p) = group-follows w (groupFits z s t entries) (group-fits w s t entries) p
 step-follows {z} w (round {s} {t} {l = l} p) = ends-follows w (trialFits z s t) (round-ends l (trialFits z s t) (w .formed) (trial-fits w s t) p) (Round l) refl
@@ -205,6 +206,7 @@ step-returns {z} {b} w (representative-vertex {t} {n} p) = ap returns (read-answ
 step-returns {z} w (clear {t} p) = ap returns (called-answered (scratchFits z t) (memory-fits w t) p)
 step-returns {z} w (sheet-refused p) = rw (p .leaves .answer, p .leaves .edges-are, w .size) refl
 step-returns {z} w (renew-active-list p) = ap returns (called-answered true (alone-fits w) p)
+step-returns {z} w (remove-blossom {t} p) = ap returns (called-answered (scratchFits z t) (memory-fits w t) (p .block))
 step-returns {z} {b} w (prepare-all {s} {t} p) = ap returns (read-answered (trialFits z s t) (stateOf b) (prepareAll (stateOf b)) (trial-fits w s t) (p .answer))
 step-returns {z} {b} w (group-length {s} {t} {entries = entries} p) =
     let q = group-answers (groupFits z s t entries) (group-fits w s t entries) p in
