@@ -1,6 +1,7 @@
 #!/bin/sh
-# Proves the crate cores/ and writes target/staticlib/libcores.a, which makes calls with no soundness test before each, for timing. Its files
-# end in .txt because a file of Rattle in the repository belongs to a crate of crates.txt. Needs the Rattle toolchain.
+# Proves the crate cores/ and writes target/staticlib/libcores.a, which makes calls with no soundness test before each,
+# for timing. Its files end in .txt because a file of Rattle in the repository belongs to a crate of crates.txt. Needs
+# the Rattle toolchain.
 set -e
 here=$(cd "$(dirname "$0")" && pwd)
 root=$(dirname "$here")

@@ -1,6 +1,6 @@
 // Times the soundness test on a block of the largest sizes with full lists: V 1,024, E 4,096, N 1,024, L 65,536.
-// Node 1,023 is a blossom that holds every side and lists it; nodes 0 to 1,022 are defects that lie in it, each with a list of 56 sides.
-// All nodes stand in the active list.
+// Node 1,023 is a blossom that holds every side and lists it; nodes 0 to 1,022 are defects that lie in it, each with a
+// list of 56 sides. All nodes stand in the active list.
 #include <stdint.h>
 #include <stdio.h>
 #include <stdlib.h>
@@ -66,7 +66,8 @@ int main(void) {
         s = seconds() - s;
         if (s < best) best = s;
     }
-    printf("soundness of %d words, lists full: best %.1f us, mean %.1f us over %d runs\n", LENGTH, best * 1e6, (seconds() - all) / runs * 1e6, runs);
+    printf("soundness of %d words, lists full: best %.1f us, mean %.1f us over %d runs\n", LENGTH, best * 1e6,
+           (seconds() - all) / runs * 1e6, runs);
     b[LENGTH - 1] = b[LENGTH - 2]; // the last node of the active list again: found only at the end of the block
     printf("with its last word a repeat: refused %zu\n", memory_refusal(b, LENGTH, t, 6 * E));
     return 0;

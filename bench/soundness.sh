@@ -1,5 +1,6 @@
 #!/bin/sh
-# Builds an archive with the soundness test exported for C, and times it (soundness.c). Needs the Rattle toolchain and gcc.
+# Builds an archive with the soundness test exported for C, and times it (soundness.c). Needs the Rattle toolchain and
+# gcc.
 set -e
 here=$(cd "$(dirname "$0")" && pwd)
 work=$(mktemp -d)

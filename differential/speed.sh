@@ -8,15 +8,19 @@ out=$root/docs/SPEED.md
     cat <<'T'
 # Speed
 
-Written by `differential/speed.sh`. Both sides read the same records and write the same lines, which is checked, in one process on one thread: the port by its exported call
-`cardrun_lines`, the Rust by its own methods behind the records of differential/rust-side, built for release, without assertions. All calls are accepted ones. Runs alternate;
-each number is the best of 60 runs, as nanoseconds a call with reading its record and writing its lines. A ratio below 1 means that the port is faster.
+Written by `differential/speed.sh`. Both sides read the same records and write the same lines, which is checked, in one
+process on one thread: the port by its exported call `cardrun_lines`, the Rust by its own methods behind the records of
+differential/rust-side, built for release, without assertions. All calls are accepted ones. Runs alternate; each number
+is the best of 60 runs, as nanoseconds a call with reading its record and writing its lines. A ratio below 1 means that
+the port is faster.
 
-The Rust's pointers are a stand-in (docs/DIFFERENCES.md): `Arc` with a lock of `parking_lot`, which is taken at each access. The columns without locks have the same code on pointers that
-take none. Its records and lines are those of differential/rust-side/common/session.rs, written with `write!` into a vector of enough space.
+The Rust's pointers are a stand-in (docs/DIFFERENCES.md): `Arc` with a lock of `parking_lot`, which is taken at each
+access. The columns without locks have the same code on pointers that take none. Its records and lines are those of
+differential/rust-side/common/session.rs, written with `write!` into a vector of enough space.
 
 T
-    echo "Machine: $(uname -m), \`nproc\` $(nproc), $(sed -n 's/^model name[^:]*: //p' /proc/cpuinfo | head -1). $(rustc --version | cut -d' ' -f1,2)."
+    model=$(sed -n 's/^model name[^:]*: //p' /proc/cpuinfo | head -1)
+    echo "Machine: $(uname -m), \`nproc\` $(nproc), $model. $(rustc --version | cut -d' ' -f1,2)."
     "$bench" speed
 } > "$out.new"
 mv "$out.new" "$out"

@@ -1,4 +1,5 @@
-/* A host for records: graph P of document 01 as records, its lines by the exported call.   hosts/run.sh builds it */
+/* A host for records: P1 of docs/SPECIFICATION.md 13.1 as records, its lines by the exported call. hosts/run.sh builds
+   it. */
 #include <stdio.h>
 #include <string.h>
 #include "fusion_blossom.h"

@@ -75,7 +75,13 @@ fn straight(s: &Stream, f: &mut Found) -> Option<String> {
         if release.ended {
             break;
         }
-        let told = release::session::Said { kind: said.kind, refused: said.refused, mended: said.mended, outside: said.outside, notes: 0 };
+        let told = release::session::Said {
+            kind: said.kind,
+            refused: said.refused,
+            mended: said.mended,
+            outside: said.outside,
+            notes: 0,
+        };
         release.feed_straight(rec, &told);
         f.straight += usize::from(said.kind > 3 && said.refused == 0 && !release.ended);
     }
@@ -107,7 +113,11 @@ fn short(r: &mut Random, records: &[u8], lines: &[u8]) -> Option<String> {
     let space = r.below(lines.len() + 2);
     let mut b = vec![0xa5; space];
     let n = port::cardrun_lines(records, &mut b);
-    let fit = if space >= lines.len() { lines.len() } else { lines[..space].iter().rposition(|&c| c == b'\n').map_or(0, |i| i + 1) };
+    let fit = if space >= lines.len() {
+        lines.len()
+    } else {
+        lines[..space].iter().rposition(|&c| c == b'\n').map_or(0, |i| i + 1)
+    };
     let ok = n == fit && b[..n] == lines[..n] && b[n..].iter().all(|&c| c == 0xa5);
     (!ok).then(|| format!("a space of {space} bytes: {n} written, {fit} fit"))
 }

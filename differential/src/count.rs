@@ -30,7 +30,10 @@ pub struct Counts {
     several: usize,
 }
 
-const ORDER: [&str; 14] = ["node", "done", "prepared", "free", "free -1", "conflict", "conflict, stop", "virtual", "expand", "stop", "stop, peer", "edge", "contact", "refused"];
+const ORDER: [&str; 14] = [
+    "node", "done", "prepared", "free", "free -1", "conflict", "conflict, stop", "virtual", "expand", "stop",
+    "stop, peer", "edge", "contact", "refused",
+];
 
 /// The kind of a line. A conflict that does not name the node that was asked comes from a shrink stop.
 fn answer(line: &str, records: &[Record]) -> (usize, String) {
@@ -124,15 +127,32 @@ impl Counts {
             Self::row(name, xs);
         }
         println!();
-        println!("streams by way of choosing calls: {}", POLICIES.iter().zip(&self.policies).map(|(n, x)| format!("{n} {x}")).collect::<Vec<_>>().join(", "));
-        println!("streams with an edge of weight 0 {}, of odd weight {}, with parallel edges {}", self.weights[0], self.weights[1], self.weights[2]);
-        println!("longest stream: {} calls; blossoms {}, of these nested {}, deepest {}", self.longest, self.blossoms, self.nested, self.depth);
+        let policies: Vec<_> = POLICIES.iter().zip(&self.policies).map(|(n, x)| format!("{n} {x}")).collect();
+        println!("streams by way of choosing calls: {}", policies.join(", "));
+        println!(
+            "streams with an edge of weight 0 {}, of odd weight {}, with parallel edges {}",
+            self.weights[0], self.weights[1], self.weights[2]
+        );
+        println!(
+            "longest stream: {} calls; blossoms {}, of these nested {}, deepest {}",
+            self.longest, self.blossoms, self.nested, self.depth
+        );
         println!("preparations of more than one pass {}, most passes {}", self.several, self.passes);
         println!("compared with the mended Rust, assertions on: {} lines", self.lines);
-        println!("accepted calls compared with the Rust's own methods in a release build: {}; graphs opened by its own constructor: {}", self.straight, self.constructed);
+        println!(
+            "accepted calls compared with the Rust's own methods in a release build: {}; graphs opened by its own \
+             constructor: {}",
+            self.straight, self.constructed
+        );
         println!("streams with a mended preparation {}, calls from it on {}", self.mended, self.after_mended);
-        println!("calls with an odd gap {}, an empty boundary {}, an old time stamp {}", self.notes[0], self.notes[1], self.notes[2]);
-        println!("refusals 10 and 11 made all the same: the Rust stopped {} times, did not stop {} times", self.confirmed, self.not_confirmed);
+        println!(
+            "calls with an odd gap {}, an empty boundary {}, an old time stamp {}",
+            self.notes[0], self.notes[1], self.notes[2]
+        );
+        println!(
+            "refusals 10 and 11 made all the same: the Rust stopped {} times, did not stop {} times",
+            self.confirmed, self.not_confirmed
+        );
         println!("streams in which the Rust stopped without a refusal: {}", self.outside);
         println!("streams compared with a shorter space for lines: {}", self.streams.iter().sum::<usize>());
         println!("different: {}", self.different);

@@ -36,14 +36,15 @@ pub fn weight(r: &mut Random, w: Weights) -> i32 {
 /// One round of the rotated surface code of distance d: a vertex for each check of one type, an edge for each data qubit, and one
 /// virtual vertex on each of the two sides. Only the first `rows` rows of data qubits.
 fn rotated(d: i32, rows: i32) -> (i32, Vec<(i32, i32)>, Vec<i32>) {
-    // checks of one type sit at the plaquettes (i, j) with i + j even, 0 <= i <= rows, 1 <= j <= d - 1; a data qubit (x, y) touches
-    // the plaquettes (x, y), (x, y + 1), (x + 1, y), (x + 1, y + 1), of which two have the type
+    // checks of one type sit at the plaquettes (i, j) with i + j even, 0 <= i <= rows, 1 <= j <= d - 1; a data qubit
+    // (x, y) touches the plaquettes (x, y), (x, y + 1), (x + 1, y), (x + 1, y + 1), of which two have the type
     let plaquette = |i: i32, j: i32| (i + j) % 2 == 0;
     let mut number = std::collections::HashMap::new();
     let mut ends = vec![];
     for x in 0..rows {
         for y in 0..d {
-            let near: Vec<_> = [(x, y), (x, y + 1), (x + 1, y), (x + 1, y + 1)].into_iter().filter(|p| plaquette(p.0, p.1)).collect();
+            let around = [(x, y), (x, y + 1), (x + 1, y), (x + 1, y + 1)];
+            let near: Vec<_> = around.into_iter().filter(|p| plaquette(p.0, p.1)).collect();
             let mut at = vec![];
             for p in near {
                 if p.1 == 0 || p.1 == d {
@@ -66,8 +67,8 @@ fn sorted(e: (i32, i32)) -> (i32, i32) {
     (e.0.min(e.1), e.0.max(e.1))
 }
 
-/// `rounds` copies of a round, each vertex joined to itself in the next round; `diagonal` adds an edge from each edge's left end to its
-/// right end in the next round.
+/// `rounds` copies of a round, each vertex joined to itself in the next round; `diagonal` adds an edge from each edge's
+/// left end to its right end in the next round.
 fn stacked(r: &mut Random, d: i32, rows: i32, rounds: i32, diagonal: bool, w: Weights) -> Graph {
     let (v, ends, virtuals) = rotated(d, rows);
     let mut g = Graph { kind: 0, v: v * rounds, edges: vec![], virtuals: vec![] };
@@ -234,7 +235,8 @@ fn tree(r: &mut Random, v: i32, w: Weights) -> Graph {
 }
 
 pub fn graph(r: &mut Random) -> Graph {
-    let w = r.pick(&[Weights::Same, Weights::Even, Weights::Even, Weights::Odd, Weights::Zero, Weights::Zero, Weights::Sparse, Weights::Large]);
+    use Weights::*;
+    let w = r.pick(&[Same, Even, Even, Odd, Zero, Zero, Sparse, Large]);
     match r.range(0, 99) {
         0..=13 => {
             let d = r.pick(&[3, 3, 5, 5, 7, 9, 11]);

@@ -1,5 +1,6 @@
-//! The exported calls of crate `host` on lent memory, at sizes that records do not have: their answers, tables, contacts, representative
-//! vertices and the words that they leave in the block are compared with the Rust's, and they are timed.
+//! The exported calls of crate `host` on lent memory, at sizes that records do not have: their answers, tables,
+//! contacts, representative vertices and the words that they leave in the block are compared with the Rust's, and they
+//! are timed.
 use crate::graphs::{self, Graph, Weights};
 use crate::random::Random;
 use crate::records::{fields, kind, record, Record};
@@ -13,25 +14,46 @@ use std::time::Instant;
 mod c {
     extern "C" {
         pub fn fb_open(
-            b: *mut i64, bl: usize, t: *const i64, tl: usize, edges: *const i64, el: usize, virtuals: *const i64, vl: usize, v: usize, e: usize, n: usize,
-            l: usize, a: *mut usize, al: usize,
+            b: *mut i64, bl: usize, t: *const i64, tl: usize, edges: *const i64, el: usize, virtuals: *const i64,
+            vl: usize, v: usize, e: usize, n: usize, l: usize, a: *mut usize, al: usize,
         ) -> usize;
-        pub fn fb_insert_defect(b: *mut i64, bl: usize, t: *mut i64, tl: usize, vertex: usize, state: usize, a: *mut usize, al: usize) -> usize;
-        pub fn fb_insert_blossom(b: *mut i64, bl: usize, t: *mut i64, tl: usize, circle: *const i64, cl: usize, state: usize, a: *mut usize, al: usize) -> usize;
-        pub fn fb_set_grow_state(b: *mut i64, bl: usize, t: *const i64, tl: usize, node: usize, state: usize, a: *mut usize, al: usize) -> usize;
-        pub fn fb_prepare(b: *mut i64, bl: usize, t: *mut i64, tl: usize, node: usize, direction: usize, a: *mut usize, al: usize) -> usize;
-        pub fn fb_max_update_length(b: *mut i64, bl: usize, t: *mut i64, tl: usize, node: usize, direction: usize, first: bool, a: *mut usize, al: usize) -> usize;
-        pub fn fb_grow(b: *mut i64, bl: usize, t: *mut i64, tl: usize, node: usize, length: i64, a: *mut usize, al: usize) -> usize;
+        pub fn fb_insert_defect(
+            b: *mut i64, bl: usize, t: *mut i64, tl: usize, vertex: usize, state: usize, a: *mut usize, al: usize,
+        ) -> usize;
+        pub fn fb_insert_blossom(
+            b: *mut i64, bl: usize, t: *mut i64, tl: usize, circle: *const i64, cl: usize, state: usize, a: *mut usize,
+            al: usize,
+        ) -> usize;
+        pub fn fb_set_grow_state(
+            b: *mut i64, bl: usize, t: *const i64, tl: usize, node: usize, state: usize, a: *mut usize, al: usize,
+        ) -> usize;
+        pub fn fb_prepare(
+            b: *mut i64, bl: usize, t: *mut i64, tl: usize, node: usize, direction: usize, a: *mut usize, al: usize,
+        ) -> usize;
+        pub fn fb_max_update_length(
+            b: *mut i64, bl: usize, t: *mut i64, tl: usize, node: usize, direction: usize, first: bool, a: *mut usize,
+            al: usize,
+        ) -> usize;
+        pub fn fb_grow(
+            b: *mut i64, bl: usize, t: *mut i64, tl: usize, node: usize, length: i64, a: *mut usize, al: usize,
+        ) -> usize;
         pub fn fb_advance(b: *mut i64, bl: usize, t: *mut i64, tl: usize, node: usize, a: *mut usize, al: usize) -> usize;
         pub fn fb_clear(b: *mut i64, bl: usize, t: *const i64, tl: usize, a: *mut usize, al: usize) -> usize;
-        pub fn fb_representative_vertex(b: *const i64, bl: usize, t: *const i64, tl: usize, node: usize, a: *mut usize, al: usize) -> usize;
-        pub fn fb_read_table(b: *const i64, bl: usize, t: *const i64, tl: usize, list: *mut i64, ll: usize, a: *mut usize, al: usize) -> usize;
-        pub fn fb_contacts(b: *const i64, bl: usize, t: *const i64, tl: usize, list: *mut i64, ll: usize, a: *mut usize, al: usize) -> usize;
-        /// bench/cores: opens a graph and makes the calls of records, without a test of the memory before each; how many were not refused
+        pub fn fb_representative_vertex(
+            b: *const i64, bl: usize, t: *const i64, tl: usize, node: usize, a: *mut usize, al: usize,
+        ) -> usize;
+        pub fn fb_read_table(
+            b: *const i64, bl: usize, t: *const i64, tl: usize, list: *mut i64, ll: usize, a: *mut usize, al: usize,
+        ) -> usize;
+        pub fn fb_contacts(
+            b: *const i64, bl: usize, t: *const i64, tl: usize, list: *mut i64, ll: usize, a: *mut usize, al: usize,
+        ) -> usize;
+        /// bench/cores: opens a graph and makes the calls of records, without a test of the memory before each; how
+        /// many were not refused
         #[cfg(cores)]
         pub fn core_calls(
-            b: *mut i64, bl: usize, t: *mut i64, tl: usize, v: usize, e: usize, n: usize, l: usize, edges: *const i64, el: usize, virtuals: *const i64, vl: usize,
-            records: *const u8, rl: usize,
+            b: *mut i64, bl: usize, t: *mut i64, tl: usize, v: usize, e: usize, n: usize, l: usize, edges: *const i64,
+            el: usize, virtuals: *const i64, vl: usize, records: *const u8, rl: usize,
         ) -> usize;
     }
 }
@@ -61,8 +83,8 @@ impl Lent {
         let ([v, e, n, l], (mut block, scratch), mut answer) = (sizes, memory(sizes), [0; 5]);
         unsafe {
             c::fb_open(
-                block.as_mut_ptr(), block.len(), scratch.as_ptr(), scratch.len(), edges.as_ptr(), edges.len(), virtuals.as_ptr(), virtuals.len(), v, e, n, l,
-                answer.as_mut_ptr(), 5,
+                block.as_mut_ptr(), block.len(), scratch.as_ptr(), scratch.len(), edges.as_ptr(), edges.len(),
+                virtuals.as_ptr(), virtuals.len(), v, e, n, l, answer.as_mut_ptr(), 5,
             )
         };
         assert_eq!(answer[0], 7, "the opening is refused");
@@ -118,7 +140,14 @@ impl Lent {
         let (b, bl, t, tl) = (self.block.as_ptr(), self.block.len(), self.scratch.as_ptr(), self.scratch.len());
         let (a, al) = (self.answer.as_mut_ptr(), 5);
         let mut list = vec![-1; if kind == 10 { 2 * e } else { e }];
-        unsafe { if kind == 10 { c::fb_read_table(b, bl, t, tl, list.as_mut_ptr(), list.len(), a, al) } else { c::fb_contacts(b, bl, t, tl, list.as_mut_ptr(), list.len(), a, al) } };
+        let (ls, ll) = (list.as_mut_ptr(), list.len());
+        unsafe {
+            if kind == 10 {
+                c::fb_read_table(b, bl, t, tl, ls, ll, a, al)
+            } else {
+                c::fb_contacts(b, bl, t, tl, ls, ll, a, al)
+            }
+        };
         if self.answer[0] != 7 {
             vec![self.line()]
         } else if kind == 10 {
@@ -142,8 +171,9 @@ pub fn circle(kind: u16, a: &[i32]) -> Vec<i64> {
 
 /// The rows of a block (docs/LAYOUT.md).
 const ROWS: [&str; 20] = [
-    "header", "flags", "vertex holder", "vertex grandson", "first", "end", "growth", "holder", "grandson", "at", "weight", "class", "grow state", "parent", "dual",
-    "start", "boundary length", "overgrown length", "store", "active list",
+    "header", "flags", "vertex holder", "vertex grandson", "first", "end", "growth", "holder", "grandson", "at",
+    "weight", "class", "grow state", "parent", "dual", "start", "boundary length", "overgrown length", "store",
+    "active list",
 ];
 
 /// The first word that the Rust's state fills and the block has otherwise.
@@ -263,8 +293,14 @@ pub fn compare(runs: u64, seed: u64) -> bool {
         }
     }
     let kinds: Vec<_> = graphs::KINDS.iter().zip(streams).filter(|k| k.1 > 0).map(|(k, n)| format!("{k} {n}")).collect();
-    println!("{} streams ({}), up to V {}, E {} and {} nodes", streams.iter().sum::<usize>(), kinds.join(", "), largest.0, largest.1, n.nodes);
-    println!("{} calls, {} lines, {} representative vertices, {} whole states of {} words compared", n.calls, n.lines, n.vertices, n.states, n.words);
+    println!(
+        "{} streams ({}), up to V {}, E {} and {} nodes",
+        streams.iter().sum::<usize>(), kinds.join(", "), largest.0, largest.1, n.nodes
+    );
+    println!(
+        "{} calls, {} lines, {} representative vertices, {} whole states of {} words compared",
+        n.calls, n.lines, n.vertices, n.states, n.words
+    );
     println!("answers: {}", n.answers.iter().map(|(k, n)| format!("{k} {n}")).collect::<Vec<_>>().join(", "));
     println!("different: {different}");
     different == 0
@@ -307,8 +343,8 @@ fn cores_time(records: &[Record], calls: &[Record]) -> (f64, Vec<i64>) {
         let t = Instant::now();
         let made = unsafe {
             c::core_calls(
-                block.as_mut_ptr(), block.len(), scratch.as_mut_ptr(), scratch.len(), v, e, n, l, edges.as_ptr(), edges.len(), virtuals.as_ptr(), virtuals.len(),
-                part.as_ptr(), part.len(),
+                block.as_mut_ptr(), block.len(), scratch.as_mut_ptr(), scratch.len(), v, e, n, l, edges.as_ptr(),
+                edges.len(), virtuals.as_ptr(), virtuals.len(), part.as_ptr(), part.len(),
             )
         };
         (t.elapsed().as_secs_f64(), made, block)
@@ -324,14 +360,35 @@ fn cores_time(_: &[Record], _: &[Record]) -> (f64, Vec<i64>) {
     panic!("CORES names no archive: bench/cores.sh makes one")
 }
 
+const LIBRARY_CALLS: &str = "\
+Decoding runs again, without lines. **With the test**: the exported calls of crate `host`, each of which tests block and
+scratch first, soundness included; the Rust has no such test. **Without**: the same calls on a block that was opened in
+the same call (bench/cores, proved like the rest, for measuring only), with reading each call from its record and less
+the time of the opening. Both leave the same words, which is checked.";
+
+const BESIDE_OTHERS: &str = "\
+A defect takes 8 vertices and releases them, as above, beside other defects whose lists stand behind its own: V 1,023, E
+527, N 1,024, L 65,536. Where its lists become longer or shorter, theirs are moved.";
+
+const WITH_THE_BLOCK: &str = "\
+Without the test two calls cost more on a larger block where the Rust's do not. A preparation that makes the lists of a
+node longer or shorter moves the lists of all later nodes, because the store is compact (docs/LAYOUT.md); that is a word
+for each entry and one for each node, and among 900 other nodes still under the Rust's time. Clearing writes three words
+for each vertex and each side, because afterwards a block is the one that opening made, word for word, but for the words
+that are free; the Rust counts up a time stamp instead, and clears each vertex and edge when it next meets it. No other
+call depends on V, E or N.";
+
 /// Times the library's calls, with the test of block and scratch before each and without, against the Rust's methods.
 pub fn speed() {
     println!("\n## Library calls on lent memory");
-    println!("\nDecoding runs again, without lines. **With the test**: the exported calls of crate `host`, each of which tests block and scratch first, soundness included; the Rust has no such test.");
-    println!("**Without**: the same calls on a block that was opened in the same call (bench/cores, proved like the rest, for measuring only), with reading each call from its record and less the time of the opening. Both leave the same words, which is checked.");
+    println!("\n{LIBRARY_CALLS}");
     heading("graph");
     let r = &mut Random::new(8);
-    for (d, rounds, n, l) in [(7, 1, 32, 2_000), (11, 1, 64, 4_000), (15, 1, 64, 8_000), (7, 7, 64, 8_000), (11, 11, 128, 40_000), (15, 8, 128, 50_000)] {
+    let sizes = [
+        (7, 1, 32, 2_000), (11, 1, 64, 4_000), (15, 1, 64, 8_000), (7, 7, 64, 8_000), (11, 11, 128, 40_000),
+        (15, 8, 128, 50_000),
+    ];
+    for (d, rounds, n, l) in sizes {
         let g = graphs::large(r, d, rounds, false, Weights::Even);
         let name = format!("distance {d}, {rounds} round{}: V {}, E {}", if rounds > 1 { "s" } else { "" }, g.v, g.edges.len());
         row(&name, &streams::decoding(d as u64, &g, 2_000, n, l));
@@ -343,7 +400,7 @@ pub fn speed() {
         row(&v.to_string(), &speed::pulse(&speed::path(v), v / 2, 4000, 500));
     }
     println!("\n### Cost against the number of nodes");
-    println!("\nA defect takes 8 vertices and releases them, as above, beside other defects whose lists stand behind its own: V 1,023, E 527, N 1,024, L 65,536. Where its lists become longer or shorter, theirs are moved.");
+    println!("\n{BESIDE_OTHERS}");
     heading("other defects");
     for others in [0, 30, 300, 900] {
         row(&others.to_string(), &speed::breathe(others, 495, 1024, 65_536, 500));
@@ -358,13 +415,14 @@ pub fn speed() {
         row(&format!("V {}, E {}", g.v, g.edges.len()), &records);
     }
     println!("\n### What grows with the block");
-    println!("\nWithout the test two calls cost more on a larger block where the Rust's do not. A preparation that makes the lists of a node longer or shorter moves the lists of all later nodes, because the store is compact (docs/LAYOUT.md);");
-    println!("that is a word for each entry and one for each node, and among 900 other nodes still under the Rust's time. Clearing writes three words for each vertex and each side, because afterwards a block is the one that opening made, word for word, but");
-    println!("for the words that are free; the Rust counts up a time stamp instead, and clears each vertex and edge when it next meets it. No other call depends on V, E or N.");
+    println!("\n{WITH_THE_BLOCK}");
 }
 
 fn heading(first: &str) {
-    println!("\n| {first} | words of the block | calls | with the test, ns a call | without | Rust | Rust without locks | with / Rust | without / Rust | without / Rust without locks |\n|---|---|---|---|---|---|---|---|---|---|");
+    println!(
+        "\n| {first} | words of the block | calls | with the test, ns a call | without | Rust | Rust without locks \
+         | with / Rust | without / Rust | without / Rust without locks |\n|---|---|---|---|---|---|---|---|---|---|"
+    );
 }
 
 /// The calls of one stream, all accepted: the best of several runs each.

@@ -99,7 +99,10 @@ fn main() {
             true
         }
         _ => {
-            eprintln!("differential compare [RUNS] [SEED] | one SEED | sample FILE [SEED] | replay FILE | patches FILE | speed | library [RUNS] [SEED] | rounds [RUNS] [SEED] | openings [RUNS] [SEED] | rounds-speed");
+            eprintln!(
+                "differential compare [RUNS] [SEED] | one SEED | sample FILE [SEED] | replay FILE | patches FILE \
+                 | speed | library [RUNS] [SEED] | rounds [RUNS] [SEED] | openings [RUNS] [SEED] | rounds-speed"
+            );
             false
         }
     };

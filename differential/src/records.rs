@@ -30,8 +30,10 @@ pub fn split(mut stream: &[u8]) -> Vec<Record> {
 }
 
 pub fn words(r: &Record) -> String {
-    const NAMES: [&str; 14] =
-        ["", "graph", "edge", "virtual", "defect", "blossom", "state", "prepare", "length", "grow", "table", "advance", "contacts", "clear"];
+    const NAMES: [&str; 14] = [
+        "", "graph", "edge", "virtual", "defect", "blossom", "state", "prepare", "length", "grow", "table", "advance",
+        "contacts", "clear",
+    ];
     let k = kind(r) as usize;
     let whole = asserting::session::record_length(r) == Some(r.len()) && r.len() >= 4 && r.len() % 4 == 0;
     if !whole {

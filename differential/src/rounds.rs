@@ -1,4 +1,5 @@
-//! The calls for all clusters against the Rust's own, on its active list: answers, conflicts in their order, stops, and whole states.
+//! The calls for all clusters against the Rust's own, on its active list: answers, conflicts in their order, stops, and
+//! whole states.
 use crate::graphs::{self, Graph, Weights};
 use crate::library::{a_graph, state_differs, Lent};
 use crate::random::Random;
@@ -13,10 +14,16 @@ use std::time::Instant;
 mod c {
     extern "C" {
         pub fn fb_renew_active_list(b: *mut i64, bl: usize, a: *mut usize, al: usize) -> usize;
-        pub fn fb_prepare_all(b: *mut i64, bl: usize, s: *mut i64, sl: usize, t: *mut i64, tl: usize, a: *mut usize, al: usize) -> usize;
-        pub fn fb_grow_all(b: *mut i64, bl: usize, s: *mut i64, sl: usize, t: *mut i64, tl: usize, length: i64, a: *mut usize, al: usize) -> usize;
+        pub fn fb_prepare_all(
+            b: *mut i64, bl: usize, s: *mut i64, sl: usize, t: *mut i64, tl: usize, a: *mut usize, al: usize,
+        ) -> usize;
+        pub fn fb_grow_all(
+            b: *mut i64, bl: usize, s: *mut i64, sl: usize, t: *mut i64, tl: usize, length: i64, a: *mut usize,
+            al: usize,
+        ) -> usize;
         pub fn fb_group_max_update_length(
-            b: *mut i64, bl: usize, s: *mut i64, sl: usize, t: *mut i64, tl: usize, entries: *mut usize, el: usize, a: *mut usize, al: usize,
+            b: *mut i64, bl: usize, s: *mut i64, sl: usize, t: *mut i64, tl: usize, entries: *mut usize, el: usize,
+            a: *mut usize, al: usize,
         ) -> usize;
     }
 }
@@ -51,7 +58,10 @@ impl Port {
             match call {
                 Call::Renew => c::fb_renew_active_list(b, bl, a, al),
                 Call::PrepareAll => c::fb_prepare_all(b, bl, s, sl, t, tl, a, al),
-                Call::Group => c::fb_group_max_update_length(b, bl, s, sl, t, tl, self.entries.as_mut_ptr(), self.entries.len(), a, al),
+                Call::Group => {
+                    let (es, el) = (self.entries.as_mut_ptr(), self.entries.len());
+                    c::fb_group_max_update_length(b, bl, s, sl, t, tl, es, el, a, al)
+                }
                 Call::Round(length) => c::fb_grow_all(b, bl, s, sl, t, tl, *length, a, al),
             }
         };
@@ -381,15 +391,25 @@ pub fn compare(runs: u64, seed: u64) -> bool {
             Ok(()) => {}
             Err(End::Outside(why)) => *n.ended.entry(why).or_default() += 1,
             Err(End::Different(why)) => {
-                println!("DIFFERENT, seed {one}, {} of V {}, E {}: port | Rust: {why}", graphs::KINDS[g.kind], g.v, g.edges.len());
+                let kind = graphs::KINDS[g.kind];
+                println!("DIFFERENT, seed {one}, {kind} of V {}, E {}: port | Rust: {why}", g.v, g.edges.len());
                 different += 1;
             }
         }
     }
     let kinds: Vec<_> = graphs::KINDS.iter().zip(streams).filter(|k| k.1 > 0).map(|(k, n)| format!("{k} {n}")).collect();
-    println!("{} streams ({}), up to V {}, E {} and {} nodes", streams.iter().sum::<usize>(), kinds.join(", "), largest.0, largest.1, n.nodes);
-    println!("{} groups, {} rounds, {} renewals and preparations of all, {} calls on one node", n.groups, n.rounds, n.others, n.calls);
-    println!("{} entries, {} whole states of {} words compared; the Rust stopped at {} rounds that the port refuses", n.listed, n.states, n.words, n.stopped);
+    println!(
+        "{} streams ({}), up to V {}, E {} and {} nodes",
+        streams.iter().sum::<usize>(), kinds.join(", "), largest.0, largest.1, n.nodes
+    );
+    println!(
+        "{} groups, {} rounds, {} renewals and preparations of all, {} calls on one node",
+        n.groups, n.rounds, n.others, n.calls
+    );
+    println!(
+        "{} entries, {} whole states of {} words compared; the Rust stopped at {} rounds that the port refuses",
+        n.listed, n.states, n.words, n.stopped
+    );
     println!("answers: {}", n.answers.iter().map(|(k, n)| format!("{k} {n}")).collect::<Vec<_>>().join(", "));
     println!("ended early: {}", n.ended.iter().map(|(k, n)| format!("{k} {n}")).collect::<Vec<_>>().join(", "));
     println!("different: {different}");
@@ -421,7 +441,8 @@ fn decoding(records: &[Record], defects: &[i32]) -> Vec<Op> {
             }
             14 => {
                 let count = port.lent.answer[1];
-                let mut nodes: Vec<usize> = port.entries[..5 * count].chunks(5).flat_map(|e| if e[0] == 2 { vec![e[1], e[3]] } else { vec![e[1]] }).collect();
+                let named = |e: &[usize]| if e[0] == 2 { vec![e[1], e[3]] } else { vec![e[1]] };
+                let mut nodes: Vec<usize> = port.entries[..5 * count].chunks(5).flat_map(named).collect();
                 nodes.sort_unstable();
                 nodes.dedup();
                 for n in nodes {
@@ -477,9 +498,17 @@ macro_rules! rust_time {
 /// Times decoding runs in rounds: insertions, groups, rounds and set states, on both sides.
 pub fn speed() {
     println!("\n## Decoding in rounds");
-    println!("\nInsertion of the defects, then the group's length and a round by it, or its conflicts and the nodes in them set to Stay, until no node is active; the opening is not timed. The port by the exported calls, each of which tests block and scratch first,");
-    println!("soundness included, and works on a second block, which is copied; the Rust by its own compute_maximum_update_length and grow. The best of {ROUNDS} runs each, as microseconds a decode.");
-    println!("\n| graph | words of the block | defects | groups | rounds | port, us | Rust, us | Rust without locks | port / Rust | port / Rust without locks |\n|---|---|---|---|---|---|---|---|---|---|");
+    println!(
+        "
+Insertion of the defects, then the group's length and a round by it, or its conflicts and the nodes in them set to Stay,
+until no node is active; the opening is not timed. The port by the exported calls, each of which tests block and scratch
+first, soundness included, and works on a second block, which is copied; the Rust by its own
+compute_maximum_update_length and grow. The best of {ROUNDS} runs each, as microseconds a decode."
+    );
+    println!(
+        "\n| graph | words of the block | defects | groups | rounds | port, us | Rust, us | Rust without locks \
+         | port / Rust | port / Rust without locks |\n|---|---|---|---|---|---|---|---|---|---|"
+    );
     let r = &mut Random::new(15);
     for (d, rounds, percent) in [(7, 1, 10), (11, 1, 10), (15, 1, 5), (15, 1, 10), (15, 1, 20), (15, 8, 2), (15, 8, 5)] {
         let g = graphs::large(r, d, rounds, false, Weights::Even);
@@ -499,6 +528,9 @@ pub fn speed() {
         let (groups, played) = (count(|o| matches!(o, Op::Group)), count(|o| matches!(o, Op::Round(_))));
         let name = format!("distance {d}, {rounds} round{}: V {}, E {}", if rounds > 1 { "s" } else { "" }, g.v, g.edges.len());
         let words = Port::open(&records).lent.block.len();
-        println!("| {name} | {words} | {} | {groups} | {played} | {port:.0} | {locks:.0} | {bare:.0} | {:.2} | {:.2} |", defects.len(), port / locks, port / bare);
+        println!(
+            "| {name} | {words} | {} | {groups} | {played} | {port:.0} | {locks:.0} | {bare:.0} | {:.2} | {:.2} |",
+            defects.len(), port / locks, port / bare
+        );
     }
 }

@@ -1,4 +1,5 @@
-//! Times the port and the Rust on the same records: both read records and write lines, in one process, in alternation, best of several.
+//! Times the port and the Rust on the same records: both read records and write lines, in one process, in alternation,
+//! best of several.
 use crate::compare::flat;
 use crate::graphs::{self, Graph, Weights};
 use crate::port;
@@ -61,7 +62,10 @@ fn row(name: &str, records: &[Record]) {
 }
 
 fn heading(first: &str) {
-    println!("\n| {first} | calls | port, ns a call | Rust, ns a call | Rust without locks | port / Rust | port / Rust without locks |\n|---|---|---|---|---|---|---|");
+    println!(
+        "\n| {first} | calls | port, ns a call | Rust, ns a call | Rust without locks | port / Rust \
+         | port / Rust without locks |\n|---|---|---|---|---|---|---|"
+    );
 }
 
 /// One defect that is grown by 1, asked, shrunk by 1 and asked again.
@@ -91,8 +95,9 @@ fn star(spokes: i32) -> Graph {
     Graph { kind: 4, v: 64, edges, virtuals: vec![] }
 }
 
-/// A hub with 8 near leaves, each with 3 far ones behind heavy edges, and further vertices in pairs. `others` of these are defects that stay;
-/// the defect at the hub, whose lists stand first in the store, takes the near leaves and releases them again.
+/// A hub with 8 near leaves, each with 3 far ones behind heavy edges, and further vertices in pairs. `others` of these
+/// are defects that stay; the defect at the hub, whose lists stand first in the store, takes the near leaves and
+/// releases them again.
 pub fn breathe(others: i32, pairs: i32, n: i32, l: i32, times: usize) -> Vec<Record> {
     let mut edges: Vec<_> = (1..9).map(|x| (0, x, 2)).collect();
     edges.extend((9..33).map(|x| (1 + (x - 9) / 3, x, 1_000_000)));
@@ -137,7 +142,11 @@ pub fn table() {
         row(&spokes.to_string(), &pulse(&star(spokes), 0, 2000, 2_500));
     }
     println!("\n## Cost against the number of nodes");
-    println!("\nA defect takes 8 vertices and releases them again, in 4 growths: its boundary has 8 sides, then 24. Its lists stand before those of the other defects.");
+    println!(
+        "
+A defect takes 8 vertices and releases them again, in 4 growths: its boundary has 8 sides, then 24. Its lists stand
+before those of the other defects."
+    );
     heading("other defects");
     for others in [0, 10, 20, 30] {
         row(&others.to_string(), &breathe(others, 15, 32, 2000, 2_500));

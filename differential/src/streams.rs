@@ -39,12 +39,30 @@ struct Policy {
 }
 
 const TABLE: [Policy; 6] = [
-    Policy { follow: 40, defect: 8, blossom: 2, state: 4, prepare: 2, length: 16, unprepared: 1, grow: 2, shrink: 2, advance: 30, read: 4, bad: 0, clear: 0 },
-    Policy { follow: 5, defect: 12, blossom: 6, state: 10, prepare: 12, length: 8, unprepared: 5, grow: 18, shrink: 14, advance: 16, read: 6, bad: 4, clear: 1 },
-    Policy { follow: 25, defect: 4, blossom: 1, state: 4, prepare: 10, length: 15, unprepared: 3, grow: 12, shrink: 25, advance: 12, read: 6, bad: 0, clear: 0 },
-    Policy { follow: 15, defect: 16, blossom: 18, state: 10, prepare: 5, length: 8, unprepared: 2, grow: 10, shrink: 12, advance: 14, read: 5, bad: 1, clear: 0 },
-    Policy { follow: 10, defect: 10, blossom: 8, state: 6, prepare: 6, length: 6, unprepared: 4, grow: 10, shrink: 10, advance: 10, read: 4, bad: 30, clear: 2 },
-    Policy { follow: 4, defect: 8, blossom: 4, state: 8, prepare: 6, length: 4, unprepared: 34, grow: 14, shrink: 14, advance: 8, read: 4, bad: 1, clear: 1 },
+    Policy {
+        follow: 40, defect: 8, blossom: 2, state: 4, prepare: 2, length: 16, unprepared: 1,
+        grow: 2, shrink: 2, advance: 30, read: 4, bad: 0, clear: 0,
+    },
+    Policy {
+        follow: 5, defect: 12, blossom: 6, state: 10, prepare: 12, length: 8, unprepared: 5,
+        grow: 18, shrink: 14, advance: 16, read: 6, bad: 4, clear: 1,
+    },
+    Policy {
+        follow: 25, defect: 4, blossom: 1, state: 4, prepare: 10, length: 15, unprepared: 3,
+        grow: 12, shrink: 25, advance: 12, read: 6, bad: 0, clear: 0,
+    },
+    Policy {
+        follow: 15, defect: 16, blossom: 18, state: 10, prepare: 5, length: 8, unprepared: 2,
+        grow: 10, shrink: 12, advance: 14, read: 5, bad: 1, clear: 0,
+    },
+    Policy {
+        follow: 10, defect: 10, blossom: 8, state: 6, prepare: 6, length: 6, unprepared: 4,
+        grow: 10, shrink: 10, advance: 10, read: 4, bad: 30, clear: 2,
+    },
+    Policy {
+        follow: 4, defect: 8, blossom: 4, state: 8, prepare: 6, length: 4, unprepared: 34,
+        grow: 14, shrink: 14, advance: 8, read: 4, bad: 1, clear: 1,
+    },
 ];
 
 /// What the choice of calls knows: the nodes, and the last answer.
@@ -166,7 +184,10 @@ fn choose(r: &mut Random, p: &Policy, view: &View, v: i32, asked: &(u16, Vec<i32
     if view.inner.is_empty() || (view.inner.len() < 3 && r.chance(30)) {
         return (4, vec![r.range(0, v - 1), r.pick(&[1, 1, 1, 2, 0])]);
     }
-    let parts = [p.defect, p.blossom, p.state, p.prepare, p.length, p.unprepared, p.grow, p.shrink, p.advance, p.read, p.bad, p.clear];
+    let parts = [
+        p.defect, p.blossom, p.state, p.prepare, p.length, p.unprepared, p.grow, p.shrink, p.advance, p.read, p.bad,
+        p.clear,
+    ];
     let mut x = r.range(0, parts.iter().sum::<i32>() - 1);
     let mut i = 0;
     while x >= parts[i] {
@@ -205,7 +226,13 @@ fn head(r: &mut Random, g: &Graph) -> Vec<Record> {
     let mut sizes = [g.v, e, n, l.min(2000)];
     if r.chance(2) {
         let i = r.below(4);
-        sizes[i] = [r.pick(&[0, 65, -1, 1]), r.pick(&[0, 129, e - 1, e + 1]), r.pick(&[0, 33, -1]), r.pick(&[-1, 2001, i32::MAX])][i];
+        let bad = [
+            r.pick(&[0, 65, -1, 1]),
+            r.pick(&[0, 129, e - 1, e + 1]),
+            r.pick(&[0, 33, -1]),
+            r.pick(&[-1, 2001, i32::MAX]),
+        ];
+        sizes[i] = bad[i];
     }
     let mut edges: Vec<_> = g.edges.iter().map(|e| record(2, &[e.0, e.1, e.2])).collect();
     if r.chance(1) {
@@ -242,7 +269,10 @@ fn head(r: &mut Random, g: &Graph) -> Vec<Record> {
 fn broken(r: &mut Random) -> Record {
     match r.range(0, 3) {
         0 => {
-            let (k, n) = r.pick(&[(0, 0), (14, 0), (99, 1), (10, 1), (4, 1), (2, 3), (3, 1), (1, 4), (5, 0), (65535, 0), (13, 1), (11, 0), (9, 3)]);
+            let (k, n) = r.pick(&[
+                (0, 0), (14, 0), (99, 1), (10, 1), (4, 1), (2, 3), (3, 1), (1, 4), (5, 0), (65535, 0), (13, 1), (11, 0),
+                (9, 3),
+            ]);
             record(k, &[0, 1, 2, 3][..n])
         }
         1 => record(8, &[0, 1, r.pick(&[2, -1, i32::MAX])]),
@@ -269,7 +299,15 @@ pub fn stream(seed: u64) -> Stream {
         1..=6 => r.range(150, 600),
         _ => r.range(10, 150),
     };
-    let mut s = Stream { graph: g.kind, policy, records: vec![], said: vec![], lines: vec![], outside: false, representatives: vec![] };
+    let mut s = Stream {
+        graph: g.kind,
+        policy,
+        records: vec![],
+        said: vec![],
+        lines: vec![],
+        outside: false,
+        representatives: vec![],
+    };
     let mut session = Session::new(false);
     for rec in head(r, &g) {
         s.said.push(session.feed(&rec));
@@ -316,12 +354,21 @@ pub fn opening(g: &Graph, n: i32, l: i32) -> Vec<Record> {
     out
 }
 
-/// A stream on a graph of the library's sizes: good fields for the most part, now and then many defects first, a table at the end.
+/// A stream on a graph of the library's sizes: good fields for the most part, now and then many defects first, a table
+/// at the end.
 #[cfg(library)]
 pub fn large(seed: u64, g: &Graph) -> Stream {
     let r = &mut Random::new(seed);
     let policy = r.pick(&[0, 1, BREATHING, 3, 5]);
-    let mut s = Stream { graph: g.kind, policy, records: vec![], said: vec![], lines: vec![], outside: false, representatives: vec![] };
+    let mut s = Stream {
+        graph: g.kind,
+        policy,
+        records: vec![],
+        said: vec![],
+        lines: vec![],
+        outside: false,
+        representatives: vec![],
+    };
     let mut session = Session::new(false);
     session.limits = LIBRARY;
     let (n, l) = (r.range(20, 1024), if r.chance(80) { 65_536 } else { r.range(10_000, 65_536) });
@@ -358,8 +405,8 @@ pub fn large(seed: u64, g: &Graph) -> Stream {
 
 pub const LIBRARY: [i32; 4] = [1024, 4096, 1024, 65_536];
 
-/// A long run of a decoder on one graph: shots of some defects, each followed by a clear. Only accepted calls are left: refusals 3 to
-/// 9 and 13 change nothing and go, 10 to 12 leave a preparation, which takes their place.
+/// A long run of a decoder on one graph: shots of some defects, each followed by a clear. Only accepted calls are left:
+/// refusals 3 to 9 and 13 change nothing and go, 10 to 12 leave a preparation, which takes their place.
 pub fn decoding(seed: u64, g: &Graph, calls: usize, n: i32, l: i32) -> Vec<Record> {
     let r = &mut Random::new(seed);
     let mut out = opening(g, n, l);

@@ -8,8 +8,8 @@ The prover computes, from the definitions themselves:
   states   sound states that no call list reaches (a reached state with fields changed at random), a few calls on each;
   streams  record streams: the lines, all of them and those that fit into a random space.
 Each comparison is a theorem proved by `refl` in a crate of tests that is written beside a copy of this repository.
-The model is tests/model, the streams are those of tests/vectors, or of the file that VECTORS names. A wrong answer makes the check fail and names
-the case.
+The model is tests/model, the streams are those of tests/vectors, or of the file that VECTORS names. A wrong answer
+makes the check fail and names the case.
 """
 import argparse, collections, os, random, shutil, subprocess, sys, tempfile
 
@@ -55,13 +55,19 @@ def grouped(a, listed):
 
 def state(st):
     nodes = st.nodes
-    classes = items('removed' if n.removed else f'blossom {n.first}' if n.vertex == M.NONE else f'defectVertex {n.vertex}' for n in nodes)
+    classes = items('removed' if n.removed else f'blossom {n.first}' if n.vertex == M.NONE
+                    else f'defectVertex {n.vertex}' for n in nodes)
     stacks = items(items(f'over {v} {a}' for v, a in reversed(n.overgrown)) for n in nodes)
+    at = items(nats(x) for x in st.at)
+    graph = f'end = {nats(st.end)}; weight = {nats(st.weight)}; at = {at}; virtual = {nats(st.virtual)}'
+    holders = f'vertexHolder = {stored(st.vholder)}; vertexGrandson = {stored(st.vgrandson)}'
+    numbers = f'growState = {nats(n.state for n in nodes)}; parent = {stored(n.parent for n in nodes)}'
+    lists = f'boundary = {items(nats(n.boundary) for n in nodes)}; overgrown = {stacks}'
     return f'''record {{
-    graph = record {{ end = {nats(st.end)}; weight = {nats(st.weight)}; at = {items(nats(x) for x in st.at)}; virtual = {nats(st.virtual)} }};
-    vertices = record {{ defect = {nats(st.defect)}; vertexHolder = {stored(st.vholder)}; vertexGrandson = {stored(st.vgrandson)} }};
+    graph = record {{ {graph} }};
+    vertices = record {{ defect = {nats(st.defect)}; {holders} }};
     sides = record {{ growth = {nats(st.growth)}; holder = {stored(st.holder)}; grandson = {stored(st.grandson)} }};
-    nodes = record {{ class = {classes}; growState = {nats(n.state for n in nodes)}; parent = {stored(n.parent for n in nodes)}; dual = {nats(n.dual for n in nodes)}; boundary = {items(nats(n.boundary) for n in nodes)}; overgrown = {stacks} }};
+    nodes = record {{ class = {classes}; {numbers}; dual = {nats(n.dual for n in nodes)}; {lists} }};
     nodeLimit = {st.N};
     storeLimit = {st.L};
     active = {nats(st.active)} }}'''
@@ -119,10 +125,12 @@ def call(rng, st):
         bare = [i for i in blossoms if st.nodes[i].dual == 0]
         return 'remove', rng.choice(bare if bare and rng.random() < .8 else blossoms or [rng.randrange(n + 1)])
     if n == 0 or x < .14 or n < 3 and rng.random() < .5:
-        return 'defect', rng.randrange(st.V + (rng.random() < .1)), rng.choice([1, 1, 1, 1, 0, 2, 3 if rng.random() < .2 else 1])
+        v = rng.randrange(st.V + (rng.random() < .1))
+        return 'defect', v, rng.choice([1, 1, 1, 1, 0, 2, 3 if rng.random() < .2 else 1])
     if x < .30 and len(outermost) >= 3 or x < .16:
         good = len(outermost) >= 3 and rng.random() < .85
-        return 'blossom', rng.choice([1, 1, 0, 2]), rng.sample(outermost, 3) if good else [rng.randrange(n) for _ in range(rng.randint(1, 4))]
+        x = rng.choice([1, 1, 0, 2])
+        return 'blossom', x, rng.sample(outermost, 3) if good else [rng.randrange(n) for _ in range(rng.randint(1, 4))]
     if x < .36: return 'state', i, rng.choice([0, 1, 2, 2, 1, 3 if rng.random() < .2 else 1])
     if x < .38: return 'prepare', i, rng.choice([0, 1, 1, 2 if rng.random() < .2 else 0])
     if x < .48: return 'length', i, rng.choice([0, 1]), rng.random() < .6
@@ -161,7 +169,9 @@ def unreached(rng):
             elif k == 1: st.holder[s], st.grandson[s] = rng.randrange(n), rng.choice(defects)
             elif k == 2: st.vholder[v] = rng.choice([M.NONE, rng.randrange(n)])
             elif k == 3: st.nodes[i].boundary = rng.sample(range(2 * st.E), rng.randint(0, min(4, 2 * st.E)))
-            elif k == 4: st.nodes[i].overgrown = [(u, rng.choice([0, 0, 1, 3])) for u in rng.sample(range(st.V), rng.randint(0, 2))]
+            elif k == 4:
+                some = rng.sample(range(st.V), rng.randint(0, 2))
+                st.nodes[i].overgrown = [(u, rng.choice([0, 0, 1, 3])) for u in some]
             elif k == 5: st.nodes[i].dual = rng.choice([0, 1, 2, 7])
             elif k == 6: st.nodes[i].state = rng.randrange(3)
             else: st.active = rng.sample(range(n), rng.randint(0, n))
@@ -200,6 +210,8 @@ after c ((k gives o) ∷ ls) = after (respond c k .state) ls
 
 def case(name, start, lines, st):
     body = ' ∷\n    '.join(lines + ['[]'])
+    gives = f'given {name}-start {name}-lines ≡ wanted {name}-lines'
+    last = f'after {name}-start {name}-lines'
     return f'''{name}-start : State
 {name}-start = {start}
 
@@ -207,7 +219,7 @@ def case(name, start, lines, st):
 {name}-lines =
     {body}
 
-{name} : (given {name}-start {name}-lines ≡ wanted {name}-lines) × (after {name}-start {name}-lines ≡ {state(st)}) × (stateSound (after {name}-start {name}-lines) ≡ {truth(not M.sound(st))})
+{name} : ({gives}) × ({last} ≡ {state(st)}) × (stateSound ({last}) ≡ {truth(not M.sound(st))})
 unfolding everything edge given wanted after {name}-start {name}-lines
 {name} = (refl, refl, refl)
 
@@ -226,10 +238,12 @@ def state_case(rng, name):
         n, v = len(st.nodes), rng.randrange(st.V)
         i = rng.randrange(n)
         p = rng.choice([j for j in range(n) if st.nodes[j].parent == M.NONE and st.nodes[j].vertex == M.NONE] or [i])
-        lines.append(line(st, rng.choice([('prepare', i, 0), ('prepare', i, 1), ('length', i, 0, False), ('length', i, 1, False), ('length', i, 1, True),
-                                          ('length', i, 0, True), ('grow', i, 1), ('grow', i, -1), ('advance', i), ('defect', v, 1),
-                                          ('prepare_all',), ('group',), ('group',), ('round', 1), ('round', 2), ('renew',), ('state', i, rng.randrange(3)), ('remove', p), ('remove', p), ('remove', i),
-                                          ('blossom', 1, rng.sample(range(n), 3) if n > 2 else [i])])))
+        lines.append(line(st, rng.choice([
+            ('prepare', i, 0), ('prepare', i, 1), ('length', i, 0, False), ('length', i, 1, False),
+            ('length', i, 1, True), ('length', i, 0, True), ('grow', i, 1), ('grow', i, -1), ('advance', i),
+            ('defect', v, 1), ('prepare_all',), ('group',), ('group',), ('round', 1), ('round', 2), ('renew',),
+            ('state', i, rng.randrange(3)), ('remove', p), ('remove', p), ('remove', i),
+            ('blossom', 1, rng.sample(range(n), 3) if n > 2 else [i])])))
     return case(name, start, lines, st)
 
 
@@ -267,14 +281,18 @@ use Rattle.records.specs.Opens.{everything}
 
 def main():
     p = argparse.ArgumentParser(description=__doc__, formatter_class=argparse.RawDescriptionHelpFormatter)
-    for name, default in ('lists', 600), ('states', 200), ('streams', 100), ('seed', 1): p.add_argument('--' + name, type=int, default=default)
+    for name, default in ('lists', 600), ('states', 200), ('streams', 100), ('seed', 1):
+        p.add_argument('--' + name, type=int, default=default)
     p.add_argument('--keep', help='write the copy here and leave it')
     o = p.parse_args()
     rng = random.Random(o.seed)
     modules, per = {}, 20
-    for kind, count, make, what in (('Lists', o.lists, list_case, 'Random call lists.'), ('States', o.states, state_case, 'Sound states that no call list reaches.')):
+    for kind, count, make, what in (
+            ('Lists', o.lists, list_case, 'Random call lists.'),
+            ('States', o.states, state_case, 'Sound states that no call list reaches.')):
         for f in range(0, count, per):
-            modules[f'{kind}{f // per}'] = HEAD.format(what) + ''.join(make(rng, f'case{k}') for k in range(f, min(f + per, count)))
+            cases = [make(rng, f'case{k}') for k in range(f, min(f + per, count))]
+            modules[f'{kind}{f // per}'] = HEAD.format(what) + ''.join(cases)
     chosen = streams(rng, o.streams) if o.streams else []
     for f in range(0, len(chosen), per):
         modules[f'Streams{f // per}'] = STREAMS + ''.join(
@@ -292,7 +310,8 @@ def main():
     run = subprocess.run(['rt', 'check', 'trial'], cwd=top, capture_output=True, text=True)
     for l in run.stdout.splitlines() + run.stderr.splitlines():
         if 'error' in l or l.startswith('rt:'): print(l[:300])
-    print(f'seed {o.seed}: {o.lists} call lists, {o.states} states that no call list reaches, {len(chosen)} record streams; ' + ', '.join(f'{k} {v}' for k, v in sorted(SEEN.items())))
+    print(f'seed {o.seed}: {o.lists} call lists, {o.states} states that no call list reaches, {len(chosen)} record '
+          'streams; ' + ', '.join(f'{k} {v}' for k, v in sorted(SEEN.items())))
     if not o.keep: shutil.rmtree(top)
     sys.exit(run.returncode)
 

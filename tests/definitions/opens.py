@@ -25,6 +25,7 @@ for crate, modules in MODULES.items():
         names += [f'{module}.{n}' for n in re.findall(r'(?m)^\s*unfoldable pub (\S+) :', text)]
     with open(f'crates/{crate}/specs/Opens.antt', 'w') as out:
         and_below = ' and of those below' if BELOW[crate] else ''
-        out.write(f'-- A name that opens all definitions of this crate{and_below}: under `unfolding everything` a closed term computes.\n')
+        out.write(f'-- A name that opens all definitions of this crate{and_below}: under `unfolding everything` a '
+                  'closed term computes.\n')
         out.write('use Prim.Native.Nat.{ℕ}\n' + '\n'.join(uses) + '\n\n')
         out.write('unfoldable pub everything : ℕ\nunfolding ' + ' '.join(names) + '\neverything = 0\n')

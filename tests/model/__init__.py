@@ -1,5 +1,5 @@
-"""An executable model of the card's calls, written from document 01, without regard to speed or memory. It knows
-nothing of the code.
+"""An executable model of the calls, written from what docs/SPECIFICATION.md says of them, without regard to speed or
+memory. It knows nothing of the code.
 
 A state is a State; a call takes it, changes it and answers a tuple: ('free', length, empty, unlimited), ('conflict',
 ..), ('refused', k), ..

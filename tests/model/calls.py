@@ -1,4 +1,4 @@
-"""The calls. Each takes a State, changes it as document 01 says, and answers a tuple."""
+"""The calls. Each takes a State, changes it as docs/SPECIFICATION.md 5 to 8 say, and answers a tuple."""
 from . import passes
 from .state import DUAL_MAX, GROW, GROWTH_MAX, NONE, SHRINK, STAY, Node, opp
 

@@ -1,4 +1,4 @@
-"""Preparation: passes over a node's boundary until none calls for another."""
+"""Preparation (docs/SPECIFICATION.md 4): passes over a node's boundary until none calls for another."""
 from .state import NONE, opp
 
 

@@ -1,4 +1,4 @@
-"""cardrun modelled: records in, lines out."""
+"""cardrun modelled: records in, lines out (docs/SPECIFICATION.md 10)."""
 import struct
 
 from . import calls

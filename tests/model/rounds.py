@@ -1,4 +1,4 @@
-"""All clusters at once, as request N1 words them: renewal of the active list, a preparation, a length and a growth of
+"""All clusters at once (docs/SPECIFICATION.md 14): renewal of the active list, a preparation, a length and a growth of
 every active node. The last three are tried on a copy of the state, which takes its place only if no node is refused.
 """
 from . import calls

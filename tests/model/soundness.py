@@ -1,4 +1,4 @@
-"""Soundness, as document 01 words it, and as opened blossoms extend it."""
+"""Soundness, as docs/SPECIFICATION.md 3.3 words it."""
 from .calls import lists
 from .state import DUAL_MAX, GROWTH_MAX, NONE
 

@@ -164,8 +164,9 @@ def main():
     native = [l for l in run.stdout.splitlines() + run.stderr.splitlines() if 'native' in l]
     print('\n'.join(native))
     most = max(x[3] for x in every)
-    print(f'{len(every)} preparations in the streams, {len(busy)} of which change the block, {most} passes at the most; {len(chosen)} run, '
-          f'{sum(x[2] for x in chosen)} of them growing, {sum(x[3] > 1 for x in chosen)} of more than one pass')
+    print(f'{len(every)} preparations in the streams, {len(busy)} of which change the block, {most} passes at the most;'
+          f' {len(chosen)} run, {sum(x[2] for x in chosen)} of them growing,'
+          f' {sum(x[3] > 1 for x in chosen)} of more than one pass')
     shutil.rmtree(top)
     sys.exit(0 if len(native) == 3 and all(l.startswith('ok') for l in native) else 1)
 

@@ -1,5 +1,6 @@
 #!/usr/bin/env python3
-"""Every small patch, read a second time: the program's list, and the runs that the gate replays.
+"""Every small patch (docs/SPECIFICATION.md 16), read a second time: the program's list, and the runs that the gate
+replays.
 
     tests/patches/test_patches.py
 """

@@ -1,5 +1,6 @@
 #!/usr/bin/env python3
-"""fb_open_sheet against a reading of the request with fractions: weights, counts, refusals, what is left in memory."""
+"""fb_open_sheet against a reading of docs/SPECIFICATION.md 15 with fractions: weights, counts, refusals, what is left
+in memory."""
 import ctypes
 import itertools
 import math

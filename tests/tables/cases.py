@@ -215,4 +215,5 @@ def file():
     """The file that the gate hands to the program: the stored tables, counts that fit no table, and an end inside one."""
     count = lambda x: x.to_bytes(8, 'little', signed=True)  # noqa: E731
     whole = b''.join(reading.words(*t) for t in stored())
-    return whole + count(0) + count(3) + 24 * b'\7' + count(9) + 72 * b'\xff' + reading.words(*worked(*P1)) + reading.words(*worked(*P8))[:-5]
+    odd = count(0) + count(3) + 24 * b'\7' + count(9) + 72 * b'\xff'
+    return whole + odd + reading.words(*worked(*P1)) + reading.words(*worked(*P8))[:-5]

@@ -32,7 +32,8 @@ def table(rng, count):
     far = [reading.shortest(v, edges, [a]) for a in defects]
     reach = reading.shortest(v, edges, virtuals)
     duals = [min(reach[a], 300_000) for a in defects]
-    return (v, 4096, edges, virtuals, defects, duals, reading.afresh(v, edges, defects, duals, far), cases.rows(v, edges, defects))
+    growths = reading.afresh(v, edges, defects, duals, far)
+    return (v, 4096, edges, virtuals, defects, duals, growths, cases.rows(v, edges, defects))
 
 
 def main():

@@ -1,11 +1,12 @@
-"""An independent reading of request N13 in Python: the verdict on a table from another decoder. Distances by Dijkstra, the table by its rule."""
+"""An independent reading of docs/SPECIFICATION.md 17 in Python: the verdict on a table from another decoder. Distances
+by Dijkstra, the table by its rule."""
 import heapq
 
 WEIGHT, DUAL, GROWTH, DISTANCE = 1_000_000, 1_000_000_000, 1_100_000_000_000, 1_023_000_000
 
 
 def refusal(v, e, edges, virtuals, defects, duals, growths, distances):
-    """4 for sizes, 1 for lengths, 4 for numbers out of range or a defect twice; 0 for none. Everything is a flat list of integers."""
+    """4 for sizes, 1 for lengths, 4 for numbers out of range or a defect twice; 0 for none. All lists are flat."""
     if not (1 <= v <= 1024 and 1 <= e <= 4096 and (len(edges) + 2) // 3 == e):
         return 4
     if len(duals) != len(defects) or len(growths) != 2 * e or len(distances) != len(defects) * v:
@@ -60,7 +61,9 @@ def afresh(v, edges, defects, duals, far):
 
 
 def fault(v, e, edges, virtuals, defects, duals, growths, distances):
-    """The first rule that fails, in the order of the request, and where; None where the answer is yes. Nothing refuses the call."""
+    """The first rule that fails, in the order of the section, and where; None where the answer is yes.
+
+    Nothing refuses the call."""
     for i in range(e):
         if edges[3 * i + 2] == 0:
             return f"edge {i} has weight 0"

@@ -1,6 +1,6 @@
 #!/usr/bin/env python3
-"""The program tablecheck against an independent reading of request N13: stored tables, random runs and tables spoiled at
-one place, files cut or filled with noise; the tool and the exported call against the same.
+"""The program tablecheck against an independent reading of docs/SPECIFICATION.md 17: stored tables, random runs and
+tables spoiled at one place, files cut or filled with noise; the tool and the exported call against the same.
 
     tests/tables/test_tables.py            in seconds
     tests/tables/test_tables.py 100000     so many random tables

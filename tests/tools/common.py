@@ -19,7 +19,7 @@ from cluster_growth import library  # noqa: E402
 
 needs_library = unittest.skipUnless(library.find(), 'the library is not built: tools/build-library.sh')
 
-# graph P of document 01: four vertices in a row, both ends virtual
+# graph P (docs/SPECIFICATION.md 13.1): four vertices in a row, both ends virtual
 P = 'graph 4 3 4 40\nedge 0 1 4; edge 1 2 4; edge 2 3 4\nvirtual 0; virtual 3\n'
 
 

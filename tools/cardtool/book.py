@@ -1,5 +1,5 @@
-"""Document 01's book: nodes and dual variables from the calls and their answers alone, without a look into the block.
-"""
+"""The book (docs/SPECIFICATION.md 11.1): nodes and dual variables from the calls and their answers alone, without a
+look into the block."""
 from .faults import NotCovered
 from .words import DIRECTIONS, STATES
 

@@ -1,4 +1,5 @@
--- The worked examples P1 to P9 of document 01, as one theorem over a list of cases: the answers to the calls, and the tables.
+-- The worked examples P1 to P9 (SPECIFICATION 13.1), as one theorem over a list of cases: the answers to the calls, and
+-- the tables.
 use Prim.Native.Nat.{ℕ}
 use mathlib.Core.Path.{_≡_, refl}
 use mathlib.Core.Bool.{true, false}

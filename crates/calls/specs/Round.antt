@@ -1,5 +1,5 @@
--- All clusters at once: renewal of the active list, a preparation, a length and a growth of every active node. The last three are tried
--- node by node, Shrink nodes first, and leave nothing where one node is refused.
+-- All clusters at once (SPECIFICATION 14): renewal of the active list, a preparation, a length and a growth of every
+-- active node. The last three are tried node by node, Shrink nodes first, and leave nothing where one node is refused.
 use Prim.Native.Nat.{ℕ, zero, suc, _+_}
 use mathlib.Core.Bool.{Bool, true, false, _&&_, _||_, not}
 use mathlib.Core.List.{List, [], _∷_, _++_}

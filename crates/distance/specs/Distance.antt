@@ -8,7 +8,8 @@ use lib.Dec.{leb}
 use lib.ListN.{length, getD, set, replicate}
 use Rattle.distance.specs.Graph.{Graph, sides, near, across, weight, Walk}
 
--- The distance to a vertex that no walk reaches. Document 01 asks that it be above every dual variable; those are at most 1,000,000,000.
+-- The distance to a vertex that no walk reaches. It must be above every dual variable (SPECIFICATION 11.2); those are
+-- at most 1,000,000,000.
 unfoldable pub unreachable : ℕ
 unreachable = 2_000_000_000_000
 

@@ -10,7 +10,7 @@ use Rattle.distance.specs.Table.{tableFromDistances}
 use Rattle.distance.specs.Feasible.{Feasible}
 use Rattle.distance.specs.Opens.{everything}
 
--- ---- document 01's graph P
+-- ---- graph P (SPECIFICATION 13.1)
 
 -- four vertices in a row, edges of weight 4, a virtual vertex at both ends
 abbrev pub graphP : Graph
@@ -29,7 +29,7 @@ P1-table : tableFromDistances graphP (0 ∷ 2 ∷ 2 ∷ 0 ∷ []) ≡ 0 ∷ 2 �
 unfolding everything
 P1-table = refl
 
--- ---- two more of document 01
+-- ---- two more of SPECIFICATION 13.1
 
 -- P8: dual variable 5 at vertex 1 fills the edge of weight 2 and no more
 P8-table : tableFromDistances (record { size = 3; ends = 0 ∷ 1 ∷ 1 ∷ 2 ∷ []; weights = 2 ∷ 6 ∷ []; virtual = 0 ∷ 0 ∷ 1 ∷ [] }) (0 ∷ 5 ∷ 0 ∷ [])

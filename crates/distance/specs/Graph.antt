@@ -36,7 +36,8 @@ weight g s = getD (g .weights) (s / 2) 0
 abbrev pub Virtual : Graph → ℕ → Type 0
 Virtual g v = 0 < getD (g .virtual) v 0
 
--- What document 01 asks of a graph: at most 1,024 vertices, weights of at most 1,000,000, and two different vertices at the ends of an edge.
+-- What is asked of a graph (SPECIFICATION 2): at most 1,024 vertices, weights of at most 1,000,000, and two different
+-- vertices at the ends of an edge.
 pub record WellFormed (g : Graph) : Type 0 where
   pub paired : length (g .ends) ≡ 2 * length (g .weights)
   pub placed : (s : ℕ) → s < sides g → near g s < g .size

@@ -1,4 +1,4 @@
--- The growth table worked out from distances and dual variables alone: the rule of document 01's section on the table.
+-- The growth table worked out from distances and dual variables alone: the rule of SPECIFICATION 11.2.
 use mathlib.Core.Bool.{Bool, true, false}
 use mathlib.Core.Option.{Option, none, some}
 use mathlib.Core.List.{List, [], _∷_, _++_}

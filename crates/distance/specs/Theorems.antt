@@ -97,7 +97,7 @@ module _ (g : Graph) (ok : WellFormed g) (m : List ℕ) (marks : ReachMarks g m)
 -- ---- growth under feasible dual variables
 
 module _ (g : Graph) (ok : WellFormed g) (y : List ℕ) (feasible : Feasible g y) where
-  -- At most one defect covers a vertex, so that "that defect" of document 01 has a meaning.
+  -- At most one defect covers a vertex, so that "that defect" of the rule (SPECIFICATION 11.2) has a meaning.
   pub one-defect-covers : (a b u : ℕ) → u < g .size → Covers g y a u → Covers g y b u → a ≡ b
   one-defect-covers = one-covers g ok y feasible
 

@@ -21,7 +21,7 @@ unfoldable pub flag : Bool → ℕ
 flag true = 1
 flag false = 0
 
--- an answer on paper: the number of its case, and its values
+-- an answer in words, a length with its sign: the number of its case, and its values (SPECIFICATION 9)
 unfoldable pub answerWords : Answer → List ℤ
 answerWords (NonZeroGrow l e) = pos 0 ∷ l ∷ pos (flag e) ∷ []
 answerWords (Unlimited e) = pos 1 ∷ pos (flag e) ∷ []

@@ -1,4 +1,4 @@
--- A call on memory that a host lends: what it answers, and what block and scratch hold afterwards.
+-- A call on memory that a host lends (SPECIFICATION 7.1): what it answers, and what block and scratch hold afterwards.
 use Prim.Native.Nat.{ℕ}
 use mathlib.Core.Path.{_≡_}
 use mathlib.Core.Bool.{Bool, true, false, _&&_, not}

@@ -1,4 +1,4 @@
--- Records: length of the rest (2 bytes), kind (2 bytes), fields of 4 bytes, all little-endian.
+-- Records (SPECIFICATION 10): length of the rest (2 bytes), kind (2 bytes), fields of 4 bytes, all little-endian.
 -- A field is read as a number without sign. A negative one reads as 2^31 or more, which is above every limit, so it is
 -- refused just as the negative number is. Only the length of a growth is given its sign.
 use Prim.Native.Nat.{ℕ, zero, suc, _+_, _-_, _*_, _/_, _%_}

@@ -1,4 +1,4 @@
--- Graph P of document 01: what the theorems ask holds of it by computing, and two runs on it have the same table.
+-- Graph P (SPECIFICATION 13.1): what the theorems ask holds of it by computing, and two runs on it have the same table.
 use Prim.Native.Nat.{ℕ, zero, suc, _<_}
 use native.Mathlib.Omega.{arith}
 use mathlib.Core.Path.{_≡_, refl, sym, ap, _∙_}

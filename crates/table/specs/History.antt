@@ -1,5 +1,5 @@
--- The history that document 01 keeps of a list of calls (its book): each node's vertex, grow state and dual variable, told by the calls and
--- by the answers of the definitions alone. The growth table of a state never enters it.
+-- The history of a list of calls, or its book (SPECIFICATION 11.1): each node's vertex, grow state and dual variable,
+-- told by the calls and by the answers of the definitions alone. The growth table of a state never enters it.
 use Prim.Native.Nat.{ℕ, suc}
 use mathlib.Core.Bool.{Bool, true, _&&_, not}
 use mathlib.Core.List.{List, [], _∷_, _++_, map}

@@ -1,5 +1,6 @@
--- Demand 3 of document 01: the growth table after any list of calls without a blossom is the one worked out from distances. About the
--- definitions, History and Runs define what Theorems states; about the code, Steps defines what Delivered states. The proofs are in laws/.
+-- Demand 3 (SPECIFICATION 11.3) about the definitions: the growth table after any list of calls without a blossom is
+-- the one worked out from distances. History and Runs define what Theorems states; Hypotheses shows that each of its
+-- hypotheses is needed, Examples that it is not vacuous. The proofs are in laws/. About the code: crate `table_claim`.
 pub mod Answers
 pub mod History
 pub mod Runs

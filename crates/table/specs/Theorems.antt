@@ -1,5 +1,6 @@
--- Demand 3 of document 01. A run is an accepted opening and any list of calls in which no blossom is accepted (Runs); its history has each
--- node's dual variable (History); distances and the table from them are those of crate `distance`.
+-- Demand 3 (SPECIFICATION 11.3), about states. A run is an accepted opening and any list of calls in which no blossom
+-- is accepted (Runs); its history has each node's dual variable (History); distances and the table from them are those
+-- of crate `distance`.
 use Prim.Native.Nat.{ℕ, suc, _<_}
 use mathlib.Core.Path.{_≡_}
 use mathlib.Core.Logic.{_↔_}

@@ -1,4 +1,5 @@
--- A table from another decoder. Verdict says when it is right; Handed reads the words; Theorems says what is proved. Tests is what the code does.
+-- A table from another decoder (SPECIFICATION 17). Verdict says when it is right; Handed reads the words; Theorems says
+-- what is proved. Tests is what the code does.
 pub mod Handed
 pub mod Verdict
 pub mod Tests

@@ -1,4 +1,4 @@
--- The table afresh (demand 3), as one claim. In words:
+-- The table afresh (demand 3, SPECIFICATION 11.3), as one claim. In words:
 --
 --   Open a graph whose weights are all above 0 and in which every vertex reaches a virtual one, and then make any calls, with any numbers and
 --   any lent memory, refused ones among them, as long as no blossom is accepted. After them the growth table that is read, or printed, is the

@@ -1,4 +1,5 @@
--- Graph P of document 01 as streams of records: what the demand asks of them holds by computing, and so do the lines that it speaks of.
+-- Graph P (SPECIFICATION 13.1) as streams of records: what demand 3 asks of them holds by computing, and so do the
+-- lines that it speaks of.
 use Prim.Native.Nat.{ℕ, zero, suc, _+_, _*_, _<_}
 use native.Mathlib.Omega.{arith}
 use mathlib.Core.Path.{_≡_, refl, sym, ap, _∙_}

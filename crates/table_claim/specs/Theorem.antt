@@ -1,4 +1,4 @@
--- The theorem: demand 3 holds of every suitable graph.
+-- The theorem: demand 3 (SPECIFICATION 11.3) holds of every suitable graph.
 use Prim.Native.Nat.{ℕ}
 use mathlib.Core.List.{List}
 use Rattle.graph.specs.Open.{Edge}

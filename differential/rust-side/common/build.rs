@@ -1,13 +1,13 @@
 // Writes $OUT_DIR/fb.rs, the module list of a crate: the three files of fusion-blossom, compiled where they stand and
-// unmodified, and beside them the stand-ins of this folder. FB_SRC names the folder of the three files
-// (src--src--X.rs.txt or X.rs); by default ../shared/docs/src, seen from the root of the repository.
+// unmodified, and beside them the stand-ins of this folder. FB_SRC names the folder of the three files (X.rs, or
+// src--src--X.rs.txt), which are not in the repository.
 use std::{env, fs, path::Path};
 
 fn main() {
     let here = env::var("CARGO_MANIFEST_DIR").unwrap();
     let package = env::var("CARGO_PKG_NAME").unwrap();
     let common = format!("{here}/../common");
-    let src = env::var("FB_SRC").unwrap_or_else(|_| format!("{here}/../../../../shared/docs/src"));
+    let src = env::var("FB_SRC").expect("FB_SRC must name the folder of the three Rust files: differential/README.md");
     println!("cargo:rerun-if-env-changed=FB_SRC");
     println!("cargo:rerun-if-changed={common}/build.rs");
     let mut out = String::new();

@@ -1,6 +1,6 @@
-//! The calls of the card on the unmodified DualModuleSerial. Two ways of calling it:
-//! `call` works out the refusals of document 01 from the Rust's state and mends preparation, `straight` calls the Rust's own
-//! methods and knows of refusals only what it is told.
+//! The calls of the card on the unmodified DualModuleSerial. Two ways of calling it: `call` works out the refusals
+//! (docs/SPECIFICATION.md 8) from the Rust's state and mends preparation, `straight` calls the Rust's own methods and
+//! knows of refusals only what it is told.
 use super::dual_module::*;
 use super::dual_module_serial::*;
 use super::util::*;
@@ -249,7 +249,9 @@ impl Card {
             return Some(10);
         }
         let much = 1_000_000_000;
-        let more = i.dual_variable + by > much || top.is_some_and(|t| t + by > much) || any(&|own, _, _, _| own + by > 1_100_000_000_000);
+        let more = i.dual_variable + by > much
+            || top.is_some_and(|t| t + by > much)
+            || any(&|own, _, _, _| own + by > 1_100_000_000_000);
         more.then_some(12)
     }
 
@@ -264,13 +266,13 @@ impl Card {
         Ok(p)
     }
 
-    // ------------------------------------------------------------------ the calls, refused as document 01 says, and mended
+    // ------------------------------------------------- the calls, refused as docs/SPECIFICATION.md 8 says, and mended
 
     pub fn call(&mut self, kind: u16, a: &[i32]) -> Answer {
         self.mended = false;
         match catch_unwind(AssertUnwindSafe(|| self.call_or_refusal(kind, a))) {
             Ok(Ok(x)) | Ok(Err(x)) => x,
-            // the length of a side that the scan may not meet: document 01's refusal 13
+            // the length of a side that the scan may not meet: refusal 13
             Err(why) if kind == 8 && unreachable_code(&why) => Refused(13),
             Err(_) => Stopped,
         }

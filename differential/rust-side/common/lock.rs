@@ -1,5 +1,5 @@
-//! The lock of the pointers stand-in: parking_lot's. One that is already taken in a conflicting way panics ("deadlock") instead of hanging:
-//! there is one thread.
+//! The lock of the pointers stand-in: parking_lot's. One that is already taken in a conflicting way panics ("deadlock")
+//! instead of hanging: there is one thread.
 pub use parking_lot::{RwLock, RwLockReadGuard, RwLockWriteGuard};
 
 pub fn rd<T>(l: &RwLock<T>) -> RwLockReadGuard<'_, T> {

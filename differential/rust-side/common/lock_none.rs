@@ -1,4 +1,5 @@
-//! No lock is taken: a guard is a plain reference. For timing only: the same calls with lock.rs have shown that no two guards conflict.
+//! No lock is taken: a guard is a plain reference. For timing only: the same calls with lock.rs have shown that no two
+//! guards conflict.
 use std::cell::UnsafeCell;
 use std::ops::{Deref, DerefMut};
 

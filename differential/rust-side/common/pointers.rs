@@ -1,5 +1,6 @@
 //! Stand-in for fusion-blossom's src/pointers.rs (its safe variant), written from how the three files use it:
-//! Arc<RwLock<T>> with pointer identity as equality. The lock is that of lock.rs, or, for timing, the one of lock_none.rs that is none.
+//! Arc<RwLock<T>> with pointer identity as equality. The lock is that of lock.rs, or, for timing, the one of
+//! lock_none.rs that is none.
 #![allow(dead_code)]
 use super::util::FastClearTimestamp;
 use super::lock::{rd, wr, RwLock, RwLockReadGuard, RwLockWriteGuard};

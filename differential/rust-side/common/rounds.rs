@@ -78,7 +78,8 @@ impl Session {
     pub fn round(&mut self, length: Weight) -> Option<()> {
         self.on_module(|c| c.module.grow(length))
     }
-    /// The Rust's renewal is private: a round of length 0 renews the list and moves nothing. The assertion on the length is passed over.
+    /// The Rust's renewal is private: a round of length 0 renews the list and moves nothing. The assertion on the
+    /// length is passed over.
     pub fn renew(&mut self) -> Option<()> {
         self.round(0)
     }

@@ -1,4 +1,4 @@
-//! Records in, lines out, on the Rust: the record rules of document 01 around `card`.
+//! Records in, lines out, on the Rust: the rules of docs/SPECIFICATION.md 10 around `card`.
 use super::card::{unreachable_code, Answer, Card, Sizes};
 use super::dual_module::*;
 use super::util::Weight;
@@ -56,12 +56,20 @@ pub fn write_answer(out: &mut Vec<u8>, r: usize, x: &Answer) {
         Answer::Stopped => Ok(()),
         Answer::Edges(g) => g.iter().enumerate().try_for_each(|(e, g)| writeln!(out, "{r} edge {e} {} {}", g.0, g.1)),
         Answer::Contacts(c) => c.iter().try_for_each(|e| writeln!(out, "{r} contact {e}")),
-        Answer::Length(MaxUpdateLength::NonZeroGrow((l, e))) => writeln!(out, "{r} free {} {}", if *l == Weight::MAX { -1 } else { *l }, i32::from(*e)),
-        Answer::Length(MaxUpdateLength::Conflicting((a, b), (c, d))) => writeln!(out, "{r} conflict {} {} {} {}", i(a), i(b), i(c), i(d)),
-        Answer::Length(MaxUpdateLength::TouchingVirtual((a, b), (v, m))) => writeln!(out, "{r} virtual {} {} {} {}", i(a), i(b), v, i32::from(*m)),
+        Answer::Length(MaxUpdateLength::NonZeroGrow((l, e))) => {
+            writeln!(out, "{r} free {} {}", if *l == Weight::MAX { -1 } else { *l }, i32::from(*e))
+        }
+        Answer::Length(MaxUpdateLength::Conflicting((a, b), (c, d))) => {
+            writeln!(out, "{r} conflict {} {} {} {}", i(a), i(b), i(c), i(d))
+        }
+        Answer::Length(MaxUpdateLength::TouchingVirtual((a, b), (v, m))) => {
+            writeln!(out, "{r} virtual {} {} {} {}", i(a), i(b), v, i32::from(*m))
+        }
         Answer::Length(MaxUpdateLength::BlossomNeedExpand(a)) => writeln!(out, "{r} expand {}", i(a)),
         Answer::Length(MaxUpdateLength::VertexShrinkStop((a, None))) => writeln!(out, "{r} stop {}", i(a)),
-        Answer::Length(MaxUpdateLength::VertexShrinkStop((a, Some((b, c))))) => writeln!(out, "{r} stop {} {} {}", i(a), i(b), i(c)),
+        Answer::Length(MaxUpdateLength::VertexShrinkStop((a, Some((b, c))))) => {
+            writeln!(out, "{r} stop {} {} {}", i(a), i(b), i(c))
+        }
     }
     .unwrap()
 }
@@ -75,7 +83,18 @@ pub fn record_length(input: &[u8]) -> Option<usize> {
 impl Session {
     /// `straight` calls the Rust's own methods and constructor; otherwise refusals are worked out and preparation is mended.
     pub fn new(straight: bool) -> Self {
-        Session { straight, record: 0, sizes: None, edges: vec![], virtuals: vec![], card: None, ended: false, lines: vec![], limits: PROGRAM, fields: vec![] }
+        Session {
+            straight,
+            record: 0,
+            sizes: None,
+            edges: vec![],
+            virtuals: vec![],
+            card: None,
+            ended: false,
+            lines: vec![],
+            limits: PROGRAM,
+            fields: vec![],
+        }
     }
 
     fn end(&mut self, kind: u16, k: u8) -> Said {

@@ -85,12 +85,17 @@ impl Card {
             };
             let parent = n.parent_blossom.as_ref().map_or(0, |b| number(&b.upgrade_force()) + 1);
             let start = rows[7].len() as i64;
-            let words = [class, state, parent, i.dual_variable as i64, start, i.boundary.len() as i64, i.overgrown_stack.len() as i64];
+            let (boundary, overgrown) = (i.boundary.len() as i64, i.overgrown_stack.len() as i64);
+            let words = [class, state, parent, i.dual_variable as i64, start, boundary, overgrown];
             for (row, x) in rows.iter_mut().zip(words) {
                 row.push(x);
             }
-            rows[7].extend(i.boundary.iter().map(|(left, e)| 2 * e.upgrade_force().read_recursive_force().edge_index as i64 + i64::from(!left)));
-            rows[7].extend(i.overgrown_stack.iter().map(|(v, a)| 1024 * *a as i64 + v.upgrade_force().read_recursive_force().vertex_index as i64));
+            rows[7].extend(i.boundary.iter().map(|(left, e)| {
+                2 * e.upgrade_force().read_recursive_force().edge_index as i64 + i64::from(!left)
+            }));
+            rows[7].extend(i.overgrown_stack.iter().map(|(v, a)| {
+                1024 * *a as i64 + v.upgrade_force().read_recursive_force().vertex_index as i64
+            }));
         }
         rows
     }

@@ -1,6 +1,6 @@
-//! The three files with every debug_assert! on. The two assertions which document 01 lets the release build decide ("odd gap",
-//! "never empty") are noted and passed over, and so is the time stamp check of the pointers stand-in. So a call finishes here
-//! exactly when document 01's domain holds it, but for calls noted as 4.
+//! The three files with every debug_assert! on. The two assertions which the release build decides ("odd gap", "never
+//! empty", docs/SPECIFICATION.md 12.1) are noted and passed over, and so is the time stamp check of the pointers
+//! stand-in. So a call finishes here exactly when the domain of that section holds it, but for calls noted as 4.
 extern crate cfg_if;
 extern crate derivative;
 extern crate rand_xoshiro;
