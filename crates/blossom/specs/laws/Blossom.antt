@@ -395,7 +395,7 @@ module _ {b t : List ℤ} (u : Usable b t) (x k : ℕ) (circle : List ℕ) (e : 
       unfolding insertBlossom unless blossomPut
       blossom-done {b₄} {b₅} class ec r a =
           let j : Joining = joinCircle (stateOf b) circle in
-          let y : classFrom (vertexCount (stateOf b₃)) class ≡ blossom (getD circle 0 0) = 
+          let y : classFrom (vertexCount (stateOf b₃)) class ≡ blossom (getD circle 0 0) =
           rw ec (class-blossom (vertexCount (stateOf b₃)) (getD circle 0 0) (λ q. omega (arith, q, blossom-first))) in
           let w : numbersAt t₃ 0 l ≡ j .sides = rw (p .count) (first-numbers (p .holding)) in
           let z : withNode (stateOf b₃) (classFrom (vertexCount (stateOf b₃)) class) x (numbersAt t₃ 0 l) ≡ withNode (j .state) (blossom (getD circle 0 0)) x (j .sides) = rw (y, w, p .block .state) in
