@@ -1,4 +1,4 @@
-"""Opening a blossom, as request N2 words it."""
+"""Opening a blossom, as docs/SPECIFICATION.md 18 words it."""
 from . import calls, passes
 from .state import NONE, STAY
 

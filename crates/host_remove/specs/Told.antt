@@ -1,4 +1,5 @@
--- What the exported opening of a blossom promises: its answer as numbers, as those of crate `host`.
+-- What the exported opening of a blossom promises (SPECIFICATION 9 and 18.1): its answer as numbers, as those of crate
+-- `host`.
 use Prim.Native.Nat.{ℕ}
 use mathlib.Core.List.{List}
 use lib.IntN.{ℤ}

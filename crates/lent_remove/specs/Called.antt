@@ -1,4 +1,5 @@
--- Opening a blossom on memory that a host lends: what it answers, and what block and scratch hold afterwards.
+-- Opening a blossom on memory that a host lends (SPECIFICATION 18.1): what it answers, and what block and scratch hold
+-- afterwards.
 use Prim.Native.Nat.{ℕ}
 use mathlib.Core.Bool.{Bool}
 use mathlib.Core.List.{List}

@@ -1,4 +1,4 @@
--- What the theorems on opening a blossom speak of.
+-- What the theorems on opening a blossom speak of (SPECIFICATION 18.4).
 use Prim.Native.Nat.{ℕ, _+_, _≤_}
 use mathlib.Core.Path.{_≡_}
 use mathlib.Core.Bool.{Bool, true, false}
