@@ -32,6 +32,7 @@ extern "C" {
 #define FB_MOST_EDGES 4096           /* E, from 1; the ends of an edge differ, parallel edges are allowed */
 #define FB_MOST_NODES 1024           /* N, from 1: defects and blossoms, opened ones too, since the last fb_clear */
 #define FB_MOST_STORE 65536          /* L, from 0 */
+#define FB_MOST_CIRCLE 63            /* members of a blossom, from 3, an odd number; beyond it refused 7 */
 #define FB_MOST_WEIGHT 1000000       /* weights, from 0 */
 #define FB_MOST_DUAL 1000000000      /* dual variables and overgrown amounts */
 #define FB_MOST_GROWTH 1100000000000 /* growth of a side */
@@ -49,6 +50,11 @@ extern "C" {
    the members of each blossom keep theirs. A blossom that was opened no longer counts. */
 #define FB_STORE(v, e) (2 * (2 * (e) + (v)))
 #define FB_STORE_BLOSSOMS(v, e, blossoms, members) ((2 + (blossoms) + (members)) * (2 * (e) + (v)))
+
+/* Entries of list store above the lists of the nodes that are not in the circle with which no circle is refused 9: its
+   at most FB_MOST_CIRCLE members and the blossom each take 2 E + V. It is proved of every block, whatever lists the
+   other nodes have; a circle of 63 is refused 9 with one entry less. L has room for it where 2 E + V is at most 1,024. */
+#define FB_STORE_CIRCLE(v, e) ((FB_MOST_CIRCLE + 1) * (2 * (e) + (v)))
 
 enum { FB_STAY = 0, FB_GROW = 1, FB_SHRINK = 2 }; /* grow states */
 enum { FB_DOWN = 0, FB_UP = 1 };                  /* directions: to shrink, to grow */
@@ -88,7 +94,7 @@ static inline const char *fb_refusal_sentence(size_t number) {
         "a size, weight or edge end is out of range, or there are not E edges",
         "the vertex is virtual, a defect, held, or has a held side",
         "the node lies in a blossom",
-        "the circle has an even count, fewer than 3 nodes, or one of them twice",
+        "the circle has an even count, fewer than 3 nodes, more than 63, or one of them twice",
         "N nodes exist already",
         "too little list store: a greater L helps",
         "an edge that this node does not hold on both sides would pass its weight",
@@ -136,7 +142,7 @@ size_t fb_check_table(const int64_t *edges, size_t edges_length, const int64_t *
 size_t fb_insert_defect(int64_t *block, size_t block_length, int64_t *scratch, size_t scratch_length, size_t vertex,
                         size_t state, size_t *answer, size_t answer_length);
 
-/* The next node is a blossom of the circle's nodes, an odd number of them: FB_NODE. */
+/* The next node is a blossom of the circle's nodes, an odd number of them from 3 to FB_MOST_CIRCLE: FB_NODE. */
 size_t fb_insert_blossom(int64_t *block, size_t block_length, int64_t *scratch, size_t scratch_length,
                          const int64_t *circle, size_t circle_length, size_t state, size_t *answer,
                          size_t answer_length);

@@ -183,6 +183,22 @@ fn hub(r: &mut Random, hubs: i32, leaves: i32, w: Weights) -> Graph {
     Graph { kind: 4, v, edges, virtuals: some_virtuals(r, v, 8) }
 }
 
+#[cfg(library)]
+impl Graph {
+    /// Every edge is one of vertex 0.
+    pub fn one_hub(&self) -> bool {
+        self.edges.iter().all(|e| e.0 == 0)
+    }
+}
+
+/// Vertex 0 with so many edges and nothing else: a leaf each, parallel ones where there are more than leaves.
+#[cfg(library)]
+fn one_hub(r: &mut Random, degree: i32, w: Weights) -> Graph {
+    let leaves = degree.min(1023);
+    let edges = (0..degree).map(|e| (0, 1 + e % leaves, weight(r, w))).collect();
+    Graph { kind: 4, v: leaves + 1, edges, virtuals: some_virtuals(r, leaves + 1, 4) }
+}
+
 /// A path or a ring, with some edges doubled.
 fn chain(r: &mut Random, v: i32, w: Weights) -> Graph {
     let mut edges: Vec<_> = (1..v).map(|x| (x - 1, x, weight(r, w))).collect();
@@ -275,7 +291,7 @@ pub fn graph(r: &mut Random) -> Graph {
 #[cfg(library)]
 pub fn any_large(r: &mut Random, w: Weights) -> Graph {
     let v = if r.chance(10) { 1024 } else { r.range(20, 1024) };
-    match r.range(0, 9) {
+    match r.range(0, 10) {
         0..=3 => {
             let e = if r.chance(10) { 4096 } else { r.range(v / 2, 4 * v) };
             multigraph(r, v, e, w)
@@ -285,7 +301,11 @@ pub fn any_large(r: &mut Random, w: Weights) -> Graph {
             hub(r, hubs, v - hubs, w)
         }
         6..=7 => chain(r, v, w),
-        _ => tree(r, v, w),
+        8..=9 => tree(r, v, w),
+        _ => {
+            let degree = r.pick(&[1, 2, 300, 4096]);
+            one_hub(r, degree, w)
+        }
     }
 }
 

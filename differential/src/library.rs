@@ -201,6 +201,10 @@ struct Counts {
     nodes: usize,
     /// how often each answer came, by its first word, a refusal with its number
     answers: BTreeMap<String, usize>,
+    /// the same of circles of more than 60 nodes, by their number
+    circles: BTreeMap<String, usize>,
+    /// and of defects at a hub that has all edges, by how many they are
+    hubs: BTreeMap<String, usize>,
 }
 
 /// One stream: the first record at which port and Rust differ. Of a large block the words are compared after some calls only.
@@ -212,6 +216,7 @@ fn agree(s: &streams::Stream, n: &mut Counts) -> Result<(), String> {
     let mut session = Session::new(false);
     session.limits = streams::LIBRARY;
     let every = 1 + lent.block.len() / 4_000;
+    let one_hub = s.records.iter().filter(|r| kind(r) == 2).all(|r| fields(r)[0] == 0);
     for (i, rec) in s.records.iter().enumerate() {
         let (k, a) = (kind(rec), fields(rec));
         if s.said[i].outside {
@@ -232,6 +237,12 @@ fn agree(s: &streams::Stream, n: &mut Counts) -> Result<(), String> {
             n.lines += 1;
             let kind = if p.starts_with("refused") { &p[..] } else { p.split(' ').next().unwrap() };
             *n.answers.entry(kind.to_string()).or_default() += 1;
+            if k == 4 && a[0] == 0 && one_hub {
+                *n.hubs.entry(format!("{e} {kind}")).or_default() += 1;
+            }
+            if k == 5 && a.len() > 61 {
+                *n.circles.entry(format!("{} {kind}", a.len() - 1)).or_default() += 1;
+            }
             let p = format!("{} {p}", i + 1);
             match rust.next() {
                 Some(r) if r == p => {}
@@ -301,7 +312,10 @@ pub fn compare(runs: u64, seed: u64) -> bool {
         "{} calls, {} lines, {} representative vertices, {} whole states of {} words compared",
         n.calls, n.lines, n.vertices, n.states, n.words
     );
-    println!("answers: {}", n.answers.iter().map(|(k, n)| format!("{k} {n}")).collect::<Vec<_>>().join(", "));
+    let listed = |m: &BTreeMap<String, usize>| m.iter().map(|(k, n)| format!("{k} {n}")).collect::<Vec<_>>().join(", ");
+    println!("answers: {}", listed(&n.answers));
+    println!("circles of more than 60 nodes: {}", listed(&n.circles));
+    println!("defects at a hub of so many edges: {}", listed(&n.hubs));
     println!("different: {different}");
     different == 0
 }

@@ -354,8 +354,21 @@ pub fn opening(g: &Graph, n: i32, l: i32) -> Vec<Record> {
     out
 }
 
-/// A stream on a graph of the library's sizes: good fields for the most part, now and then many defects first, a table
-/// at the end.
+/// A circle about as long as the port takes, 63 nodes, or longer, now and then with a repeat; as many nodes as there
+/// are.
+#[cfg(library)]
+fn long_circle(r: &mut Random, view: &View) -> (u16, Vec<i32>) {
+    let mut out = view.outer();
+    r.shuffle(&mut out);
+    out.truncate(r.pick(&[61, 63, 63, 64, 65, 101]));
+    if r.chance(25) && out.len() > 1 {
+        out[0] = out[1];
+    }
+    (5, [vec![r.pick(&[1, 1, 2, 0])], out].concat())
+}
+
+/// A stream on a graph of the library's sizes: good fields for the most part, now and then many defects first and a long
+/// circle of them, a table at the end.
 #[cfg(library)]
 pub fn large(seed: u64, g: &Graph) -> Stream {
     let r = &mut Random::new(seed);
@@ -375,14 +388,19 @@ pub fn large(seed: u64, g: &Graph) -> Stream {
     let mut view = View::default();
     let mut asked = (0, vec![]);
     let calls = r.range(100, 800) as usize;
-    let crowd = if r.chance(15) { r.range(200, 1_500) as usize } else { 0 };
+    // a store of 65,536 has room for a circle of 63 where 2 E + V is at most 1,024
+    let small = 2 * g.edges.len() as i32 + g.v <= 1024;
+    let crowd = if r.chance(if small { 50 } else { 15 }) { r.range(200, 1_500) as usize } else { 0 };
     let mut records = opening(g, n, l);
     let opened = records.len();
+    let one_hub = g.one_hub();
     records.reverse();
     loop {
         let rec = records.pop().unwrap_or_else(|| {
             asked = match s.records.len() - opened {
                 i if i < crowd => (4, vec![r.range(0, g.v - 1), r.pick(&[1, 1, 2, 0])]),
+                i if i < crowd + calls && crowd > 0 && i % 97 == 0 => long_circle(r, &view),
+                i if i < crowd + calls && one_hub && r.chance(20) => (4, vec![0, r.pick(&[1, 1, 2, 0])]),
                 i if i < crowd + calls => choose(r, &TABLE[policy], &view, g.v, &asked),
                 _ => (10, vec![]),
             };

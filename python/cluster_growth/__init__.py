@@ -37,7 +37,7 @@ from .library import Library, NoLibrary
 from .matching import Matching, match
 from .refusals import Refused, sentence
 from .sheet import decimal, ten_thousandths
-from .sizes import block_words, enough_store, scratch_words
+from .sizes import block_words, circle_store, enough_store, scratch_words
 from .verdict import check_table
 
 __all__ = [
@@ -73,6 +73,7 @@ __all__ = [
     'Vertex',
     'block_words',
     'check_table',
+    'circle_store',
     'decimal',
     'enough_store',
     'match',

@@ -166,7 +166,7 @@ class DualModule:
         return [self.insert_defect(v, state) for v, b in enumerate(bits) if b]
 
     def insert_blossom(self, circle: Sequence[int], state: int = GrowState.GROW) -> int:
-        """The next node is a blossom of an odd circle of nodes. Its number."""
+        """The next node is a blossom of an odd circle of nodes, at most 63 of them. Its number."""
         return self._made('insert_blossom', array('q', plain(circle)), state).node
 
     def remove_blossom(self, blossom: int) -> None:

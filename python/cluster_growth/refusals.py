@@ -8,7 +8,7 @@ SENTENCES = {
     4: 'a size, weight or edge end is out of range, or there are not E edges',
     5: 'the vertex is virtual, a defect, held, or has a held side',
     6: 'the node lies in a blossom',
-    7: 'the circle has an even count, fewer than 3 nodes, or one of them twice',
+    7: 'the circle has an even count, fewer than 3 nodes, more than 63, or one of them twice',
     8: 'N nodes exist already',
     9: 'too little list store: a greater L helps',
     10: 'an edge that this node does not hold on both sides would pass its weight',

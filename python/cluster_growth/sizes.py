@@ -5,6 +5,7 @@ MOST_VERTICES = 1024
 MOST_EDGES = 4096
 MOST_NODES = 1024
 MOST_STORE = 65536
+MOST_CIRCLE = 63  # members of a blossom
 MOST_WEIGHT = 1_000_000
 MOST_DUAL = 1_000_000_000
 MOST_VALUE = 999_999_999  # of a sheet, in ten-thousandths
@@ -42,6 +43,13 @@ def enough_store(vertices: int, edges: int, blossoms: int = 0, circle: int = 0) 
     at most one part a blossom.
     """
     return (2 + blossoms + circle) * (2 * edges + vertices)
+
+
+def circle_store(vertices: int, edges: int) -> int:
+    """Entries of list store above the lists of the nodes that are not in it with which no circle is refused 9: its
+    members and the blossom each take 2 E + V. The store has room for it where 2 E + V is at most 1,024.
+    """
+    return (MOST_CIRCLE + 1) * (2 * edges + vertices)
 
 
 def fits(vertices: int, edges: int, nodes: int, store: int) -> bool:

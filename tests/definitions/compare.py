@@ -1,12 +1,14 @@
 #!/usr/bin/env python3
 """Compares the definitions of specs/ with the Python model, by computation.
 
-    tests/definitions/compare.py [--lists 600] [--states 200] [--streams 100] [--seed 1] [--keep DIR]
+    tests/definitions/compare.py [--lists 600] [--states 200] [--streams 100] [--circles 5] [--seed 1] [--keep DIR]
 
 The prover computes, from the definitions themselves:
-  lists    random call lists: every answer, the whole state after the last call, and whether it is sound;
+  lists    random call lists: every answer, the whole state after the last call, whether it is sound, and at each vertex
+           what the test for refusal 5 finds and how many sides it reads;
   states   sound states that no call list reaches (a reached state with fields changed at random), a few calls on each;
-  streams  record streams: the lines, all of them and those that fit into a random space.
+  streams  record streams: the lines, all of them and those that fit into a random space;
+  circles  circles of 61, 63, 64, 65 and 101 nodes, with a repeat and without, on rows of so many defects.
 Each comparison is a theorem proved by `refl` in a crate of tests that is written beside a copy of this repository.
 The model is tests/model, the streams are those of tests/vectors, or of the file that VECTORS names. A wrong answer
 makes the check fail and names the case.
@@ -187,7 +189,7 @@ HEAD = '''-- {0}
 use Prim.Native.Nat.{{ℕ}}
 use mathlib.Core.Path.{{_≡_, refl}}
 use mathlib.Core.Bool.{{Bool, true, false}}
-use mathlib.Core.List.{{List, [], _∷_}}
+use mathlib.Core.List.{{List, [], _∷_, map}}
 use lib.IntN.{{pos, negsuc}}
 use Rattle.graph.specs.State.{{State, Overgrown, NodeClass, defectVertex, blossom, removed}}
 use Rattle.graph.specs.Open.{{opened}}
@@ -195,17 +197,30 @@ use Rattle.graph.specs.Sound.{{stateSound}}
 use Rattle.length.specs.declared.Answer.the-variants.{{NonZeroGrow, Unlimited, Conflicting, TouchingVirtual, BlossomNeedExpand, VertexShrinkStop, VertexShrinkStopPeer, Done, Node, Prepared, Vertex, Refused}}
 use Rattle.calls.specs.Calls.{{InsertDefect, InsertBlossom, SetGrowState, Prepare, MaxUpdateLength, Grow, ReadTable, Advance, Contacts, RepresentativeVertex, Clear, RenewActiveList, PrepareAll, GroupLength, Round, RemoveBlossom, answered, growths, touching, grouped, respond}}
 use Rattle.calls.specs.declared.group.GroupMaxUpdateLength.the-variants.{{NonZeroGrow as groupFree, Unlimited as groupUnlimited, Conflicts as groupConflicts, Refused as groupRefused}}
+use Rattle.calls.specs.Insert.{{occupied}}
+use Rattle.calls.specs.Occupied.{{sidesRead}}
 use Rattle.calls.specs.Examples.{{Line, _gives_, edge, given, wanted}}
 use Rattle.calls.specs.Opens.{{everything}}
 
 abbrev over : ℕ → ℕ → Overgrown
 over v a = record {{ vertex = v; amount = a }}
 
+unfoldable looked : State → ℕ → Bool × ℕ
+looked c v = (occupied c v, sidesRead c v)
+
 unfoldable after : State → List Line → State
 after c [] = c
 after c ((k gives o) ∷ ls) = after (respond c k .state) ls
 
 '''
+
+
+def looks(st):
+    """What the test for refusal 5 finds at each vertex, and how many sides it reads."""
+    found = [M.held_test(st, v) for v in range(st.V)]
+    SEEN['vertices tested'] += st.V
+    SEEN['a held side decides'] += sum(held and read > 0 for held, read in found)
+    return items(f'({truth(held)}, {read})' for held, read in found)
 
 
 def case(name, start, lines, st):
@@ -222,6 +237,10 @@ def case(name, start, lines, st):
 {name} : ({gives}) × ({last} ≡ {state(st)}) × (stateSound ({last}) ≡ {truth(not M.sound(st))})
 unfolding everything edge given wanted after {name}-start {name}-lines
 {name} = (refl, refl, refl)
+
+{name}-read : map (looked ({last})) {nats(range(st.V))} ≡ {looks(st)}
+unfolding everything edge after {name}-start {name}-lines looked
+{name}-read = refl
 
 '''
 
@@ -245,6 +264,23 @@ def state_case(rng, name):
             ('state', i, rng.randrange(3)), ('remove', p), ('remove', p), ('remove', i),
             ('blossom', 1, rng.sample(range(n), 3) if n > 2 else [i])])))
     return case(name, start, lines, st)
+
+
+CIRCLES = 61, 63, 64, 65, 101
+
+
+def circle_case(rng, name):
+    """A row with a defect at each vertex; a circle of all of them, first with one of them twice."""
+    size = CIRCLES[int(name[4:]) % len(CIRCLES)]
+    edges = [(v, v + 1, rng.choice([0, 1, 2, 4])) for v in range(size - 1)]
+    N, L = size + 1, (size + 2) * 3 * size
+    _, st = M.open_graph(size, size - 1, N, L, edges, [])
+    start = f"opened {size} {N} {L} {items(f'edge {l} {r} {w}' for l, r, w in edges)} []"
+    circle = rng.sample(range(size), size)
+    twice = circle[:-1] + [circle[rng.randrange(size - 1)]]
+    calls = [('defect', v, 1) for v in range(size)]
+    calls += [('blossom', 1, twice), ('blossom', 2, circle), ('length', size, 0, True)]
+    return case(name, start, [line(st, c) for c in calls], st)
 
 
 def streams(rng, count):
@@ -281,7 +317,7 @@ use Rattle.records.specs.Opens.{everything}
 
 def main():
     p = argparse.ArgumentParser(description=__doc__, formatter_class=argparse.RawDescriptionHelpFormatter)
-    for name, default in ('lists', 600), ('states', 200), ('streams', 100), ('seed', 1):
+    for name, default in ('lists', 600), ('states', 200), ('streams', 100), ('circles', 5), ('seed', 1):
         p.add_argument('--' + name, type=int, default=default)
     p.add_argument('--keep', help='write the copy here and leave it')
     o = p.parse_args()
@@ -289,7 +325,8 @@ def main():
     modules, per = {}, 20
     for kind, count, make, what in (
             ('Lists', o.lists, list_case, 'Random call lists.'),
-            ('States', o.states, state_case, 'Sound states that no call list reaches.')):
+            ('States', o.states, state_case, 'Sound states that no call list reaches.'),
+            ('Circles', o.circles, circle_case, 'Circles of up to 63 nodes and longer ones.')):
         for f in range(0, count, per):
             cases = [make(rng, f'case{k}') for k in range(f, min(f + per, count))]
             modules[f'{kind}{f // per}'] = HEAD.format(what) + ''.join(cases)
@@ -311,7 +348,7 @@ def main():
     for l in run.stdout.splitlines() + run.stderr.splitlines():
         if 'error' in l or l.startswith('rt:'): print(l[:300])
     print(f'seed {o.seed}: {o.lists} call lists, {o.states} states that no call list reaches, {len(chosen)} record '
-          'streams; ' + ', '.join(f'{k} {v}' for k, v in sorted(SEEN.items())))
+          f'streams, {o.circles} circles; ' + ', '.join(f'{k} {v}' for k, v in sorted(SEEN.items())))
     if not o.keep: shutil.rmtree(top)
     sys.exit(run.returncode)
 

@@ -54,8 +54,8 @@ class Header(unittest.TestCase):
             return subprocess.run([out], stdout=subprocess.PIPE, text=True).stdout
 
     def test_numbers_and_sentences_are_those_of_the_package(self):
-        code = 'int main(void) { printf("%d %d %d %d %d\\n", FB_BLOCK(5, 7, 9, 11), FB_SCRATCH(7), FB_STORE(5, 7),\n'
-        code += 'FB_STORE_BLOSSOMS(5, 7, 2, 3), FB_MOST_WEIGHT);\n'
+        code = 'int main(void) { printf("%d %d %d %d %d %d\\n", FB_BLOCK(5, 7, 9, 11), FB_SCRATCH(7), FB_STORE(5, 7),\n'
+        code += 'FB_STORE_BLOSSOMS(5, 7, 2, 3), FB_STORE_CIRCLE(5, 7), FB_MOST_WEIGHT);\n'
         code += (
             'for (size_t k = 1; k < 18; k++) puts(fb_refusal_sentence(k));\nputs(fb_refusal_sentence(99));\nreturn 0; }'
         )
@@ -63,12 +63,12 @@ class Header(unittest.TestCase):
         self.assertEqual(
             said[0],
             f'{sizes.block_words(5, 7, 9, 11)} {sizes.scratch_words(7)} {sizes.enough_store(5, 7)} '
-            f'{sizes.enough_store(5, 7, 2, 3)} {sizes.MOST_WEIGHT}',
+            f'{sizes.enough_store(5, 7, 2, 3)} {sizes.circle_store(5, 7)} {sizes.MOST_WEIGHT}',
         )
         self.assertEqual(said[1:18], [refusals.SENTENCES.get(k, 'no such refusal') for k in range(1, 18)])
         self.assertEqual(said[18], 'no such refusal')
         limits = {name: int(x) for name, x in re.findall(r'#define (FB_MOST_\w+) (\d+)', header())}
-        for name in ('VERTICES', 'EDGES', 'NODES', 'STORE', 'WEIGHT', 'DUAL', 'VALUE'):
+        for name in ('VERTICES', 'EDGES', 'NODES', 'STORE', 'CIRCLE', 'WEIGHT', 'DUAL', 'VALUE'):
             self.assertEqual(limits['FB_MOST_' + name], getattr(sizes, 'MOST_' + name))
 
     def test_cases_and_calls_are_those_of_the_package(self):

@@ -2,6 +2,8 @@
 from . import passes
 from .state import DUAL_MAX, GROW, GROWTH_MAX, NONE, SHRINK, STAY, Node, opp
 
+CIRCLE_MAX = 63
+
 
 def lists(st, n):
     return len(st.nodes[n].boundary) + len(st.nodes[n].overgrown)
@@ -23,10 +25,20 @@ def join_active(st, n):
         st.active.append(n)
 
 
+def held_test(st, v):
+    """The test for refusal 5: whether a defect is refused at a vertex, and how many sides were read."""
+    if st.virtual[v] or st.defect[v] or st.vholder[v] != NONE:
+        return True, 0
+    for i, t in enumerate(st.at[v]):
+        if st.holder[t] != NONE:
+            return True, i + 1
+    return False, len(st.at[v])
+
+
 def insert_defect(st, v, state):
     if not 0 <= v < st.V or state not in (0, 1, 2):
         return ('refused', 3)
-    if st.virtual[v] or st.defect[v] or st.vholder[v] != NONE or any(st.holder[t] != NONE for t in st.at[v]):
+    if held_test(st, v)[0]:
         return ('refused', 5)
     if len(st.nodes) >= st.N:
         return ('refused', 8)
@@ -47,7 +59,7 @@ def insert_blossom(st, state, circle):
         return ('refused', 3)
     if any(st.nodes[m].parent != NONE for m in circle):
         return ('refused', 6)
-    if len(circle) % 2 == 0 or len(circle) < 3 or len(set(circle)) != len(circle):
+    if len(circle) % 2 == 0 or not 3 <= len(circle) <= CIRCLE_MAX or len(set(circle)) != len(circle):
         return ('refused', 7)
     if len(st.nodes) >= st.N:
         return ('refused', 8)

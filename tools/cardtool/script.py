@@ -139,7 +139,7 @@ class Script:
                 nodes = blossoms = 0
             nodes += i.word in INSERTS
             if i.word == 'blossom':
-                blossoms, circle = blossoms + 1, max(circle, len(i.fields) - 1)
+                blossoms, circle = blossoms + 1, max(circle, min(len(i.fields) - 1, sizes.MOST_CIRCLE))
             most, several = max(most, nodes), max(several, blossoms)
         store = sizes.enough_store(self.graph.V, self.graph.E, several, circle)
         return min(max(most, 1), sizes.MOST_NODES), min(max(store, 0), sizes.MOST_STORE)

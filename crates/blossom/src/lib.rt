@@ -83,12 +83,12 @@ fn repeats(circle: &[i64]) -> bool
     false
 }
 
-// Whether the circle has an even count, under 3, or a repeat.
+// Whether the circle has an even count, under 3 or above 63, or a repeat.
 fn no_circle(circle: &[i64]) -> bool
     requires { ⌜ all (λ m. ltb m 1024) (map toNat (now circle)) ≡ true ⌝ }
     ensures { λ r. ⌜ r ≡ noCircle (map toNat (now (circle .entry))) ⌝ }
 {
-    if (circle.len() % 2 == 0) | (circle.len() < 3) {
+    if (circle.len() % 2 == 0) | (circle.len() < 3) | (63 < circle.len()) {
         true
     } else {
         repeats(circle)

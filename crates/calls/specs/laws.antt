@@ -1,5 +1,6 @@
 -- Laws about the definitions of `calls`.
 pub mod Accepted
+pub mod CircleStore
 pub mod Advance
 pub mod Defect
 pub mod Read
@@ -13,4 +14,5 @@ pub mod Sounds
 pub mod Trial
 pub mod Grouped
 pub mod Listed
+pub mod Occupied
 pub mod Phase

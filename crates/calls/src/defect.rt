@@ -1,18 +1,17 @@
 // Insertion of a defect.
 
 ghost use mathlib.Core.Path.{_≡_};
-ghost use mathlib.Core.Bool.{not};
 ghost use mathlib.Core.List.{[]};
 ghost use Prim.Native.Nat.{_+_, _*_, _<_};
-ghost use lib.Dec.{eqb};
 ghost use lib.ListN.{length};
-ghost use Rattle.graph.specs.Basic.{fold, any};
-ghost use Rattle.graph.specs.State.{vertexCount, sideCount, holderAt, sidesAt, withDefect, heldVertex};
+ghost use Rattle.graph.specs.Basic.{fold};
+ghost use Rattle.graph.specs.State.{vertexCount, sideCount, sidesAt, withDefect, heldVertex};
 ghost use Rattle.graph.specs.Layout.{stateOf};
 ghost use Rattle.graph.specs.Form.{Formed, Becomes};
 ghost use Rattle.pass.specs.Scratch.{zeroScratch, Holding};
-ghost use Rattle.calls.specs.Insert.{occupied, defectRefusal, holdStep, insertDefect};
+ghost use Rattle.calls.specs.Insert.{defectRefusal, holdStep, insertDefect};
 ghost use Rattle.calls.specs.Reply.{Usable, RepliesInsert};
+use crate::occupied;
 use crate::refuse;
 use graph::rows;
 use graph::side;
@@ -23,39 +22,6 @@ use length::Answer;
 use pass::scratch;
 use store::insert;
 
-// Whether some side at vertex v is held.
-fn held_side(b: &[i64], v: usize) -> bool
-    requires { ⌜ Formed (now b) × (v < vertexCount (stateOf (now b))) ⌝ }
-    ensures { λ r. ⌜ r ≡ any (λ t. not (eqb (holderAt (stateOf (now (b .entry))) t) 0)) (sidesAt (stateOf (now (b .entry))) v) ⌝ }
-{
-    let l = sides::sides_len(b, v);
-    let mut i = 0;
-    while i < l {
-        let s = sides::vertex_side(b, v, i);
-        if side::holder(b, s) != 0 {
-            return true;
-        } else {
-            i += 1;
-        }
-    }
-    false
-}
-
-// Whether vertex v is virtual, a defect, held, or has a held side.
-fn occupied(b: &[i64], v: usize) -> bool
-    requires { ⌜ Formed (now b) × (v < vertexCount (stateOf (now b))) ⌝ }
-    ensures { λ r. ⌜ r ≡ occupied (stateOf (now (b .entry))) v ⌝ }
-{
-    if (vertex::virtual_flag(b, v) != 0)
-        | (vertex::defect_flag(b, v) != 0)
-        | (vertex::holder(b, v) != 0)
-    {
-        true
-    } else {
-        held_side(b, v)
-    }
-}
-
 // What refuses a defect at vertex v in grow state x: 0 or the number.
 pub fn defect_refusal(b: &[i64], v: usize, x: usize) -> usize
     requires { ⌜ Formed (now b) ⌝ }
@@ -64,7 +30,8 @@ pub fn defect_refusal(b: &[i64], v: usize, x: usize) -> usize
     if (rows::vertex_count(b) <= v) | (2 < x) {
         return 3;
     }
-    if occupied(b, v) {
+    let looked = occupied::occupied(b, v);
+    if looked.occupied {
         return 5;
     }
     if rows::node_limit(b) <= rows::node_count(b) {

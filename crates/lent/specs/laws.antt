@@ -1,2 +1,3 @@
 -- Laws about the promises of `lent`.
 pub mod Called
+pub mod CircleStore

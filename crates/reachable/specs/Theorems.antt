@@ -1,13 +1,13 @@
 -- What is proved of reachable states and of preparation; each proof cites a law.
 use Prim.Native.Nat.{ℕ, suc, _+_, _≤_, _<_}
-use mathlib.Core.Path.{_≡_}
+use mathlib.Core.Path.{_≡_, _∙_}
 use mathlib.Core.Logic.{_≢_, _⊎_}
 use mathlib.Core.Bool.{Bool, true, false}
 use mathlib.Core.List.{List, [], _∷_}
 use lib.IntN.{ℤ, pos}
 use lib.ListN.{length}
 use Rattle.graph.specs.Basic.{member, distinct}
-use Rattle.graph.specs.State.{State, removed, opposite, vertexCount, sideCount, nodeCount, endAt, growthAt, holderAt, vertexHolderAt, defectAt, virtualAt, parentOf, classOf, growStateOf, dualOf, boundaryOf, overgrownOf, grownOver, weightOver, stay, down}
+use Rattle.graph.specs.State.{State, removed, opposite, vertexCount, sideCount, nodeCount, endAt, sidesAt, growthAt, holderAt, vertexHolderAt, defectAt, virtualAt, parentOf, classOf, growStateOf, dualOf, boundaryOf, overgrownOf, grownOver, weightOver, stay, down}
 use Rattle.graph.specs.Open.{Edge, opened, openRefusal}
 use Rattle.graph.specs.Sound.{entries, sound, stateSound}
 use Rattle.graph.specs.laws.Shape.{Shape, sound-entries, sound-active}
@@ -16,6 +16,10 @@ use Rattle.pass.specs.Prepare.{prepareNode}
 use Rattle.length.specs.declared.Answer.the-variants.{Done, Refused}
 use Rattle.length.specs.Answer.{says}
 use Rattle.length.specs.laws.Long.{longAs}
+use Rattle.calls.specs.Insert.{occupied, defectRefusal}
+use Rattle.calls.specs.Occupied.{vertexDecides, sidesRead}
+use Rattle.calls.specs.Theorems.{none-read, all-read}
+use Rattle.calls.specs.laws.Occupied.{accepted-vacant, refused-occupied}
 use Rattle.calls.specs.Calls.{Call, maxUpdateLength, advance, response, respond}
 use Rattle.calls.specs.Round.{prepareAll, round, groupLength}
 use Rattle.calls.specs.declared.group.GroupMaxUpdateLength.the-variants.{NonZeroGrow as groupFree, Refused as groupRefused}
@@ -36,6 +40,7 @@ use Rattle.reachable.specs.laws.Active.{active-outer}
 use Rattle.reachable.specs.laws.GroupAnswer.{group-refused-nine, group-positive}
 use Rattle.reachable.specs.laws.Refused.{prepare-all-refused, round-refused, by-group-refused}
 use Rattle.reachable.specs.laws.Facts.{free-together, same-growth, prepared-held, prepared-grown}
+use Rattle.reachable.specs.laws.Occupied.{decides-alone}
 
 -- ---- soundness
 
@@ -143,6 +148,19 @@ module _ (c : State) (r : Reachable c) where
   -- and after preparation for shrinking a listed side of growth 0 stands at a defect
   pub prepared-zero-at-defect : (n : ℕ) → n < nodeCount c → parentOf c n ≡ 0 → (s : ℕ) → member s (boundaryOf (prepareNode c n down .state) n) ≡ true → growthAt (prepareNode c n down .state) s ≡ 0 → defectAt (prepareNode c n down .state) (endAt (prepareNode c n down .state) s) ≢ 0
   prepared-zero-at-defect = prepared-grown c (reachable-invariant c r)
+
+  -- ---- refusal 5
+
+  -- a vertex at which no defect may stand is virtual, a defect or held itself: its sides never decide
+  pub vertex-decides-alone : (v : ℕ) → vertexDecides c v ≡ occupied c v
+  vertex-decides-alone = decides-alone c (reachable-invariant c r)
+
+  -- so where a defect is refused 5 no side is read, and where one is accepted all at its vertex
+  pub refused-5-reads-none : (v x : ℕ) → defectRefusal c v x ≡ 5 → sidesRead c v ≡ 0
+  refused-5-reads-none v x h = none-read c v (vertex-decides-alone v ∙ refused-occupied c v x h)
+
+  pub accepted-reads-all : (v x : ℕ) → defectRefusal c v x ≡ 0 → sidesRead c v ≡ length (sidesAt c v)
+  accepted-reads-all v x h = all-read c v (accepted-vacant c v x h)
 
   -- ---- refusal 13
 

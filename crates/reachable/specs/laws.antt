@@ -31,4 +31,5 @@ pub mod GroupAnswer
 pub mod Refused
 pub mod Length
 pub mod Facts
+pub mod Occupied
 pub mod WithoutBlossoms

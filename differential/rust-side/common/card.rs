@@ -303,7 +303,8 @@ impl Card {
                 if circle.iter().any(|p| self.inner(p)) {
                     return Err(Refused(6));
                 }
-                if circle.len() < 3 || circle.len() % 2 == 0 || (1..circle.len()).any(|i| circle[..i].contains(&circle[i])) {
+                // the Rust has no limit: 63 is the port's own
+                if circle.len() < 3 || circle.len() > 63 || circle.len() % 2 == 0 || (1..circle.len()).any(|i| circle[..i].contains(&circle[i])) {
                     return Err(Refused(7));
                 }
                 if self.nodes.len() >= self.sz.n {

@@ -91,14 +91,14 @@ module _ {l : List ℕ} {i : ℕ} {m : List ℕ} (s : Met l i m) where
 -- a circle has no repeat
 pub circle-once : (ms : List ℕ) → noCircle ms ≡ false → distinct ms ≡ true
 unfolding noCircle
-circle-once ms h = not-false (distinct ms) (or-neither-right (eqb (length ms % 2) 0 || ltb (length ms) 3) (not (distinct ms)) h)
+circle-once ms h = not-false (distinct ms) (or-neither-right (eqb (length ms % 2) 0 || ltb (length ms) 3 || ltb 63 (length ms)) (not (distinct ms)) h)
 
 module _ (l : List ℤ) where
-  pub no-circle-count : eqb (length l % 2) 0 || ltb (length l) 3 ≡ true → true ≡ noCircle (map toNat l)
+  pub no-circle-count : eqb (length l % 2) 0 || ltb (length l) 3 || ltb 63 (length l) ≡ true → true ≡ noCircle (map toNat l)
   unfolding noCircle
   no-circle-count h = rw (length-map l toNat, h)
 
-  pub no-circle-repeat : eqb (length l % 2) 0 || ltb (length l) 3 ≡ false → not (distinct (map toNat l)) ≡ noCircle (map toNat l)
+  pub no-circle-repeat : eqb (length l % 2) 0 || ltb (length l) 3 || ltb 63 (length l) ≡ false → not (distinct (map toNat l)) ≡ noCircle (map toNat l)
   unfolding noCircle
   no-circle-repeat h = rw (length-map l toNat, h)
 

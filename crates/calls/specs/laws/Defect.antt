@@ -11,8 +11,8 @@ use lib.Dec.{leb, ltb, eqb}
 use lib.ListN.{length, getD, set, take}
 use lib.Seq.{length-take-le, take-suc, take-all}
 use borrow.Author.Tests.{lt-ltb, eq-eqb, ne-eqb, le-leb, lt-leb}
-use Rattle.graph.specs.Basic.{if_then_else_, fold, any}
-use Rattle.graph.specs.State.{State, NodeClass, defectVertex, vertexCount, sideCount, nodeCount, holderAt, sidesAt, virtualAt, defectAt, vertexHolderAt, withVertices, withSides, withHolder, withGrandson, withDefect, withVertexHolder, withVertexGrandson, withNodes, withNode, heldSide, heldVertex}
+use Rattle.graph.specs.Basic.{if_then_else_, fold}
+use Rattle.graph.specs.State.{State, NodeClass, defectVertex, vertexCount, sideCount, nodeCount, sidesAt, withVertices, withSides, withHolder, withGrandson, withDefect, withVertexHolder, withVertexGrandson, withNodes, withNode, heldSide, heldVertex}
 use Rattle.graph.specs.Sound.{entriesOf, entries, activeSound}
 use Rattle.graph.specs.Active.{joinActive}
 use Rattle.graph.specs.laws.Shape.{sound-active}
@@ -42,15 +42,6 @@ some-node {h} {x} e n = rw (← e, ne-eqb h 0 n)
 
 pub no-node : {h x : ℕ} → h ≡ x → h ≡ 0 → not (eqb x 0) ≡ false
 no-node {h} {x} e n = rw (← e, eq-eqb h 0 n)
-
-module _ (c : State) (v : ℕ) where
-  pub occupied-there : not (eqb (virtualAt c v) 0) || not (eqb (defectAt c v) 0) || not (eqb (vertexHolderAt c v) 0) ≡ true → true ≡ occupied c v
-  unfolding occupied
-  occupied-there h = rw h
-
-  pub occupied-around : not (eqb (virtualAt c v) 0) || not (eqb (defectAt c v) 0) || not (eqb (vertexHolderAt c v) 0) ≡ false → any (λ t. not (eqb (holderAt c t) 0)) (sidesAt c v) ≡ occupied c v
-  unfolding occupied
-  occupied-around h = rw h
 
 module _ (c : State) (v x : ℕ) where
   pub defect-refusal-3 : leb (vertexCount c) v || ltb 2 x ≡ true → 3 ≡ defectRefusal c v x

@@ -19,7 +19,7 @@ listed c = rw (c .before .vertex-count .ensures .0) at (c .if1 .left)
 
 -- the vertex is not occupied
 vacant : (c : tie.Else2) → occupied (stateOf (c .before .before .before .before .args .b .now)) (c .before .before .before .before .args .v) ≡ false
-vacant c = sym (c .before .occupied .ensures) ∙ c .if2 .left
+vacant c = sym (c .before .occupied .ensures .0) ∙ c .if2 .left
 
 -- one more node is allowed
 fits : (c : tie.Else3) → nodeCount (stateOf (c .before .before .before .before .before .before .before .args .b .now)) < stateOf (c .before .before .before .before .before .before .before .args .b .now) .nodeLimit
@@ -35,7 +35,7 @@ occupied-requires : tie.Need-occupied-requires
 occupied-requires c κs = (c .before .before .pre, leb-false _ _ (or-neither-left (leb (vertexCount (stateOf (c .before .before .args .b .now))) (c .before .before .args .v)) _ (listed c)))
 
 returns-2 : tie.Need-returns-2
-returns-2 c = let a = c .before .before .before .before .args in defect-refusal-5 (stateOf (a .b .now)) (a .v) (a .x) (listed (c .before .before)) (sym (c .before .occupied .ensures) ∙ c .if2 .taken)
+returns-2 c = let a = c .before .before .before .before .args in defect-refusal-5 (stateOf (a .b .now)) (a .v) (a .x) (listed (c .before .before)) (sym (c .before .occupied .ensures .0) ∙ c .if2 .taken)
 
 node-limit-requires : tie.Need-node-limit-requires
 node-limit-requires c κs = search needs
