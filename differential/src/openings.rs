@@ -1,5 +1,6 @@
-//! Openings of blossoms against the Rust's own remove_blossom, and against its expand_blossom, which then sets the members to
-//! Grow: answers and whole states. Blossoms are nested up to 10 deep, grow and shrink, are opened in any state and inserted again.
+//! Openings of blossoms against the Rust's own remove_blossom, and against its expand_blossom, which then sets the
+//! members to Grow: answers and whole states. Blossoms are nested up to 10 deep, grow and shrink, are opened in any state
+//! and inserted again.
 use crate::graphs::{self, Graph};
 use crate::library::a_graph;
 use crate::random::Random;
@@ -9,7 +10,9 @@ use std::collections::{BTreeMap, BTreeSet};
 /// include/fusion_blossom.h
 mod c {
     extern "C" {
-        pub fn fb_remove_blossom(b: *mut i64, bl: usize, t: *mut i64, tl: usize, node: usize, a: *mut usize, al: usize) -> usize;
+        pub fn fb_remove_blossom(
+            b: *mut i64, bl: usize, t: *mut i64, tl: usize, node: usize, a: *mut usize, al: usize,
+        ) -> usize;
     }
 }
 
@@ -118,7 +121,8 @@ impl Run<'_, '_> {
         let mut circle = nodes.to_vec();
         self.both.r.shuffle(&mut circle);
         if self.both.r.chance(70) {
-            let inner = *nodes.iter().filter(|&&n| deep[n as usize] < DEEPEST).max_by_key(|&&n| deep[n as usize]).unwrap_or(&nodes[0]);
+            let fit = nodes.iter().filter(|&&n| deep[n as usize] < DEEPEST);
+            let inner = *fit.max_by_key(|&&n| deep[n as usize]).unwrap_or(&nodes[0]);
             circle.retain(|&n| n != inner);
             circle.insert(self.both.r.below(2), inner);
         }
@@ -171,7 +175,8 @@ impl Run<'_, '_> {
     /// An opening of a blossom that can be opened, mostly, in any grow state; often it is inserted again.
     fn some_opening(&mut self, blossoms: &[i32]) -> Step {
         let bare: Vec<i32> = blossoms.iter().copied().filter(|&n| self.word(14, n) == 0).collect();
-        let n = if bare.is_empty() || self.both.r.chance(5) { self.both.r.pick(blossoms) } else { self.both.r.pick(&bare) };
+        let any = bare.is_empty() || self.both.r.chance(5);
+        let n = if any { self.both.r.pick(blossoms) } else { self.both.r.pick(&bare) };
         if self.word(14, n) > 0 && self.both.r.chance(80) {
             self.shrink(n)?;
         }
@@ -268,7 +273,8 @@ impl Run<'_, '_> {
         for (n, v) in self.both.rust.representatives().into_iter().enumerate() {
             self.n.vertices += 1;
             if self.both.port.lent.representative(n) != v {
-                return Err(End::Different(format!("representative vertex of {n}: {} | {v:?}", self.both.port.lent.line())));
+                let said = self.both.port.lent.line();
+                return Err(End::Different(format!("representative vertex of {n}: {said} | {v:?}")));
             }
         }
         Ok(())
@@ -289,7 +295,8 @@ fn agree(seed: u64, g: &Graph, n: &mut Counts, m: &mut Openings) -> Step {
 }
 
 pub fn compare(runs: u64, seed: u64) -> bool {
-    let (mut n, mut m, mut streams, mut different, mut largest) = (Counts::default(), Openings::default(), [0; graphs::KINDS.len()], 0, (0, 0));
+    let (mut n, mut m) = (Counts::default(), Openings::default());
+    let (mut streams, mut different, mut largest) = ([0; graphs::KINDS.len()], 0, (0, 0));
     println!("{runs} streams of openings from seed {seed}");
     for i in 0..runs {
         let one = seed.wrapping_mul(1_000_003).wrapping_add(i);
@@ -304,17 +311,31 @@ pub fn compare(runs: u64, seed: u64) -> bool {
             Ok(()) => {}
             Err(End::Outside(why)) => *n.ended.entry(why).or_default() += 1,
             Err(End::Different(why)) => {
-                println!("DIFFERENT, seed {one}, {} of V {}, E {}: port | Rust: {why}", graphs::KINDS[g.kind], g.v, g.edges.len());
+                println!(
+                    "DIFFERENT, seed {one}, {} of V {}, E {}: port | Rust: {why}",
+                    graphs::KINDS[g.kind], g.v, g.edges.len()
+                );
                 different += 1;
             }
         }
     }
-    let listed = |names: &[&str], counts: &[usize]| names.iter().zip(counts).map(|(k, n)| format!("{k} {n}")).collect::<Vec<_>>().join(", ");
-    println!("{} streams ({}), up to V {}, E {} and {} nodes", streams.iter().sum::<usize>(), listed(&graphs::KINDS, &streams), largest.0, largest.1, n.nodes);
-    println!("{} openings, {} of them by expand_blossom; {} of blossoms that had grown; {} circles inserted again", m.made, m.expanded, m.grown, m.again);
+    let listed = |names: &[&str], counts: &[usize]| {
+        names.iter().zip(counts).map(|(k, n)| format!("{k} {n}")).collect::<Vec<_>>().join(", ")
+    };
+    println!(
+        "{} streams ({}), up to V {}, E {} and {} nodes",
+        streams.iter().sum::<usize>(), listed(&graphs::KINDS, &streams), largest.0, largest.1, n.nodes
+    );
+    println!(
+        "{} openings, {} of them by expand_blossom; {} of blossoms that had grown; {} circles inserted again",
+        m.made, m.expanded, m.grown, m.again
+    );
     println!("opened in {}; by depth {:?}", listed(&["Stay", "Grow", "Shrink"], &m.states), &m.deep[1..]);
     println!("refused openings: {}", m.refused.iter().map(|(k, n)| format!("{k} {n}")).collect::<Vec<_>>().join(", "));
-    println!("{} calls on one node, {} groups, {} rounds; {} representative vertices, {} whole states of {} words compared", n.calls, n.groups, n.rounds, m.vertices, n.states, n.words);
+    println!(
+        "{} calls on one node, {} groups, {} rounds; {} representative vertices, {} whole states of {} words compared",
+        n.calls, n.groups, n.rounds, m.vertices, n.states, n.words
+    );
     println!("ended early: {}", n.ended.iter().map(|(k, n)| format!("{k} {n}")).collect::<Vec<_>>().join(", "));
     println!("different: {different}");
     different == 0

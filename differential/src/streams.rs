@@ -367,8 +367,8 @@ fn long_circle(r: &mut Random, view: &View) -> (u16, Vec<i32>) {
     (5, [vec![r.pick(&[1, 1, 2, 0])], out].concat())
 }
 
-/// A stream on a graph of the library's sizes: good fields for the most part, now and then many defects first and a long
-/// circle of them, a table at the end.
+/// A stream on a graph of the library's sizes: good fields for the most part, now and then many defects first and a
+/// long circle of them, a table at the end.
 #[cfg(library)]
 pub fn large(seed: u64, g: &Graph) -> Stream {
     let r = &mut Random::new(seed);

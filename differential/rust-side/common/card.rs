@@ -120,7 +120,8 @@ impl Card {
             }
             module.edge_num = edges.len();
         }
-        Card { sz, module, interface: DualModuleInterfacePtr::new_empty(), nodes: vec![], internals: vec![], removed: vec![], mended: false }
+        let interface = DualModuleInterfacePtr::new_empty();
+        Card { sz, module, interface, nodes: vec![], internals: vec![], removed: vec![], mended: false }
     }
 
     fn node(&self, n: i32) -> Option<DualNodePtr> {
@@ -304,7 +305,8 @@ impl Card {
                     return Err(Refused(6));
                 }
                 // the Rust has no limit: 63 is the port's own
-                if circle.len() < 3 || circle.len() > 63 || circle.len() % 2 == 0 || (1..circle.len()).any(|i| circle[..i].contains(&circle[i])) {
+                let repeats = || (1..circle.len()).any(|i| circle[..i].contains(&circle[i]));
+                if circle.len() < 3 || circle.len() > 63 || circle.len() % 2 == 0 || repeats() {
                     return Err(Refused(7));
                 }
                 if self.nodes.len() >= self.sz.n {

@@ -22,8 +22,9 @@ impl Card {
         self.node_refused(n, true, true)
     }
 
-    /// Where a pass might be mended, the bench prepares first, mended; the Rust's own preparation then finds nothing to do.
-    fn open(&mut self, p: &DualNodePtr, expand: bool) {
+    /// Where a pass might be mended, the bench prepares first, mended; the Rust's own preparation then finds nothing to
+    /// do.
+    fn remove(&mut self, p: &DualNodePtr, expand: bool) {
         if self.overgrows_zero(p) {
             self.prepare(p, false, true);
         }
@@ -46,7 +47,7 @@ impl Session {
     pub fn open_blossom(&mut self, n: i32, expand: bool) -> Option<Answer> {
         self.on_module(|c| match c.may_open(n) {
             Ok(p) => {
-                c.open(&p, expand);
+                c.remove(&p, expand);
                 Answer::Done
             }
             Err(refused) => refused,
@@ -56,6 +57,7 @@ impl Session {
     /// The circle of a blossom, in its order.
     pub fn circle(&self, n: i32) -> Vec<i32> {
         let card = self.card.as_ref().unwrap();
-        card.nodes.get(n as usize).map_or(vec![], |p| members(p).iter().map(|m| m.read_recursive().index as i32).collect())
+        let numbers = |p| members(p).iter().map(|m| m.read_recursive().index as i32).collect();
+        card.nodes.get(n as usize).map_or(vec![], numbers)
     }
 }
