@@ -1,6 +1,6 @@
 #!/usr/bin/env python3
-"""Circles of up to 63 nodes (request N10), through the package, against the model: which length is refused, the place of
-that refusal among the others, and the list store that always suffices; on graphs of the library's sizes.
+"""Circles of up to 63 nodes (SPECIFICATION 20), through the package, against the model: which length is refused, the
+place of that refusal among the others, and the list store that always suffices; on graphs of the library's sizes.
 """
 import os
 import random

@@ -1,6 +1,6 @@
 #!/usr/bin/env python3
-"""Insertion at a vertex with many edges (request N3), through the package, against the model: hubs of 1, 2, 300 and 4,096
-edges, and sound blocks that no calls reach, on which a held side decides.
+"""Insertion at a vertex with many edges (SPECIFICATION 19), through the package, against the model: hubs of 1, 2, 300
+and 4,096 edges, and sound blocks that no calls reach, on which a held side decides.
 """
 import os
 import sys
@@ -30,7 +30,7 @@ def hub(degree, virtual=(), store=65536):
 @needs_library
 class Hub(unittest.TestCase):
     def insert(self, st, vertex=HUB):
-        """A defect on the library and on the model: answer and block; what the test finds, and how many sides it reads."""
+        """A defect on library and model: answer and block; what the test finds, and how many sides it reads."""
         m = compared.module_of(st)
         looked, want = M.held_test(st, vertex), M.insert_defect(st, vertex, 1)
         self.assertEqual(str(m.call('insert_defect', vertex, 1)), compared.said(want))
