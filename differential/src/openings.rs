@@ -172,7 +172,9 @@ impl Run<'_, '_> {
     fn some_opening(&mut self, blossoms: &[i32]) -> Step {
         let bare: Vec<i32> = blossoms.iter().copied().filter(|&n| self.word(14, n) == 0).collect();
         let n = if bare.is_empty() || self.both.r.chance(5) { self.both.r.pick(blossoms) } else { self.both.r.pick(&bare) };
-        if self.word(14, n) > 0 && self.both.r.chance(80) {
+        if self.both.r.chance(35) {
+            self.breathe(n)?;
+        } else if self.word(14, n) > 0 && self.both.r.chance(80) {
             self.shrink(n)?;
         }
         if self.both.r.chance(60) {
@@ -279,7 +281,7 @@ fn agree(seed: u64, g: &Graph, n: &mut Counts, m: &mut Openings) -> Step {
     let r = &mut Random::new(seed);
     let nodes = r.pick(&[100, 200, 400, 1024]);
     let part = 2 * g.edges.len() as i32 + g.v;
-    let store = (part * r.pick(&[6, 12, 20, 40])).min(65_536);
+    let store = (part * r.pick(&[4, 5, 6, 12, 20, 40])).min(65_536);
     let steps = r.range(60, 300) as usize;
     let both = Both::open(r, g, nodes, store, n);
     let mut run = Run { both, n: m, grown: BTreeSet::new(), opened: BTreeSet::new() };

@@ -23,7 +23,7 @@ impl Card {
     }
 
     /// Where a pass might be mended, the bench prepares first, mended; the Rust's own preparation then finds nothing to do.
-    fn open(&mut self, p: &DualNodePtr, expand: bool) {
+    fn open_by(&mut self, p: &DualNodePtr, expand: bool) {
         if self.overgrows_zero(p) {
             self.prepare(p, false, true);
         }
@@ -46,7 +46,7 @@ impl Session {
     pub fn open_blossom(&mut self, n: i32, expand: bool) -> Option<Answer> {
         self.on_module(|c| match c.may_open(n) {
             Ok(p) => {
-                c.open(&p, expand);
+                c.open_by(&p, expand);
                 Answer::Done
             }
             Err(refused) => refused,
