@@ -143,7 +143,7 @@ impl Run<'_, '_> {
     }
 
     /// A blossom moves up and down again, as far as it goes.
-    fn breathe(&mut self, n: i32) -> Step {
+    fn grow_and_shrink_back(&mut self, n: i32) -> Step {
         self.both.one(6, &[n, 1])?;
         for _ in 0..self.both.r.range(1, 3) {
             self.both.one(11, &[n])?;
@@ -177,7 +177,9 @@ impl Run<'_, '_> {
         let bare: Vec<i32> = blossoms.iter().copied().filter(|&n| self.word(14, n) == 0).collect();
         let any = bare.is_empty() || self.both.r.chance(5);
         let n = if any { self.both.r.pick(blossoms) } else { self.both.r.pick(&bare) };
-        if self.word(14, n) > 0 && self.both.r.chance(80) {
+        if self.both.r.chance(35) {
+            self.grow_and_shrink_back(n)?;
+        } else if self.word(14, n) > 0 && self.both.r.chance(80) {
             self.shrink(n)?;
         }
         if self.both.r.chance(60) {
@@ -213,7 +215,7 @@ impl Run<'_, '_> {
                 let n = self.both.r.range(-1, count + 1);
                 self.open(n)
             }
-            58..=67 if !blossoms.is_empty() => self.breathe(n),
+            58..=67 if !blossoms.is_empty() => self.grow_and_shrink_back(n),
             68..=77 => self.both.one(11, &[n]),
             78..=83 => {
                 let by = self.both.r.pick(&[1, 1, 2, -1, -1, -2]);
@@ -285,7 +287,7 @@ fn agree(seed: u64, g: &Graph, n: &mut Counts, m: &mut Openings) -> Step {
     let r = &mut Random::new(seed);
     let nodes = r.pick(&[100, 200, 400, 1024]);
     let part = 2 * g.edges.len() as i32 + g.v;
-    let store = (part * r.pick(&[6, 12, 20, 40])).min(65_536);
+    let store = (part * r.pick(&[4, 5, 6, 12, 20, 40])).min(65_536);
     let steps = r.range(60, 300) as usize;
     let both = Both::open(r, g, nodes, store, n);
     let mut run = Run { both, n: m, grown: BTreeSet::new(), opened: BTreeSet::new() };
