@@ -58,7 +58,7 @@ function showNodes() {
     const [vertex, first, state, parent, dual] = row, tr = document.createElement('tr');
     const swatch = tr.appendChild(document.createElement('td')).appendChild(document.createElement('span'));
     swatch.className = 'swatch';
-    swatch.style.background = colour(n + 1);
+    swatch.style.background = opened(row) ? 'none' : colour(n + 1);
     const members =
         vertex === null ? standing.nodes.map((r, m) => r && r[3] === n + 1 ? m : -1).filter(m => m >= 0) : [];
     text(tr, n, 'td');
