@@ -1,5 +1,6 @@
-"""hub.py BEFORE AFTER: nanoseconds a call of an insertion that is refused at a hub, by two shared objects with `core_calls`
-(bench/cores), which makes calls without the soundness test before each. They take turns; each number is the best of all.
+"""hub.py BEFORE AFTER: nanoseconds a call of an insertion that is refused at a hub, by two shared objects with
+`core_calls` (bench/cores), which makes calls without the soundness test before each. They take turns; each number is
+the best of all.
 
 Where the hub is virtual the vertex decides, and the insertion is refused 5. Where it is free and N nodes exist, all its
 sides are read, and the insertion is refused 8. Reading the record is in both.

@@ -1,7 +1,8 @@
 #!/usr/bin/env python3
 """faults.py [RUNS] [WORD]: the comparison must notice faults. Each edit below goes into a copy of the Rust; run.sh on
-it must find differences, library-run.sh where only the state shows the fault, or rounds-run.sh where it is in the calls
-for all clusters. With WORD only the faults whose name has it.
+it must find differences, library-run.sh where only the state shows the fault, rounds-run.sh where it is in the calls
+for all clusters, or opening-run.sh where it is in the opening of a blossom. With WORD only the faults whose name has
+it.
 
 Needs what these need, and their archives built before. FB_SRC as for run.sh.
 """
@@ -58,6 +59,33 @@ IN_ROUNDS = [
     ('the active list is not renewed', '        self.active_list = updated_active_list;\n',
      '        let _ = updated_active_list;\n', 0),
 ]
+RECOVER = '        // recover edge belongings\n'
+IN_OPENINGS = [
+    ('an opening does not prepare the blossom',
+     '        self.prepare_dual_node_growth(&dual_node_ptr, false); // prepare the blossom into shrinking\n', '', 0),
+    ('the first member does not get its sides back',
+     'for circle_dual_node_weak in nodes_circle.iter() {\n                let circle_dual_node_ptr',
+     'for circle_dual_node_weak in nodes_circle.iter().skip(1) {\n                let circle_dual_node_ptr', 0),
+    ('a left side that is freed loses its grandson too',
+     '                edge.left_dual_node = None;\n            } else {\n'
+     '                edge.right_dual_node = None;\n            }\n        }\n        if let',
+     '                edge.left_dual_node = None;\n                edge.left_grandson_dual_node = None;\n'
+     '            } else {\n                edge.right_dual_node = None;\n            }\n        }\n        if let', 0),
+    ('an opening takes the growth of the blossom\'s sides back by 1', RECOVER,
+     RECOVER + '        if let Some((left, e)) = dual_node_internal.boundary.first() {\n'
+     '            let e = e.upgrade_force();\n            let mut e = e.write(active_timestamp);\n'
+     '            if *left { e.left_growth -= 1 } else { e.right_growth -= 1 }\n        }\n', 0),
+    ('a member goes to the front of the active list',
+     '        self.nodes[node_idx as usize] = None; // simply remove this blossom node\n',
+     '        if let DualNodeClass::Blossom { nodes_circle, .. } = &node.class {\n'
+     '            let m = self.get_dual_node_internal_ptr(&nodes_circle[0].upgrade_force()).downgrade();\n'
+     '            self.active_list.insert(0, m);\n        }\n'
+     '        self.nodes[node_idx as usize] = None;\n', 0),
+]
+# which script notices it, and in how many streams; run.sh where nothing is said
+BY = {f[0]: ('library-run.sh', '60') for f in IN_STATES}
+BY.update({f[0]: ('rounds-run.sh', '60') for f in IN_ROUNDS})
+BY.update({f[0]: ('opening-run.sh', '60') for f in IN_OPENINGS})
 # a fault whose text stands in another file than dual_module_serial
 ELSEWHERE = {'the group leaves out its second conflict': 'dual_module'}
 
@@ -74,7 +102,7 @@ def main():
               'folder (differential/README.md).', file=sys.stderr)
         sys.exit(2)
     runs = sys.argv[1] if len(sys.argv) > 1 else '2000'
-    chosen = [f for f in FAULTS + IN_STATES + IN_ROUNDS if len(sys.argv) < 3 or sys.argv[2] in f[0]]
+    chosen = [f for f in FAULTS + IN_STATES + IN_ROUNDS + IN_OPENINGS if len(sys.argv) < 3 or sys.argv[2] in f[0]]
     missed = 0
     work = tempfile.mkdtemp()
     env = dict(os.environ, FB_SRC=os.path.join(work, 'src'), FOUND=os.path.join(work, 'found'))
@@ -83,9 +111,7 @@ def main():
     env.setdefault('CARGO_TARGET_DIR', os.path.join(ROOT, 'target', 'faults'))
     try:
         for name, old, new, place in chosen:
-            script, times = ('run.sh', runs)
-            if name in [f[0] for f in IN_STATES + IN_ROUNDS]:
-                script, times = ('library-run.sh' if name in [f[0] for f in IN_STATES] else 'rounds-run.sh', '60')
+            script, times = BY.get(name, ('run.sh', runs))
             shutil.rmtree(env['FB_SRC'], ignore_errors=True)
             os.mkdir(env['FB_SRC'])
             for m in ('dual_module_serial', 'dual_module', 'util'):

@@ -10,8 +10,8 @@
  * Every call writes its answer to the front of `answer`, a list of at least 5 numbers, and gives back how many numbers
  * that are: first the case, then its values. A list of 2 to 4 numbers is refused 1; in a list of 0 or 1 numbers nothing
  * can be told: then nothing happens, and 0 is given back. A refusal, FB_REFUSED and its number, leaves all memory
- * unchanged for 1 to 9, 14 and 17; 10 to 12, and 13 after preparing, leave what preparation leaves. A call for all
- * clusters that is refused leaves the block unchanged whatever the number.
+ * unchanged for 1 to 9, 14 and 17; 10 to 12, and 13 after preparing, leave what preparation leaves, and so does 15
+ * once prepared. A call for all clusters that is refused leaves the block unchanged whatever the number.
  *
  * hosts/decode.c and hosts/decode.rs are hosts that work, hosts/lines.c is one for records.
  */
@@ -30,7 +30,7 @@ extern "C" {
  * is refused 12. */
 #define FB_MOST_VERTICES 1024        /* V, from 1; virtual vertices among them */
 #define FB_MOST_EDGES 4096           /* E, from 1; the ends of an edge differ, parallel edges are allowed */
-#define FB_MOST_NODES 1024           /* N, from 1: defects and blossoms since the last fb_clear */
+#define FB_MOST_NODES 1024           /* N, from 1: defects and blossoms, opened ones too, since the last fb_clear */
 #define FB_MOST_STORE 65536          /* L, from 0 */
 #define FB_MOST_CIRCLE 63            /* members of a blossom, from 3, an odd number; beyond it refused 7 */
 #define FB_MOST_WEIGHT 1000000       /* weights, from 0 */
@@ -47,7 +47,7 @@ extern "C" {
 /* List store L with which no call is refused 9: FB_STORE for defects alone, FB_STORE_BLOSSOMS for at most so many
    blossoms between two fb_clear, none of more than so many members. The lists of all outermost nodes together have at
    most 2 E + V entries; a call asks for as many again, a blossom for one more such part for each of its members; and
-   the members of each blossom keep theirs. */
+   the members of each blossom keep theirs. A blossom that was opened no longer counts. */
 #define FB_STORE(v, e) (2 * (2 * (e) + (v)))
 #define FB_STORE_BLOSSOMS(v, e, blossoms, members) ((2 + (blossoms) + (members)) * (2 * (e) + (v)))
 
@@ -102,7 +102,7 @@ static inline const char *fb_refusal_sentence(size_t number) {
         "a dual variable, overgrown amount or growth would pass its limit",
         "a full edge to a free vertex, or a side of growth 0: prepare first",
         "a round of a length below 1",
-        "no such refusal",
+        "the node is not a blossom of dual variable 0, or once prepared it stops a debug build",
         "no such refusal",
         "no value of the sheet is positive, or one is out of range",
     };
@@ -146,6 +146,14 @@ size_t fb_insert_defect(int64_t *block, size_t block_length, int64_t *scratch, s
 size_t fb_insert_blossom(int64_t *block, size_t block_length, int64_t *scratch, size_t scratch_length,
                          const int64_t *circle, size_t circle_length, size_t state, size_t *answer,
                          size_t answer_length);
+
+/* A blossom of dual variable 0 is opened, in any grow state: FB_DONE. Its members are outermost again, in Stay, and hold
+   their sides; no growth changes. Its lists are free store; its number is not given out again before fb_clear, still
+   counts as one of N, is refused 3 where it is named, and leaves the active list at the next renewal. Tested in this
+   order: 1, 2, 3, 6, 15 for any other node, 9; then the node is prepared, and 15 is refused where a debug build of the
+   Rust stops: on a block that calls have made it never does. */
+size_t fb_remove_blossom(int64_t *block, size_t block_length, int64_t *scratch, size_t scratch_length, size_t node,
+                         size_t *answer, size_t answer_length);
 
 /* A node gets a grow state: FB_DONE. */
 size_t fb_set_grow_state(int64_t *block, size_t block_length, const int64_t *scratch, size_t scratch_length,

@@ -3,7 +3,7 @@
 # target/lib/libfusion_blossom.a and libcardrun_lines.a for C (include/fusion_blossom.h). Needs the Rattle toolchain, cc
 # and ar.
 set -e
-calls='host host_sheet host_check host_round'  # the crates that export fb_open and the other calls
+calls='host host_sheet host_check host_round host_remove'  # the crates that export fb_open and the other calls
 lines=stream             # the crate that exports cardrun_lines
 cd "$(dirname "$0")/.."
 mkdir -p target/lib

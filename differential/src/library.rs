@@ -158,7 +158,7 @@ impl Lent {
     }
 
     /// The representative vertex of a node, if there is the node. Block and scratch are tested before, and nothing is written.
-    fn representative(&mut self, n: usize) -> Option<usize> {
+    pub fn representative(&mut self, n: usize) -> Option<usize> {
         let (b, bl, t, tl) = (self.block.as_ptr(), self.block.len(), self.scratch.as_ptr(), self.scratch.len());
         unsafe { c::fb_representative_vertex(b, bl, t, tl, n, self.answer.as_mut_ptr(), 5) };
         (self.answer[0] == 10).then_some(self.answer[1])
@@ -264,8 +264,8 @@ fn agree(s: &streams::Stream, n: &mut Counts) -> Result<(), String> {
     }
     for (m, &v) in s.representatives.iter().enumerate() {
         n.vertices += 1;
-        if lent.representative(m) != Some(v) {
-            return Err(format!("representative vertex of {m}: {} | vertex {v}", lent.line()));
+        if lent.representative(m) != v {
+            return Err(format!("representative vertex of {m}: {} | vertex {v:?}", lent.line()));
         }
     }
     match lent.representative(s.representatives.len()) {
@@ -304,8 +304,14 @@ pub fn compare(runs: u64, seed: u64) -> bool {
         }
     }
     let kinds: Vec<_> = graphs::KINDS.iter().zip(streams).filter(|k| k.1 > 0).map(|(k, n)| format!("{k} {n}")).collect();
-    println!("{} streams ({}), up to V {}, E {} and {} nodes", streams.iter().sum::<usize>(), kinds.join(", "), largest.0, largest.1, n.nodes);
-    println!("{} calls, {} lines, {} representative vertices, {} whole states of {} words compared", n.calls, n.lines, n.vertices, n.states, n.words);
+    println!(
+        "{} streams ({}), up to V {}, E {} and {} nodes",
+        streams.iter().sum::<usize>(), kinds.join(", "), largest.0, largest.1, n.nodes
+    );
+    println!(
+        "{} calls, {} lines, {} representative vertices, {} whole states of {} words compared",
+        n.calls, n.lines, n.vertices, n.states, n.words
+    );
     let listed = |m: &BTreeMap<String, usize>| m.iter().map(|(k, n)| format!("{k} {n}")).collect::<Vec<_>>().join(", ");
     println!("answers: {}", listed(&n.answers));
     println!("circles of more than 60 nodes: {}", listed(&n.circles));

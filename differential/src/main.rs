@@ -4,6 +4,8 @@ mod count;
 mod graphs;
 #[cfg(library)]
 mod library;
+#[cfg(library)]
+mod openings;
 mod patches;
 mod port;
 mod random;
@@ -86,6 +88,8 @@ fn main() {
         #[cfg(library)]
         Some("rounds") => rounds::compare(number(a.get(2), 2000), number(a.get(3), 1)),
         #[cfg(library)]
+        Some("openings") => openings::compare(number(a.get(2), 2000), number(a.get(3), 1)),
+        #[cfg(library)]
         Some("rounds-speed") => {
             rounds::speed();
             true
@@ -97,7 +101,7 @@ fn main() {
         _ => {
             eprintln!(
                 "differential compare [RUNS] [SEED] | one SEED | sample FILE [SEED] | replay FILE | patches FILE \
-                 | speed | library [RUNS] [SEED] | rounds [RUNS] [SEED] | rounds-speed"
+                 | speed | library [RUNS] [SEED] | rounds [RUNS] [SEED] | openings [RUNS] [SEED] | rounds-speed"
             );
             false
         }

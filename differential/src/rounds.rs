@@ -38,7 +38,7 @@ pub enum Call {
 /// Lent memory with a second block and a list of entries.
 pub struct Port {
     pub lent: Lent,
-    second: Vec<i64>,
+    pub second: Vec<i64>,
     pub entries: Vec<usize>,
 }
 
@@ -74,37 +74,37 @@ impl Port {
 
 #[derive(Default)]
 pub struct Counts {
-    rounds: usize,
-    groups: usize,
+    pub rounds: usize,
+    pub groups: usize,
     others: usize,
-    calls: usize,
+    pub calls: usize,
     listed: usize,
-    states: usize,
-    words: usize,
-    nodes: usize,
+    pub states: usize,
+    pub words: usize,
+    pub nodes: usize,
     stopped: usize,
-    ended: BTreeMap<&'static str, usize>,
+    pub ended: BTreeMap<&'static str, usize>,
     answers: BTreeMap<String, usize>,
 }
 
 /// A stream on both sides.
-struct Both<'a> {
-    r: &'a mut Random,
-    port: Port,
-    rust: Session,
-    n: &'a mut Counts,
-    step: usize,
+pub struct Both<'a> {
+    pub r: &'a mut Random,
+    pub port: Port,
+    pub rust: Session,
+    pub n: &'a mut Counts,
+    pub step: usize,
     every: usize,
 }
 
 /// Why a stream ends: a difference, or something that is outside the comparison.
-enum End {
+pub enum End {
     Different(String),
     Outside(&'static str),
 }
-type Step = Result<(), End>;
+pub type Step = Result<(), End>;
 
-fn different(port: &str, rust: &str) -> End {
+pub fn different(port: &str, rust: &str) -> End {
     End::Different(format!("{port} | {rust}"))
 }
 
@@ -119,11 +119,18 @@ impl Both<'_> {
         *self.n.answers.entry(format!("{call} {kind}")).or_default() += 1;
     }
 
+    /// Whole states, or after some calls only.
     fn states(&mut self) -> Step {
         self.step += 1;
-        if self.step % self.every != 0 {
-            return Ok(());
+        if self.step % self.every == 0 {
+            self.whole()
+        } else {
+            Ok(())
         }
+    }
+
+    /// The Rust's state and the words of the block.
+    pub fn whole(&mut self) -> Step {
         let rows = self.rust.rows();
         if let Some(why) = state_differs(&self.port.lent.block, &rows) {
             return Err(End::Different(format!("after step {}: {why}", self.step)));
@@ -134,7 +141,7 @@ impl Both<'_> {
     }
 
     /// A call on one node.
-    fn one(&mut self, kind: u16, fields: &[i32]) -> Step {
+    pub fn one(&mut self, kind: u16, fields: &[i32]) -> Step {
         self.rust.lines.clear();
         let said = self.rust.feed(&record(kind, fields));
         if said.outside {
@@ -171,7 +178,7 @@ impl Both<'_> {
     }
 
     /// The group on both sides; the nodes that are listed, or the length.
-    fn group(&mut self) -> Result<Option<i64>, End> {
+    pub fn group(&mut self) -> Result<Option<i64>, End> {
         if self.rust.may_mend() {
             return Err(End::Outside("a mended preparation"));
         }
@@ -198,7 +205,7 @@ impl Both<'_> {
         Ok((a[0] == 0).then_some(a[2] as i64))
     }
 
-    fn round(&mut self, length: i64) -> Result<bool, End> {
+    pub fn round(&mut self, length: i64) -> Result<bool, End> {
         if self.rust.may_mend() {
             return Err(End::Outside("a mended preparation"));
         }
@@ -214,7 +221,7 @@ impl Both<'_> {
         Ok(!refused)
     }
 
-    fn other(&mut self, renew: bool) -> Step {
+    pub fn other(&mut self, renew: bool) -> Step {
         if self.rust.may_mend() {
             return Err(End::Outside("a mended preparation"));
         }
@@ -228,7 +235,7 @@ impl Both<'_> {
     }
 
     /// The nodes of a list get other states, so that the group goes on.
-    fn settle(&mut self) -> Step {
+    pub fn settle(&mut self) -> Step {
         let count = self.port.lent.answer[1] + self.port.lent.answer[2];
         let nodes: Vec<i32> = (0..count)
             .map(|k| {
@@ -243,11 +250,11 @@ impl Both<'_> {
         Ok(())
     }
 
-    fn nodes(&self) -> i32 {
+    pub fn nodes(&self) -> i32 {
         self.port.lent.block[4] as i32
     }
 
-    fn defects(&mut self, v: i32, percent: i32) -> Step {
+    pub fn defects(&mut self, v: i32, percent: i32) -> Step {
         for vertex in 0..v {
             if self.r.chance(percent) {
                 let state = self.r.pick(&[1, 1, 1, 1, 1, 1, 1, 0, 2]);
@@ -342,21 +349,28 @@ impl Both<'_> {
     }
 }
 
+impl<'a> Both<'a> {
+    /// The graph, opened on both sides.
+    pub fn open(r: &'a mut Random, g: &Graph, nodes: i32, store: i32, n: &'a mut Counts) -> Self {
+        let records = streams::opening(g, nodes, store);
+        let mut rust = Session::new(false);
+        rust.limits = streams::LIBRARY;
+        for rec in &records {
+            rust.feed(rec);
+        }
+        rust.feed(&record(13, &[])); // the first call opens the graph
+        let port = Port::open(&records);
+        let every = 1 + port.lent.block.len() / 4_000;
+        Both { r, port, rust, n, step: 0, every }
+    }
+}
+
 fn agree(seed: u64, g: &Graph, n: &mut Counts) -> Step {
     let r = &mut Random::new(seed);
     let nodes = r.range(1 + g.v / 4, g.v + g.v / 4).min(1024);
     let store = (2 * (2 * g.edges.len() as i32 + g.v) * r.pick(&[1, 2, 4, 8])).min(65_536);
-    let records = streams::opening(g, nodes, store);
-    let mut rust = Session::new(false);
-    rust.limits = streams::LIBRARY;
-    for rec in &records {
-        rust.feed(rec);
-    }
-    rust.feed(&record(13, &[])); // the first call opens the graph
-    let port = Port::open(&records);
-    let every = 1 + port.lent.block.len() / 4_000;
     let steps = r.range(10, 60) as usize;
-    let mut both = Both { r, port, rust, n, step: 0, every };
+    let mut both = Both::open(r, g, nodes, store, n);
     let end = both.run(g.v, steps);
     both.n.nodes = both.n.nodes.max(both.port.lent.block[4] as usize);
     end

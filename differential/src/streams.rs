@@ -14,7 +14,7 @@ pub struct Stream {
     /// the Rust stopped outside the domain, or a record is the last that is compared
     pub outside: bool,
     /// the representative vertex of each node at the end
-    pub representatives: Vec<usize>,
+    pub representatives: Vec<Option<usize>>,
 }
 
 pub const POLICIES: [&str; 6] = ["decoding", "any calls", "breathing", "nesting", "bad fields", "unprepared"];
@@ -354,7 +354,8 @@ pub fn opening(g: &Graph, n: i32, l: i32) -> Vec<Record> {
     out
 }
 
-/// A circle about as long as the port takes, 63 nodes, or longer, now and then with a repeat; as many nodes as there are.
+/// A circle about as long as the port takes, 63 nodes, or longer, now and then with a repeat; as many nodes as there
+/// are.
 #[cfg(library)]
 fn long_circle(r: &mut Random, view: &View) -> (u16, Vec<i32>) {
     let mut out = view.outer();
@@ -366,8 +367,8 @@ fn long_circle(r: &mut Random, view: &View) -> (u16, Vec<i32>) {
     (5, [vec![r.pick(&[1, 1, 2, 0])], out].concat())
 }
 
-/// A stream on a graph of the library's sizes: good fields for the most part, now and then many defects first and a long circle of them, a
-/// table at the end.
+/// A stream on a graph of the library's sizes: good fields for the most part, now and then many defects first and a
+/// long circle of them, a table at the end.
 #[cfg(library)]
 pub fn large(seed: u64, g: &Graph) -> Stream {
     let r = &mut Random::new(seed);

@@ -8,6 +8,7 @@ from dataclasses import dataclass
 from typing import List, Optional
 
 HEADER = 16
+REMOVED = 1024  # V + it is the class word of an opened blossom
 # rows behind the header, in order, and their lengths in V, E, N
 ROWS = [
     ('flags', 'V'),
@@ -36,7 +37,8 @@ ROWS = [
 class Node:
     """A node as it is stored.
 
-    A defect has a vertex, a blossom its first member; `parent` is the blossom that it lies in.
+    A defect has a vertex, a blossom its first member, an opened blossom neither; `parent` is the blossom that it lies
+    in.
     """
 
     number: int
@@ -45,6 +47,11 @@ class Node:
     state: int
     parent: Optional[int]
     dual: int
+
+    @property
+    def removed(self) -> bool:
+        """Whether it is a blossom that was opened."""
+        return self.vertex is None and self.first_member is None
 
 
 class Block:
@@ -77,7 +84,7 @@ class Block:
     def node(self, n: int) -> Node:
         """A node, read from the words of the block."""
         c, parent = self.field('class', n), self.field('parent', n)
-        vertex, first = (c, None) if c < self.V else (None, c - self.V)
+        vertex, first = (c, None) if c < self.V else (None, c - self.V if c != self.V + REMOVED else None)
         return Node(n, vertex, first, self.field('state', n), parent - 1 if parent else None, self.dual(n))
 
     def dual(self, n: int) -> int:

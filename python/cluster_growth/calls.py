@@ -36,6 +36,7 @@ CHECK_TABLE = Call('fb_check_table', (WORDS, WORDS, WORDS, WORDS, SIZE, SIZE))
 CALLS: Dict[str, Call] = {
     'insert_defect': Call('fb_insert_defect', (SIZE, SIZE)),
     'insert_blossom': Call('fb_insert_blossom', (WORDS, SIZE)),
+    'remove_blossom': Call('fb_remove_blossom', (SIZE,)),
     'set_grow_state': Call('fb_set_grow_state', (SIZE, SIZE)),
     'prepare': Call('fb_prepare', (SIZE, SIZE)),
     'max_update_length': Call('fb_max_update_length', (SIZE, SIZE, FLAG)),

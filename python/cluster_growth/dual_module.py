@@ -169,6 +169,13 @@ class DualModule:
         """The next node is a blossom of an odd circle of nodes, at most 63 of them. Its number."""
         return self._made('insert_blossom', array('q', plain(circle)), state).node
 
+    def remove_blossom(self, blossom: int) -> None:
+        """A blossom of dual variable 0 is opened: its members are outermost again, in Stay, and hold their sides.
+
+        Its number is not given out again before a clear, and naming it is refused 3.
+        """
+        self._made('remove_blossom', blossom)
+
     def set_grow_state(self, node: int, state: int) -> None:
         """The node grows, shrinks or stays from now on."""
         self._made('set_grow_state', node, state)
@@ -241,7 +248,7 @@ class DualModule:
         return self.block.node(node)
 
     def node_count(self) -> int:
-        """How many nodes there are, blossoms and their members among them."""
+        """How many nodes there are, blossoms and their members among them, opened ones too."""
         return self.block.count()
 
 

@@ -1,6 +1,6 @@
 #!/usr/bin/env python3
-"""Circles of up to 63 nodes (request N10), through the package, against the model: which length is refused, the place of
-that refusal among the others, and the list store that always suffices; on graphs of the library's sizes.
+"""Circles of up to 63 nodes (SPECIFICATION 20), through the package, against the model: which length is refused, the
+place of that refusal among the others, and the list store that always suffices; on graphs of the library's sizes.
 """
 import os
 import random
@@ -15,7 +15,7 @@ import cluster_growth as cg  # noqa: E402
 from cluster_growth import library, sizes  # noqa: E402
 import model as M  # noqa: E402
 from model.words import words  # noqa: E402
-import test_rounds as rounds  # noqa: E402  (reading a block)
+import compared  # noqa: E402  (reading a block)
 
 needs_library = unittest.skipUnless(library.find(), 'the library is not built: tools/build-library.sh')
 LENGTHS = (61, 63, 64, 65, 101)
@@ -34,7 +34,7 @@ class Both:
         _, self.state = M.open_graph(vertices, len(edges), nodes, store, edges, virtual)
 
     def same(self, want, got):
-        self.test.assertEqual(str(got), rounds.said(want))
+        self.test.assertEqual(str(got), compared.said(want))
         return want
 
     def defects(self, count, first=0, state=1):
@@ -52,7 +52,7 @@ class Both:
         )
         if want[0] == 'refused':
             self.test.assertEqual(list(m.words), before)
-        self.test.assertEqual(rounds.tidied(m), words(self.state))
+        self.test.assertEqual(compared.tidied(m), words(self.state))
         return want
 
     def others(self, circle):

@@ -4,7 +4,8 @@
     tests/definitions/compare.py [--lists 600] [--states 200] [--streams 100] [--circles 5] [--seed 1] [--keep DIR]
 
 The prover computes, from the definitions themselves:
-  lists    random call lists: every answer, the whole state after the last call, whether it is sound, and at each vertex what the test for refusal 5 finds and how many sides it reads;
+  lists    random call lists: every answer, the whole state after the last call, whether it is sound, and at each vertex
+           what the test for refusal 5 finds and how many sides it reads;
   states   sound states that no call list reaches (a reached state with fields changed at random), a few calls on each;
   streams  record streams: the lines, all of them and those that fit into a random space;
   circles  circles of 61, 63, 64, 65 and 101 nodes, with a repeat and without, on rows of so many defects.
@@ -56,7 +57,8 @@ def grouped(a, listed):
 
 def state(st):
     nodes = st.nodes
-    classes = items(f'blossom {n.first}' if n.vertex == M.NONE else f'defectVertex {n.vertex}' for n in nodes)
+    classes = items('removed' if n.removed else f'blossom {n.first}' if n.vertex == M.NONE
+                    else f'defectVertex {n.vertex}' for n in nodes)
     stacks = items(items(f'over {v} {a}' for v, a in reversed(n.overgrown)) for n in nodes)
     at = items(nats(x) for x in st.at)
     graph = f'end = {nats(st.end)}; weight = {nats(st.weight)}; at = {at}; virtual = {nats(st.virtual)}'
@@ -82,6 +84,7 @@ def line(st, c):
     call, term = {
         'defect': (M.insert_defect, lambda v, x: f'InsertDefect {v} {x}'),
         'blossom': (M.insert_blossom, lambda x, ms: f'InsertBlossom {x} {nats(ms)}'),
+        'remove': (M.remove_blossom, lambda n: f'RemoveBlossom {n}'),
         'state': (M.set_state, lambda n, x: f'SetGrowState {n} {x}'),
         'prepare': (M.prepare, lambda n, d: f'Prepare {n} {d}'),
         'length': (M.length, lambda n, d, p: f'MaxUpdateLength {n} {d} {truth(p)}'),
@@ -92,7 +95,10 @@ def line(st, c):
         'prepare_all': (M.prepare_all, lambda: 'PrepareAll'),
         'round': (M.grow_all, lambda l: f'Round {whole(l)}'),
         'clear': (M.clear, lambda: 'Clear')}[kind]
-    return f'{term(*f)} gives answered {answer(call(st, *f))}'
+    worked = kind == 'remove' and M.remove_refusal(st, *f) is None
+    said = call(st, *f)
+    if worked: SEEN['opening done' if said[0] == 'done' else 'opening refused once prepared'] += 1
+    return f'{term(*f)} gives answered {answer(said)}'
 
 # ---------------------------------------------------------------- random graphs, calls and states
 
@@ -108,14 +114,18 @@ def graph(rng):
         if rng.random() < .5: l, r = r, l
         edges.append((l, r, rng.choice(weights)))
     virtuals = [v for v in range(V) if rng.random() < .2]
-    return V, E, rng.choice([2, 3, 4, 6, 8]), rng.choice([25, 50, 80, 120, 200, 400]), edges, virtuals
+    return V, E, rng.choice([2, 3, 4, 6, 8, 12]), rng.choice([25, 50, 80, 120, 200, 400]), edges, virtuals
 
 
 def call(rng, st):
     n, x = len(st.nodes), rng.random()
-    outermost = [i for i in range(n) if st.nodes[i].parent == M.NONE]
+    outermost = [i for i in range(n) if st.nodes[i].parent == M.NONE and not st.nodes[i].removed]
+    blossoms = [i for i in outermost if st.nodes[i].vertex == M.NONE]
     i = rng.choice(outermost) if outermost and rng.random() < .93 else rng.randrange(n + 1)
     if outermost and rng.random() < .4: i = outermost[-1]
+    if rng.random() < (.18 if blossoms else .02):
+        bare = [i for i in blossoms if st.nodes[i].dual == 0]
+        return 'remove', rng.choice(bare if bare and rng.random() < .8 else blossoms or [rng.randrange(n + 1)])
     if n == 0 or x < .14 or n < 3 and rng.random() < .5:
         v = rng.randrange(st.V + (rng.random() < .1))
         return 'defect', v, rng.choice([1, 1, 1, 1, 0, 2, 3 if rng.random() < .2 else 1])
@@ -181,11 +191,11 @@ use mathlib.Core.Path.{{_≡_, refl}}
 use mathlib.Core.Bool.{{Bool, true, false}}
 use mathlib.Core.List.{{List, [], _∷_, map}}
 use lib.IntN.{{pos, negsuc}}
-use Rattle.graph.specs.State.{{State, Overgrown, NodeClass, defectVertex, blossom}}
+use Rattle.graph.specs.State.{{State, Overgrown, NodeClass, defectVertex, blossom, removed}}
 use Rattle.graph.specs.Open.{{opened}}
-use Rattle.graph.specs.Sound.{{sound}}
+use Rattle.graph.specs.Sound.{{stateSound}}
 use Rattle.length.specs.declared.Answer.the-variants.{{NonZeroGrow, Unlimited, Conflicting, TouchingVirtual, BlossomNeedExpand, VertexShrinkStop, VertexShrinkStopPeer, Done, Node, Prepared, Vertex, Refused}}
-use Rattle.calls.specs.Calls.{{InsertDefect, InsertBlossom, SetGrowState, Prepare, MaxUpdateLength, Grow, ReadTable, Advance, Contacts, RepresentativeVertex, Clear, RenewActiveList, PrepareAll, GroupLength, Round, answered, growths, touching, grouped, respond}}
+use Rattle.calls.specs.Calls.{{InsertDefect, InsertBlossom, SetGrowState, Prepare, MaxUpdateLength, Grow, ReadTable, Advance, Contacts, RepresentativeVertex, Clear, RenewActiveList, PrepareAll, GroupLength, Round, RemoveBlossom, answered, growths, touching, grouped, respond}}
 use Rattle.calls.specs.declared.group.GroupMaxUpdateLength.the-variants.{{NonZeroGrow as groupFree, Unlimited as groupUnlimited, Conflicts as groupConflicts, Refused as groupRefused}}
 use Rattle.calls.specs.Insert.{{occupied}}
 use Rattle.calls.specs.Occupied.{{sidesRead}}
@@ -206,7 +216,7 @@ after c ((k gives o) ∷ ls) = after (respond c k .state) ls
 
 
 def looks(st):
-    """What the test for refusal 5 finds at each vertex, and how many sides it reads; how often a side decides is counted."""
+    """What the test for refusal 5 finds at each vertex, and how many sides it reads."""
     found = [M.held_test(st, v) for v in range(st.V)]
     SEEN['vertices tested'] += st.V
     SEEN['a held side decides'] += sum(held and read > 0 for held, read in found)
@@ -224,11 +234,11 @@ def case(name, start, lines, st):
 {name}-lines =
     {body}
 
-{name} : ({gives}) × ({last} ≡ {state(st)}) × (sound ({last}) ≡ {truth(not M.sound(st))})
+{name} : ({gives}) × ({last} ≡ {state(st)}) × (stateSound ({last}) ≡ {truth(not M.sound(st))})
 unfolding everything edge given wanted after {name}-start {name}-lines
 {name} = (refl, refl, refl)
 
-{name}-read : map (looked (after {name}-start {name}-lines)) {nats(range(st.V))} ≡ {looks(st)}
+{name}-read : map (looked ({last})) {nats(range(st.V))} ≡ {looks(st)}
 unfolding everything edge after {name}-start {name}-lines looked
 {name}-read = refl
 
@@ -246,11 +256,13 @@ def state_case(rng, name):
     while len(lines) < 4 and not M.sound(st):
         n, v = len(st.nodes), rng.randrange(st.V)
         i = rng.randrange(n)
+        p = rng.choice([j for j in range(n) if st.nodes[j].parent == M.NONE and st.nodes[j].vertex == M.NONE] or [i])
         lines.append(line(st, rng.choice([
             ('prepare', i, 0), ('prepare', i, 1), ('length', i, 0, False), ('length', i, 1, False),
             ('length', i, 1, True), ('length', i, 0, True), ('grow', i, 1), ('grow', i, -1), ('advance', i),
             ('defect', v, 1), ('prepare_all',), ('group',), ('group',), ('round', 1), ('round', 2), ('renew',),
-            ('state', i, rng.randrange(3)), ('blossom', 1, rng.sample(range(n), 3) if n > 2 else [i])])))
+            ('state', i, rng.randrange(3)), ('remove', p), ('remove', p), ('remove', i),
+            ('blossom', 1, rng.sample(range(n), 3) if n > 2 else [i])])))
     return case(name, start, lines, st)
 
 
@@ -266,7 +278,8 @@ def circle_case(rng, name):
     start = f"opened {size} {N} {L} {items(f'edge {l} {r} {w}' for l, r, w in edges)} []"
     circle = rng.sample(range(size), size)
     twice = circle[:-1] + [circle[rng.randrange(size - 1)]]
-    calls = [('defect', v, 1) for v in range(size)] + [('blossom', 1, twice), ('blossom', 2, circle), ('length', size, 0, True)]
+    calls = [('defect', v, 1) for v in range(size)]
+    calls += [('blossom', 1, twice), ('blossom', 2, circle), ('length', size, 0, True)]
     return case(name, start, [line(st, c) for c in calls], st)
 
 
@@ -304,13 +317,16 @@ use Rattle.records.specs.Opens.{everything}
 
 def main():
     p = argparse.ArgumentParser(description=__doc__, formatter_class=argparse.RawDescriptionHelpFormatter)
-    for name, default in ('lists', 600), ('states', 200), ('streams', 100), ('circles', 5), ('seed', 1): p.add_argument('--' + name, type=int, default=default)
+    for name, default in ('lists', 600), ('states', 200), ('streams', 100), ('circles', 5), ('seed', 1):
+        p.add_argument('--' + name, type=int, default=default)
     p.add_argument('--keep', help='write the copy here and leave it')
     o = p.parse_args()
     rng = random.Random(o.seed)
     modules, per = {}, 20
-    for kind, count, make, what in (('Lists', o.lists, list_case, 'Random call lists.'), ('States', o.states, state_case, 'Sound states that no call list reaches.'),
-                                    ('Circles', o.circles, circle_case, 'Circles of up to 63 nodes and longer ones.')):
+    for kind, count, make, what in (
+            ('Lists', o.lists, list_case, 'Random call lists.'),
+            ('States', o.states, state_case, 'Sound states that no call list reaches.'),
+            ('Circles', o.circles, circle_case, 'Circles of up to 63 nodes and longer ones.')):
         for f in range(0, count, per):
             cases = [make(rng, f'case{k}') for k in range(f, min(f + per, count))]
             modules[f'{kind}{f // per}'] = HEAD.format(what) + ''.join(cases)
@@ -331,7 +347,8 @@ def main():
     run = subprocess.run(['rt', 'check', 'trial'], cwd=top, capture_output=True, text=True)
     for l in run.stdout.splitlines() + run.stderr.splitlines():
         if 'error' in l or l.startswith('rt:'): print(l[:300])
-    print(f'seed {o.seed}: {o.lists} call lists, {o.states} states that no call list reaches, {len(chosen)} record streams, {o.circles} circles; ' + ', '.join(f'{k} {v}' for k, v in sorted(SEEN.items())))
+    print(f'seed {o.seed}: {o.lists} call lists, {o.states} states that no call list reaches, {len(chosen)} record '
+          f'streams, {o.circles} circles; ' + ', '.join(f'{k} {v}' for k, v in sorted(SEEN.items())))
     if not o.keep: shutil.rmtree(top)
     sys.exit(run.returncode)
 

@@ -9,7 +9,7 @@ MODULES = {
     'pass': ['Work', 'Grow', 'Shrink', 'Prepare'],
     'length': ['Answer', 'Scan'],
     'growth': ['Growth'],
-    'calls': ['Refuse', 'Insert', 'Each', 'Round', 'Calls'],
+    'calls': ['Refuse', 'Insert', 'Occupied', 'Each', 'Round', 'Remove', 'Calls'],
     'records': ['Text', 'Record', 'Lines', 'Run'],
 }
 BELOW = {'graph': [], 'pass': ['graph'], 'length': [], 'growth': [], 'calls': ['pass', 'length', 'growth'], 'records': ['calls']}

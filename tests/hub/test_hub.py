@@ -1,6 +1,6 @@
 #!/usr/bin/env python3
-"""Insertion at a vertex with many edges (request N3), through the package, against the model: hubs of 1, 2, 300 and 4,096
-edges, and sound blocks that no calls reach, on which a held side decides.
+"""Insertion at a vertex with many edges (SPECIFICATION 19), through the package, against the model: hubs of 1, 2, 300
+and 4,096 edges, and sound blocks that no calls reach, on which a held side decides.
 """
 import os
 import sys
@@ -12,7 +12,7 @@ sys.path[:0] = [os.path.join(TOP, part) for part in ('python', 'tests', os.path.
 from cluster_growth import library  # noqa: E402
 import model as M  # noqa: E402
 from model.words import words  # noqa: E402
-import test_rounds as rounds  # noqa: E402  (a module whose block holds a state)
+import compared  # noqa: E402  (a module whose block holds a state)
 
 needs_library = unittest.skipUnless(library.find(), 'the library is not built: tools/build-library.sh')
 DEGREES = (1, 2, 300, 4096)
@@ -30,11 +30,11 @@ def hub(degree, virtual=(), store=65536):
 @needs_library
 class Hub(unittest.TestCase):
     def insert(self, st, vertex=HUB):
-        """A defect on the library and on the model: answer and block; what the test finds, and how many sides it reads."""
-        m = rounds.module_of(st)
+        """A defect on library and model: answer and block; what the test finds, and how many sides it reads."""
+        m = compared.module_of(st)
         looked, want = M.held_test(st, vertex), M.insert_defect(st, vertex, 1)
-        self.assertEqual(str(m.call('insert_defect', vertex, 1)), rounds.said(want))
-        self.assertEqual(rounds.tidied(m), words(st))
+        self.assertEqual(str(m.call('insert_defect', vertex, 1)), compared.said(want))
+        self.assertEqual(compared.tidied(m), words(st))
         self.assertEqual(looked[0], want == ('refused', 5))
         return (*looked, want)
 

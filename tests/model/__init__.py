@@ -20,6 +20,7 @@ from .calls import (
     table,
 )
 from .program import Run, lines
+from .remove import members, remove_blossom, remove_refusal, stops_opening
 from .rounds import group_length, grow_all, prepare_all, renew_active_list
 from .soundness import sound
 from .state import DUAL_MAX, GROW, GROWTH_MAX, NONE, SHRINK, STAY, WEIGHT_MAX, Node, State, open_graph, opp
@@ -48,14 +49,18 @@ __all__ = [
     'insert_defect',
     'length',
     'lines',
+    'members',
     'open_graph',
     'opp',
     'prepare',
     'prepare_all',
+    'remove_blossom',
+    'remove_refusal',
     'renew_active_list',
     'representative',
     'scan',
     'set_state',
     'sound',
+    'stops_opening',
     'table',
 ]

@@ -16,7 +16,7 @@ def store_short(st, named, c):
 
 
 def bad_node(st, n):
-    return not 0 <= n < len(st.nodes)
+    return not 0 <= n < len(st.nodes) or st.nodes[n].removed
 
 
 def join_active(st, n):

@@ -1,6 +1,13 @@
 """The block of a state, free words zero (docs/LAYOUT.md)."""
 from .state import NONE
 
+REMOVED = 1024  # V + it is the class word of a removed node
+
+
+def class_word(st, node):
+    """A defect's vertex, V + the first member of a blossom, or V + 1,024."""
+    return st.V + REMOVED if node.removed else node.vertex if node.vertex != NONE else st.V + node.first
+
 
 def words(st):
     pad = lambda xs: list(xs) + [0] * (st.N - len(st.nodes))
@@ -24,7 +31,7 @@ def words(st):
         up(st.grandson),
         at,
         st.weight,
-        pad(n.vertex if n.vertex != NONE else st.V + n.first for n in st.nodes),
+        pad(class_word(st, n) for n in st.nodes),
         pad(n.state for n in st.nodes),
         pad(n.parent + 1 for n in st.nodes),
         pad(n.dual for n in st.nodes),

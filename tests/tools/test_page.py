@@ -59,6 +59,15 @@ class Page(InFolder):
         self.assertEqual(steps[5]['words'], 'node 1 and node 0 touch at edge 1')
         self.assertEqual(steps[4]['nodes'], [[1, [2, None, 1, 0, 2]]])
 
+    def test_an_opening_is_a_step(self):
+        out = self.path('page.html')
+        self.assertEqual(card('page', 'examples/opened.txt', '-o', out), (0, '', ''))
+        last = data_of(out)['steps'][-1]
+        self.assertEqual((last['answer'], last['words'], last['growth']), (['done'], 'nodes 3, 4, 5 are outermost again', []))
+        nodes = dict(last['nodes'])
+        self.assertEqual([nodes[n][3] for n in (3, 4, 5)], [0, 0, 0])
+        self.assertEqual(nodes[6], [None, None, 0, 0, 0])
+
     def test_how_it_ends(self):
         out = self.path('page.html')
         self.assertEqual(
@@ -149,7 +158,7 @@ class InBrowser(InFolder):
 
     def test_back_over_a_clear_and_over_blossoms(self):
         calls = 'defect 1 grow; advance 0; clear; defect 2 grow; defect 1 grow; advance 0; clear; defect 1 stay; table; advance 0'
-        for script in (self.path('clear.txt', P + calls), 'examples/nested.txt'):
+        for script in (self.path('clear.txt', P + calls), 'examples/nested.txt', 'examples/opened.txt'):
             b = self.opened(script)
             count = b.run('run.steps.length')
             for k, (growth, duals) in sorted(states(script, range(count + 1)).items(), reverse=True):

@@ -117,6 +117,15 @@ class Pictures(InFolder):
         (a, b, c, d), (x, y, u, v) = map(box, nests)  # the outer one is drawn first
         self.assertTrue(a < x and b < y and c > u and d > v)
 
+    def test_an_opened_blossom_has_no_outline_and_a_word(self):
+        svg = content('examples', 'opened.svg')
+        nests = [p for p in ElementTree.fromstring(svg).iter(SVG + 'path') if p.get('fill-opacity')]
+        self.assertEqual(len(nests), 1)  # around node 3, which lay in node 6
+        said = words(svg)
+        self.assertIn('Node 6 was a blossom and has been opened.', said)
+        self.assertTrue(any(w.startswith('node 3: blossom of 0, 1, 2, dual variable') for w in said))
+        self.assertFalse(any(w.startswith('node 6:') for w in said))
+
 
 @needs_library
 class Large(InFolder):

@@ -192,6 +192,28 @@ class Openings(unittest.TestCase):
         self.assertEqual(card('check', '-', given=given)[::2], (0, ''))  # a round is its growths, one by one
 
     @needs_library
+    def test_opening_a_blossom(self):
+        given = 'graph 4 4\nedge 0 1 4; edge 1 2 4; edge 0 2 4; edge 2 3 20\nvirtual 3\n'
+        given += 'defect 0 grow; defect 1 grow; defect 2 grow\nopen-blossom 0 → refused 15\nblossom shrink 0 1 2 → node 3\n'
+        given += 'length 3 shrink → expand 3\nopen-blossom 1 → refused 6\nopen-blossom 3 → done\nopen-blossom 3 → refused 3\n'
+        given += 'group → free -1 0\nblossom grow 2 1 0 → node 4\nrepresentative 4 → vertex 2\nopen-blossom 4 → done\nclear; defect 1 grow → node 0'
+        status, said, wrong = card('run', '-', given=given)
+        self.assertEqual((status, wrong), (0, ''))
+        said = ' '.join(said.split())
+        for words in (
+            'N 5 and L 84 worked out; run by the library',
+            'open-blossom 0 → refused 15 the node is not a blossom of dual variable 0, or once prepared it stops a debug build',
+            'open-blossom 3 → done nodes 0, 1, 2 are outermost again',
+        ):
+            self.assertIn(words, said)
+        out = json.loads(card('run', '--json', '-', given=given[: given.index('clear')])[1])
+        self.assertEqual(
+            out['node_list'][3],
+            {'node': 3, 'vertex': None, 'first_member': None, 'state': 'stay', 'parent': None, 'dual': 0},
+        )
+        self.assertEqual(card('check', '-', given=given[: given.index('clear')])[0], 3)  # a blossom: beyond the table equality
+
+    @needs_library
     def test_what_is_worked_out_is_enough(self):
         circle = '; '.join(f'defect {v} grow; advance {k}' for k, v in enumerate(range(3, 66, 6)))
         status, said, wrong = card(

@@ -77,6 +77,11 @@ def inner_blossoms(standing):
     return [f'Node {n.number} is a blossom of {members(n.number)} in node {n.parent}.' for n in inner]
 
 
+def opened_blossoms(standing):
+    """A sentence for each blossom that was opened."""
+    return [f'Node {n.number} was a blossom and has been opened.' for n in standing.nodes if n.removed]
+
+
 def flow(picture, y, items, widths, draw):
     """Items beside each other, in lines. Where they end."""
     x = 14
@@ -109,7 +114,7 @@ def key(picture, y, measured, notes):
     scale = measured or 'Each edge has its own scale: thick part to length is growth to weight' + (
         '; ticks are units.' if picture.ticks else '.'
     )
-    notes = [scale] + inner_blossoms(picture.standing) + notes
+    notes = [scale] + inner_blossoms(picture.standing) + opened_blossoms(picture.standing) + notes
     if picture.dropped:
         notes.append(f'{picture.dropped} labels had no room.')
     for note in notes:

@@ -85,12 +85,13 @@ def touching(module, item, said):
 
 
 class Made:
-    """The answers by number; by how much each `advance` moved; where each conflict is; the module as the last call
-    left it.
+    """The answers by number; by how much each `advance` moved; where each conflict is; which nodes each opening made
+    outermost again; the module as the last call left it.
     """
 
     def __init__(self, script, watch=None, book=None, kind=DualModule):
         self.answers, self.moved, self.meets, self.module, self.book = {}, {}, {}, None, book
+        self.outermost = {}
         calls = script.calls()
         self.module = opened(script.graph, kind)
         if isinstance(self.module, int):
@@ -111,11 +112,15 @@ class Made:
         module, block = self.module, self.module.block
         node = item.fields[0] if item.word == 'advance' and 0 <= item.fields[0] < block.count() else None
         before = block.dual(node) if node is not None else 0
+        if item.word == 'open-blossom':
+            members = [n for n in range(block.count()) if block.node(n).parent == item.fields[0]]
         if self.book is not None:
             self.book.before(module, item)
         said = self.answers[item.number] = answer(module, item)
         if self.book is not None:
             self.book.after(item, said)
+        if item.word == 'open-blossom' and said == ['done']:
+            self.outermost[item.number] = members
         if node is not None and said == ['done']:
             self.moved[item.number] = block.dual(node) - before
         if said and said[0].startswith('conflict') and int(said[0].split()[3]) == item.fields[0]:

@@ -45,11 +45,11 @@ def defects_in(standing, n):
 
 
 def outlines(scene, standing):
-    """Each blossom's colour and path, the outer ones first.
+    """Each blossom's colour and path, the outer ones first. One that was opened has none.
 
     In each panel the places that its defects stand at, and those it holds if it is outermost.
     """
-    blossoms = [n for n in standing.nodes if n.vertex is None]
+    blossoms = [n for n in standing.nodes if n.vertex is None and not n.removed]
     for b in sorted(blossoms, key=lambda n: -depth(standing, n.number)):
         top = b.number
         while standing.nodes[top].parent is not None:

@@ -31,6 +31,12 @@ def moved(run, item):
     return f'grew by {by}' if by > 0 else f'shrank by {-by}' if by < 0 else 'did not move'
 
 
+def opened(run, item):
+    """Which nodes an opening made outermost again."""
+    members = run.made.outermost.get(item.number, [])
+    return f"nodes {', '.join(map(str, members))} are outermost again"
+
+
 def edge(run, name, x):
     if x[0] >= len(run.graph.edges):
         return ''
@@ -66,4 +72,6 @@ def words(run, item, answer):
         return 'an ill-formed record: ' + item.reason if item.reason else sentence(x[0])
     if name in ('edge', 'contact'):
         return edge(run, name, x)
-    return moved(run, item) if name == 'done' else ''
+    if name == 'done':
+        return opened(run, item) if item.word == 'open-blossom' else moved(run, item)
+    return ''

@@ -25,8 +25,8 @@ class Standing(NamedTuple):
         return [n.number for n in self.nodes if n.parent == blossom]
 
     def outermost(self) -> List[int]:
-        """The clusters: nodes that lie in no blossom."""
-        return [n.number for n in self.nodes if n.parent is None]
+        """The clusters: nodes that lie in no blossom, without those that were opened."""
+        return [n.number for n in self.nodes if n.parent is None and not n.removed]
 
 
 def of_module(module):

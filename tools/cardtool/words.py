@@ -49,6 +49,7 @@ CALLS = {
     'advance': Word(('node',), 11, 'advance'),
     'contacts': Word((), 12, 'contacts'),
     'clear': Word((), 13, 'clear'),
+    'open-blossom': Word(('node',), None, 'remove_blossom'),
     'representative': Word(('node',), None, 'representative_vertex'),
     'renew': Word((), None, 'renew_active_list'),
     'prepare_all': Word((), None, 'prepare_all'),

@@ -30,16 +30,15 @@ use store::insert;
 
 // ---- what refuses it
 
-// Whether some number of the circle is no node.
+// Whether some number of the circle is no node, or a removed one.
 fn any_bad(b: &[i64], circle: &[i64]) -> bool
     requires { ⌜ Formed (now b) ⌝ }
     ensures { λ r. ⌜ r ≡ any (badNode (stateOf (now (b .entry)))) (map toNat (now (circle .entry))) ⌝ }
 {
-    let c = rows::node_count(b);
     let mut i = 0;
     while i < circle.len() {
         let m = words::word(circle, i);
-        if c <= m {
+        if refuse::bad_node(b, m) {
             return true;
         } else {
             i += 1;

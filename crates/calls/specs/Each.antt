@@ -5,7 +5,7 @@ use mathlib.Core.List.{List, [], _∷_}
 use lib.IntN.{ℤ, pos, negsuc, negℤ}
 use lib.Dec.{ltb, eqb}
 use Rattle.graph.specs.Basic.{if_then_else_, only, below}
-use Rattle.graph.specs.State.{State, defectVertex, blossom, edgeCount, growthAt, weightAt, classOf, growStateOf, withGrowState, stay, growing, shrinking, down, up}
+use Rattle.graph.specs.State.{State, defectVertex, blossom, removed, edgeCount, growthAt, weightAt, classOf, growStateOf, withGrowState, stay, growing, shrinking, down, up}
 use Rattle.graph.specs.Open.{cleared}
 use Rattle.graph.specs.Active.{activated}
 use Rattle.length.specs.declared.Answer.{Answer}
@@ -97,7 +97,7 @@ contacts c = only (λ e. eqb (growthAt c (2 * e) + growthAt c (2 * e + 1)) (weig
 -- down the first members from node n, at most `fuel` nodes
 unfoldable pub representativeBy : ℕ → State → ℕ → ℕ
 representativeBy zero c n = 0
-representativeBy (suc fuel) c n = elim (classOf c n) [ defectVertex v ↦ v | blossom m ↦ representativeBy fuel c m ]
+representativeBy (suc fuel) c n = elim (classOf c n) [ defectVertex v ↦ v | blossom m ↦ representativeBy fuel c m | removed ↦ 0 ]
 
 -- a member is numbered below its blossom, so n + 1 nodes are enough from node n
 unfoldable pub representativeVertexOf : State → ℕ → ℕ

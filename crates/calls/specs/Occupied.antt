@@ -1,4 +1,5 @@
--- The test for refusal 5, as it is made: the vertex first, then its sides by rising edge, up to the first held one.
+-- The test for refusal 5, as it is made (SPECIFICATION 19): the vertex first, then its sides by rising edge, up to the
+-- first held one.
 use Prim.Native.Nat.{ℕ, suc, _<_}
 use mathlib.Core.Path.{_≡_}
 use mathlib.Core.Bool.{Bool, true, false, not, _||_}

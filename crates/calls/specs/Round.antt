@@ -8,7 +8,7 @@ use lib.Dec.{leb, eqb}
 use lib.ListN.{length}
 use Rattle.graph.specs.Basic.{if_then_else_, fold, all, only}
 use Rattle.graph.specs.State.{State, growStateOf, growing, shrinking, down, up}
-use Rattle.graph.specs.Sound.{sound}
+use Rattle.graph.specs.Sound.{stateSound}
 use Rattle.graph.specs.Active.{renewed, activeIn}
 use Rattle.length.specs.declared.Answer.{Answer}
 use Rattle.length.specs.declared.Answer.the-variants.{NonZeroGrow, Unlimited, Conflicting, TouchingVirtual, BlossomNeedExpand, VertexShrinkStop, VertexShrinkStopPeer, Done, Node, Prepared, Refused, Vertex}
@@ -64,7 +64,7 @@ noneOf (n ∷ ns) = false
 
 -- before the first of the nodes ns grows: where nodes ms have moved the state is tested again
 unfoldable pub soundAgain : List ℕ → List ℕ → Tried → Tried
-soundAgain ms ns t = if noneOf ms || noneOf ns || not (eqb (t .refusal) 0) || sound (t .state) then t else record { refusal = 2; state = t .state }
+soundAgain ms ns t = if noneOf ms || noneOf ns || not (eqb (t .refusal) 0) || stateSound (t .state) then t else record { refusal = 2; state = t .state }
 
 -- a trial from the renewed list: f on each Shrink node, then g on each Grow node
 unfoldable pub inTurn : (State → ℕ → Reply) → (State → ℕ → Reply) → State → Tried

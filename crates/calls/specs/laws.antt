@@ -6,6 +6,8 @@ pub mod Defect
 pub mod Read
 pub mod Readable
 pub mod Refuse
+pub mod Remove
+pub mod RemoveCall
 pub mod Replies
 pub mod Shapes
 pub mod Sounds

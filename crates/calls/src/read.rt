@@ -69,7 +69,10 @@ pub fn get_representative_vertex(b: &[i64], n: usize) -> usize
     let v = rows::vertex_count(b);
     let x = node::class(b, n);
     if x < v {
-        x
+        return x;
+    }
+    if node::is_removed(b, n) {
+        0
     } else {
         get_representative_vertex(b, x - v)
     }

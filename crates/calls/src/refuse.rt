@@ -9,10 +9,22 @@ ghost use Rattle.graph.specs.State.{vertexCount, sideCount, nodeCount};
 ghost use Rattle.graph.specs.Sound.{entriesOf};
 ghost use Rattle.graph.specs.Layout.{stateOf};
 ghost use Rattle.graph.specs.Form.{Formed};
-ghost use Rattle.calls.specs.Refuse.{inBlossom, storeShort, nodeRefusal};
+ghost use Rattle.calls.specs.Refuse.{badNode, inBlossom, storeShort, nodeRefusal};
 use graph::lists;
 use graph::node;
 use graph::rows;
+
+// Whether n is no node, or a removed one.
+pub fn bad_node(b: &[i64], n: usize) -> bool
+    requires { ⌜ Formed (now b) ⌝ }
+    ensures { λ r. ⌜ r ≡ badNode (stateOf (now (b .entry))) n ⌝ }
+{
+    if rows::node_count(b) <= n {
+        true
+    } else {
+        node::is_removed(b, n)
+    }
+}
 
 // Whether node n lies in a blossom.
 pub fn in_blossom(b: &[i64], n: usize) -> bool
@@ -64,7 +76,7 @@ pub fn node_refusal(b: &[i64], n: usize, wrong: bool, prepares: bool) -> usize
     requires { ⌜ Formed (now b) ⌝ }
     ensures { λ r. ⌜ r ≡ nodeRefusal (stateOf (now (b .entry))) n wrong (prepares && storeShort (stateOf (now (b .entry))) (n ∷ []) 1) ⌝ }
 {
-    if (rows::node_count(b) <= n) | wrong {
+    if bad_node(b, n) | wrong {
         return 3;
     }
     if in_blossom(b, n) {

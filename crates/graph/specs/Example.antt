@@ -7,7 +7,7 @@ use lib.ListN.{set}
 use Rattle.graph.specs.Basic
 use Rattle.graph.specs.State.{State, defectVertex}
 use Rattle.graph.specs.Open.{sizesOk, sidesOf}
-use Rattle.graph.specs.Sound.{nodeOrNone, isDefect, storedDefect, edgeSound, vertexSound, sideSound, classSound, parentSound, overSound, ownLists, nodeSound, entriesOf, entries, activeSound, sound}
+use Rattle.graph.specs.Sound.{nodeOrNone, isDefect, storedDefect, edgeSound, vertexSound, sideSound, classSound, parentSound, overSound, ownLists, nodeSound, entriesOf, entries, activeSound, sound, isRemoved, liveOrNone, firstLive, emptied, nodeLive, soundRemoved, stateSound}
 use Rattle.graph.specs.Word.{toNat, wordAt}
 use Rattle.graph.specs.Rows.{rows}
 use Rattle.graph.specs.Layout.{rowsOf, classFrom, stretches, overgrownFrom, stackFrom, boundaries, stacks, stateFrom, stateOf, sized, risingTo, fitsAt, packedFrom, packed, blockSound}
@@ -39,15 +39,20 @@ unfolding sized sizesOk wordAt toNat
 is-sized = refl
 
 pub is-sound : blockSound block ≡ true
-unfolding blockSound packed packedFrom fitsAt risingTo stateOf stateFrom rowsOf rows wordAt toNat classFrom stretches overgrownFrom stackFrom boundaries stacks sound activeSound entries entriesOf nodeSound ownLists overSound parentSound classSound sideSound vertexSound edgeSound storedDefect isDefect nodeOrNone sidesOf Basic.fold Basic.all Basic.any Basic.only Basic.member Basic.below Basic.distinct Basic.same Basic.allBelow Basic.sumBelow
+unfolding blockSound packed packedFrom fitsAt risingTo stateOf stateFrom rowsOf rows wordAt toNat classFrom stretches overgrownFrom stackFrom boundaries stacks stateSound soundRemoved nodeLive isRemoved liveOrNone firstLive emptied sound activeSound entries entriesOf nodeSound ownLists overSound parentSound classSound sideSound vertexSound edgeSound storedDefect isDefect nodeOrNone sidesOf Basic.fold Basic.all Basic.any Basic.only Basic.member Basic.below Basic.distinct Basic.same Basic.allBelow Basic.sumBelow
 is-sound = refl
 
 -- a negative growth is out of range
 pub negative-growth : blockSound (set block 26 (negsuc 0)) ≡ false
-unfolding blockSound packed packedFrom fitsAt risingTo stateOf stateFrom rowsOf rows wordAt toNat classFrom stretches overgrownFrom stackFrom boundaries stacks sound activeSound entries entriesOf nodeSound ownLists overSound parentSound classSound sideSound vertexSound edgeSound storedDefect isDefect nodeOrNone sidesOf Basic.fold Basic.all Basic.any Basic.only Basic.member Basic.below Basic.distinct Basic.same Basic.allBelow Basic.sumBelow
+unfolding blockSound packed packedFrom fitsAt risingTo stateOf stateFrom rowsOf rows wordAt toNat classFrom stretches overgrownFrom stackFrom boundaries stacks stateSound soundRemoved nodeLive isRemoved liveOrNone firstLive emptied sound activeSound entries entriesOf nodeSound ownLists overSound parentSound classSound sideSound vertexSound edgeSound storedDefect isDefect nodeOrNone sidesOf Basic.fold Basic.all Basic.any Basic.only Basic.member Basic.below Basic.distinct Basic.same Basic.allBelow Basic.sumBelow
 negative-growth = refl
 
 -- a side twice in the boundary of an outermost node
 pub side-twice : blockSound (set (set (set block 45 (pos 2)) 47 (pos 0)) 50 (pos 0)) ≡ false
-unfolding blockSound packed packedFrom fitsAt risingTo stateOf stateFrom rowsOf rows wordAt toNat classFrom stretches overgrownFrom stackFrom boundaries stacks sound activeSound entries entriesOf nodeSound ownLists overSound parentSound classSound sideSound vertexSound edgeSound storedDefect isDefect nodeOrNone sidesOf Basic.fold Basic.all Basic.any Basic.only Basic.member Basic.below Basic.distinct Basic.same Basic.allBelow Basic.sumBelow
+unfolding blockSound packed packedFrom fitsAt risingTo stateOf stateFrom rowsOf rows wordAt toNat classFrom stretches overgrownFrom stackFrom boundaries stacks stateSound soundRemoved nodeLive isRemoved liveOrNone firstLive emptied sound activeSound entries entriesOf nodeSound ownLists overSound parentSound classSound sideSound vertexSound edgeSound storedDefect isDefect nodeOrNone sidesOf Basic.fold Basic.all Basic.any Basic.only Basic.member Basic.below Basic.distinct Basic.same Basic.allBelow Basic.sumBelow
 side-twice = refl
+
+-- the node removed, and still holding
+pub removed-holds : blockSound (set block 35 (pos 1026)) ≡ false
+unfolding blockSound packed packedFrom fitsAt risingTo stateOf stateFrom rowsOf rows wordAt toNat classFrom stretches overgrownFrom stackFrom boundaries stacks stateSound soundRemoved nodeLive isRemoved liveOrNone firstLive emptied sound activeSound entries entriesOf nodeSound ownLists overSound parentSound classSound sideSound vertexSound edgeSound storedDefect isDefect nodeOrNone sidesOf Basic.fold Basic.all Basic.any Basic.only Basic.member Basic.below Basic.distinct Basic.same Basic.allBelow Basic.sumBelow
+removed-holds = refl

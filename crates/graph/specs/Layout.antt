@@ -10,9 +10,9 @@ use lib.IntN.{ℤ}
 use lib.Dec.{ltb, leb, eqb}
 use lib.ListN.{length, getD, take, drop}
 use Rattle.graph.specs.Basic.{if_then_else_, allBelow}
-use Rattle.graph.specs.State.{State, Overgrown, NodeClass, defectVertex, blossom}
+use Rattle.graph.specs.State.{State, Overgrown, NodeClass, defectVertex, blossom, removed, removedPlace}
 use Rattle.graph.specs.Open.{sizesOk}
-use Rattle.graph.specs.Sound.{sound}
+use Rattle.graph.specs.Sound.{stateSound}
 use Rattle.graph.specs.Word.{toNat, wordAt}
 use Rattle.graph.specs.Rows.{rows}
 
@@ -59,9 +59,9 @@ row r k = getD r k []
 
 -- ---- the state
 
--- a class word: a defect's vertex, or V + the first member of a blossom
+-- a class word: a defect's vertex, V + the first member of a blossom, or V + 1024 for a removed one
 unfoldable pub classFrom : ℕ → ℕ → NodeClass
-classFrom v x = if ltb x v then defectVertex x else blossom (x - v)
+classFrom v x = if ltb x v then defectVertex x else if eqb x (v + removedPlace) then removed else blossom (x - v)
 
 -- the stretches of a list that begin at the given places, each up to the next: the sides at vertex v stand from first(v) to first(v + 1)
 unfoldable pub stretches : List ℕ → List ℕ → List (List ℕ)
@@ -140,7 +140,9 @@ packed b =
 
 -- 2 unless: no more nodes and active nodes than N, the stretches of the lists in order, and the state that they give sound
 unfoldable pub blockSound : List ℤ → Bool
-blockSound b = leb (countOf b) (nOf b) && leb (activeCountOf b) (nOf b) && packed b && risingTo (row (rowsOf b) 4) (2 * eOf b) && sound (stateOf b)
+blockSound b =
+    leb (countOf b) (nOf b) && leb (activeCountOf b) (nOf b) && packed b && risingTo (row (rowsOf b) 4) (2 * eOf b)
+    && stateSound (stateOf b)
 
 -- ---- what every call but open asks of lent memory
 

@@ -6,7 +6,7 @@ use mathlib.Core.List.{List, [], _∷_}
 use lib.Dec.{eqb}
 use lib.ListN.{length}
 use Rattle.graph.specs.Basic.{if_then_else_}
-use Rattle.graph.specs.State.{State, NodeClass, defectVertex, blossom, Overgrown, up, vertexCount, classOf, growStateOf, parentOf, dualOf, overgrownOf}
+use Rattle.graph.specs.State.{State, NodeClass, defectVertex, blossom, removed, removedPlace, Overgrown, up, vertexCount, classOf, growStateOf, parentOf, dualOf, overgrownOf}
 use Rattle.graph.specs.declared.dual_node.DualNode.{DualNode}
 
 -- x moved by l, up or down
@@ -30,10 +30,11 @@ unfoldable pub grownNode : ℕ → ℕ → DualNode → DualNode
 grownNode d l x =
     record { class = x .class; state = x .state; parent = x .parent; dual = moved d l (x .dual); overgrown = x .overgrown; top = movedTop d l (x .overgrown) (x .top) }
 
--- what a node stands for, as a number: a defect's vertex, or V + the first member of a blossom
+-- what a node stands for, as a class word
 unfoldable pub classNumber : ℕ → NodeClass → ℕ
 classNumber v (defectVertex x) = x
 classNumber v (blossom m) = v + m
+classNumber v removed = v + removedPlace
 
 unfoldable pub topAmount : List Overgrown → ℕ
 topAmount [] = 0

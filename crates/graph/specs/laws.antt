@@ -1,5 +1,6 @@
 -- Laws about the definitions of `graph`.
 pub mod Active
+pub mod Class
 pub mod Count
 pub mod Cut
 pub mod Field
@@ -11,6 +12,7 @@ pub mod Members
 pub mod Number
 pub mod Opened
 pub mod Place
+pub mod Removed
 pub mod Row
 pub mod Scan
 pub mod Shape

@@ -2,17 +2,40 @@
 
 ghost use mathlib.Core.Path.{_≡_};
 ghost use Prim.Native.Nat.{_<_};
-ghost use Rattle.graph.specs.State.{vertexCount, nodeCount, classOf, growStateOf, parentOf, dualOf, withGrowState, withParent, withDual};
+ghost use Rattle.graph.specs.State.{vertexCount, nodeCount, classOf, growStateOf, parentOf, dualOf, withClass, withGrowState, withParent, withDual, removed};
 ghost use Rattle.graph.specs.Layout.{stateOf, classFrom};
-ghost use Rattle.graph.specs.Form.{Formed, Becomes};
+ghost use Rattle.graph.specs.Sound.{isRemoved};
+ghost use Rattle.graph.specs.Form.{Laid, Formed, Becomes};
 use crate::rows;
 
-// What node n stands for: a defect's vertex, or V + the first member of a blossom.
+// V + this is the class word of a removed blossom: no node has that number.
+pub const REMOVED: usize = 1024;
+
+// What node n stands for: a defect's vertex, V + the first member of a blossom, or V + REMOVED.
 pub fn class(b: &[i64], n: usize) -> usize
     requires { ⌜ Formed (now b) × (n < nodeCount (stateOf (now b))) ⌝ }
     ensures { λ r. ⌜ (classFrom (vertexCount (stateOf (now (b .entry)))) r ≡ classOf (stateOf (now (b .entry))) n) × (r < 9223372036854775808) ⌝ }
 {
     rows::node_word(b, 0, n)
+}
+
+// Whether node n is a removed blossom.
+pub fn is_removed(b: &[i64], n: usize) -> bool
+    requires { ⌜ Laid (now b) × (n < nodeCount (stateOf (now b))) ⌝ }
+    ensures { λ r. ⌜ r ≡ isRemoved (classOf (stateOf (now (b .entry))) n) ⌝ }
+{
+    let v = rows::vertex_count(b);
+    let x = rows::node_word(b, 0, n);
+    x == v + REMOVED
+}
+
+// Node n becomes a removed blossom.
+pub fn set_removed(b: &mut [i64], n: usize)
+    requires { ⌜ Formed (now b) × (n < nodeCount (stateOf (now b))) ⌝ }
+    ensures { λ r. ⌜ Becomes (now (b .entry)) (now (b .exit)) (withClass (stateOf (now (b .entry))) n removed) ⌝ }
+{
+    let v = rows::vertex_count(b);
+    rows::put_node(b, 0, n, v + REMOVED);
 }
 
 // The grow state of node n: 0 Stay, 1 Grow, 2 Shrink.

@@ -10,7 +10,6 @@ use calls::core;
 use calls::defect;
 use calls::read;
 use calls::refuse;
-use graph::rows;
 use graph::words;
 use length::Answer;
 use pass::scratch;
@@ -168,7 +167,7 @@ pub fn representative_vertex(b: &[i64], t: &[i64], n: usize) -> Answer
     if k != 0 {
         return Answer::Refused(k);
     }
-    if rows::node_count(b) <= n {
+    if calls::refuse::bad_node(b, n) {
         return Answer::Refused(3);
     }
     Answer::Vertex(read::get_representative_vertex(b, n))

@@ -217,6 +217,51 @@ fn actives() {
     active(b"a free word of the active list negative", 1, 0, -1);
 }
 
+// The block with a second node that is removed, and with word i set to x and word j to y.
+fn removed(name: &[u8], i: usize, x: i64, j: usize, y: i64)
+    requires { ⌜ (i < 55) × (j < 55) ⌝ }
+{
+    let mut b = sample();
+    b[4] = 2;
+    b[36] = 1026;
+    b[44] = 2;
+    b[i] = x;
+    b[j] = y;
+    let t = [0i64; 6];
+    tell(name, sound::refuse::refusal(&b, &t));
+}
+
+fn removals() {
+    removed(b"a removed node", 6, 0, 6, 0);
+    removed(b"a removed node in the active list", 5, 2, 54, 1);
+    removed(b"a removed node with a list", 46, 1, 51, 1);
+    removed(b"a removed node in Grow", 38, 1, 6, 0);
+    removed(b"a vertex that a removed node holds", 19, 2, 6, 0);
+    removed(b"a side that a removed node holds", 29, 2, 31, 1);
+    removed(b"a node that lies in a removed one", 39, 2, 6, 0);
+}
+
+// The block with nothing held and nothing listed.
+fn unheld() -> [i64; 55] {
+    let mut b = sample();
+    b[18] = 0;
+    b[28] = 0;
+    b[37] = 0;
+    b[45] = 0;
+    b[47] = 0;
+    b
+}
+
+// The same with node 0 of class x, and a blossom with node 0 as first member.
+fn first_member(name: &[u8], x: i64) {
+    let mut b = unheld();
+    b[4] = 2;
+    b[35] = x;
+    b[36] = 2;
+    let t = [0i64; 6];
+    tell(name, sound::refuse::refusal(&b, &t));
+}
+
 // How many words of b are not those of the sound block.
 fn changes(b: &[i64]) -> usize
     requires { ⌜ length (now b) ≡ 55 ⌝ }
@@ -282,5 +327,8 @@ fn main() {
     stacks();
     pair(b"a side twice in a list", 0, 0);
     actives();
+    removals();
+    first_member(b"a blossom whose first member is a defect", 0);
+    first_member(b"a blossom whose first member is removed", 1026);
     openings();
 }

@@ -5,7 +5,7 @@ use mathlib.Core.List.{List, [], _∷_}
 use lib.IntN.{pos, negsuc}
 use Rattle.graph.specs.State.{State, blossom, classOf, dualOf, nodeCount}
 use Rattle.graph.specs.Open.{Edge, opened, openRefusal}
-use Rattle.graph.specs.Sound.{sound}
+use Rattle.graph.specs.Sound.{stateSound}
 use Rattle.calls.specs.Opens.{everything}
 use Rattle.calls.specs.Calls.{Call, InsertDefect, InsertBlossom, SetGrowState, Prepare, MaxUpdateLength, Grow, Advance}
 use Rattle.reachable.specs.Reachable.{after, Reachable}
@@ -31,7 +31,7 @@ unfolding reached
 is-reached = record { vertices = 5; edgeNumber = 5; nodes = 8; store = 200; edges = edges; virtuals = []; fits = true; accepted-opening = accepted; calls = calls; is = refl }
 
 -- the theorem at work
-pub example-sound : sound reached ≡ true
+pub example-sound : stateSound reached ≡ true
 example-sound = reachable-sound reached is-reached
 
 -- the blossom was accepted as node 3, grew by 2 and shrank by 1
@@ -40,6 +40,6 @@ unfolding everything reached after edges calls
 example-blossom = (refl, refl, refl)
 
 -- and by computation
-pub example-computed : sound reached ≡ true
+pub example-computed : stateSound reached ≡ true
 unfolding everything reached after edges calls
 example-computed = refl

@@ -2,31 +2,39 @@
 use Prim.Native.Nat.{ℕ, suc, _+_, _≤_, _<_}
 use mathlib.Core.Path.{_≡_, _∙_}
 use mathlib.Core.Logic.{_≢_, _⊎_}
-use mathlib.Core.Bool.{Bool, true}
+use mathlib.Core.Bool.{Bool, true, false}
 use mathlib.Core.List.{List, [], _∷_}
 use lib.IntN.{ℤ, pos}
 use lib.ListN.{length}
 use Rattle.graph.specs.Basic.{member, distinct}
-use Rattle.graph.specs.State.{State, opposite, vertexCount, sideCount, nodeCount, endAt, sidesAt, growthAt, holderAt, vertexHolderAt, defectAt, virtualAt, parentOf, growStateOf, boundaryOf, overgrownOf, grownOver, weightOver, stay, down}
+use Rattle.graph.specs.State.{State, removed, opposite, vertexCount, sideCount, nodeCount, endAt, sidesAt, growthAt, holderAt, vertexHolderAt, defectAt, virtualAt, parentOf, classOf, growStateOf, dualOf, boundaryOf, overgrownOf, grownOver, weightOver, stay, down}
 use Rattle.graph.specs.Open.{Edge, opened, openRefusal}
-use Rattle.graph.specs.Sound.{entries, sound}
+use Rattle.graph.specs.Sound.{entries, sound, stateSound}
 use Rattle.graph.specs.laws.Shape.{Shape, sound-entries, sound-active}
 use Rattle.graph.specs.laws.Active.{active-once}
 use Rattle.pass.specs.Prepare.{prepareNode}
-use Rattle.length.specs.declared.Answer.the-variants.{Refused}
+use Rattle.length.specs.declared.Answer.the-variants.{Done, Refused}
+use Rattle.length.specs.Answer.{says}
+use Rattle.length.specs.laws.Long.{longAs}
 use Rattle.calls.specs.Insert.{occupied, defectRefusal}
 use Rattle.calls.specs.Occupied.{vertexDecides, sidesRead}
 use Rattle.calls.specs.Theorems.{none-read, all-read}
 use Rattle.calls.specs.laws.Occupied.{accepted-vacant, refused-occupied}
-use Rattle.calls.specs.Calls.{Call, maxUpdateLength, advance}
+use Rattle.calls.specs.Calls.{Call, maxUpdateLength, advance, response, respond}
 use Rattle.calls.specs.Round.{prepareAll, round, groupLength}
 use Rattle.calls.specs.declared.group.GroupMaxUpdateLength.the-variants.{NonZeroGrow as groupFree, Refused as groupRefused}
-use Rattle.length.specs.laws.Long.{longAs}
+use Rattle.calls.specs.Remove.{isBlossom, removeRefusal, removeBlossom}
+use Rattle.calls.specs.laws.RemoveCall.{remove-keeps}
+use Rattle.reachable.specs.laws.state.Live.{invariant-sound}
+use Rattle.reachable.specs.laws.remove.Answer.{opening-member, opening-removed, opening-done, opening-back, opening-refused-15}
+use Rattle.reachable.specs.laws.remove.Named.{named-refused}
+use Rattle.reachable.specs.laws.remove.Stays.{stays-removed}
 use Rattle.reachable.specs.Reachable.{after, Reachable}
 use Rattle.reachable.specs.Passes.{Ends}
+use Rattle.reachable.specs.Opening.{logOf, MemberOutermost, NumberRemoved, GivesBack, names, isClear}
 use Rattle.reachable.specs.Invariant.{BoundaryHeld}
 use Rattle.reachable.specs.laws.prepare.Ends.{prepare-ends, prepare-passes}
-use Rattle.reachable.specs.laws.Calls.{opened-invariant, after-invariant, reachable-invariant}
+use Rattle.reachable.specs.laws.past.Calls.{opened-past, after-past, reachable-past, reachable-invariant}
 use Rattle.reachable.specs.laws.Length.{length-refusal, advance-refusal, not-thirteen}
 use Rattle.reachable.specs.laws.Active.{active-outer}
 use Rattle.reachable.specs.laws.GroupAnswer.{group-refused-nine, group-positive}
@@ -36,13 +44,18 @@ use Rattle.reachable.specs.laws.Occupied.{decides-alone}
 
 -- ---- soundness
 
--- whatever calls follow an accepted opening, the state that they reach is sound
-pub reachable-sound : (c : State) → Reachable c → sound c ≡ true
-reachable-sound c r = reachable-invariant c r .sounds
+-- whatever calls follow an accepted opening, the state that they reach is sound: every stored number in range, nothing held or listed by a
+-- node that was removed
+pub reachable-sound : (c : State) → Reachable c → stateSound c ≡ true
+reachable-sound c r = invariant-sound (reachable-invariant c r)
 
--- the same of an accepted opening and a list of calls: any graph and weights, 0 among them; any calls, blossoms and refused ones among them
-pub calls-sound : (v e n l : ℕ) (edges : List Edge) (virtuals : List ℕ) (fits : Bool) → openRefusal v e n l edges virtuals fits ≡ 0 → (ks : List Call) → sound (after (opened v n l edges virtuals) ks) ≡ true
-calls-sound v e n l edges virtuals fits h ks = after-invariant (opened v n l edges virtuals) (opened-invariant v e n l edges virtuals fits h) ks .sounds
+-- the same of an accepted opening and a list of calls: any graph and weights, 0 among them; any calls, blossoms, their openings and refused
+-- calls among them
+pub calls-sound : (v e n l : ℕ) (edges : List Edge) (virtuals : List ℕ) (fits : Bool) → openRefusal v e n l edges virtuals fits ≡ 0
+    → (ks : List Call) → stateSound (after (opened v n l edges virtuals) ks) ≡ true
+calls-sound v e n l edges virtuals fits h ks =
+    invariant-sound
+    (after-past (opened v n l edges virtuals) (opened-past {log = λ i. opened v n l edges virtuals} v e n l edges virtuals fits h) ks .invariant)
 
 -- ---- preparation, on every sound state
 
@@ -55,7 +68,41 @@ preparation-ends = prepare-ends
 pub preparation-passes : (c : State) (n d : ℕ) → prepareNode c n d .passes ≤ vertexCount c + 1
 preparation-passes = prepare-passes
 
+-- ---- opening a blossom
+
+-- on every state: opening, refused or not, leaves the growth of every side
+pub opening-growth : (c : State) (n : ℕ) → removeBlossom c n .state .sides .growth ≡ c .sides .growth
+opening-growth c n = remove-keeps c n .growth
+
+-- on every state: a call that names a removed node is refused 3 and changes nothing
+pub removed-refused-3 : (c : State) (n : ℕ) → classOf c n ≡ removed → (k : Call) → names n k ≡ true → respond c k ≡ response (says (Refused 3) c)
+removed-refused-3 = named-refused
+
 module _ (c : State) (r : Reachable c) where
+  -- what is not refused before the preparation is opened
+  pub opening-accepted : (n : ℕ) → removeRefusal c n ≡ 0 → removeBlossom c n .answer ≡ Done
+  opening-accepted = opening-done c (reachable-past c r)
+
+  -- then its members are outermost, each with its list, which it holds
+  pub opening-members : (n : ℕ) → removeRefusal c n ≡ 0 → (m : ℕ) → parentOf c m ≡ n + 1 → MemberOutermost c (removeBlossom c n .state) m
+  opening-members = opening-member c (reachable-past c r)
+
+  -- its number still counts, names nothing and has no lists
+  pub opening-removes : (n : ℕ) → removeRefusal c n ≡ 0 → NumberRemoved c (removeBlossom c n .state) n
+  opening-removes = opening-removed c (reachable-past c r)
+
+  -- and every call but a clear leaves it so
+  pub removed-stays : (n : ℕ) (k : Call) → isClear k ≡ false → classOf c n ≡ removed → classOf (respond c k .state) n ≡ removed
+  removed-stays n = stays-removed n c (reachable-past c r)
+
+  -- then every node in it holds and lists what it did when the circle was joined (claim R)
+  pub opening-gives-back : (n : ℕ) → removeRefusal c n ≡ 0 → GivesBack (logOf c r n) c n (removeBlossom c n .state)
+  opening-gives-back = opening-back c (reachable-past c r)
+
+  -- so 15 says that the node is no blossom or its dual variable is above 0
+  pub opening-refused : (n : ℕ) → removeBlossom c n .answer ≡ Refused 15 → (isBlossom (classOf c n) ≡ false) ⊎ (dualOf c n ≢ 0)
+  opening-refused = opening-refused-15 c (reachable-past c r)
+
   -- ---- lists
 
   -- refusal 9 counts 2E + V entries for a node: the lists of every node, in a blossom or not, have at most 2E and V
@@ -64,7 +111,7 @@ module _ (c : State) (r : Reachable c) where
 
   -- all lists together are within L
   pub entries-within : entries c ≤ c .storeLimit
-  entries-within = sound-entries c (reachable-sound c r)
+  entries-within = sound-entries c (reachable-invariant c r .sounds)
 
   -- ---- edges and sides
 
@@ -131,7 +178,7 @@ module _ (c : State) (r : Reachable c) where
   active-listed n b ne = (reachable-invariant c r .active-all n b ne, active-outer c (reachable-invariant c r) n b ne)
 
   pub active-distinct : distinct (c .active) ≡ true
-  active-distinct = active-once c (sound-active c (reachable-sound c r))
+  active-distinct = active-once c (sound-active c (reachable-invariant c r .sounds))
 
   -- a preparation of all is refused 9 only: never 2 or 6
   pub prepare-all-refused-only-9 : (k : ℕ) → prepareAll c .answer ≡ Refused k → k ≡ 9

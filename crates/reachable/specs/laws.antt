@@ -15,10 +15,15 @@ pub mod prepare
 pub mod Growth
 -- a defect and a blossom inserted
 pub mod insert
--- every call; so every reachable state
+-- every call that opens no blossom
 pub mod Calls
--- what follows
+-- a trial over the active nodes
 pub mod Round
+pub mod TrialSteps
+-- what a state keeps of the past; a blossom opened; so every call, and every reachable state
+pub mod past
+pub mod remove
+-- what follows
 pub mod Relied
 pub mod Group
 pub mod Asked

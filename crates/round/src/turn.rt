@@ -6,7 +6,7 @@ ghost use Prim.Native.Nat.{_≤_, _<_};
 ghost use lib.ListN.{length};
 ghost use Rattle.graph.specs.State.{shrinking};
 ghost use Rattle.graph.specs.Active.{activeIn};
-ghost use Rattle.graph.specs.Sound.{activeSound, sound};
+ghost use Rattle.graph.specs.Sound.{activeSound, stateSound};
 ghost use Rattle.graph.specs.Layout.{stateOf};
 ghost use Rattle.graph.specs.Form.{Formed};
 ghost use Rattle.calls.specs.Calls.{toward};
@@ -104,7 +104,7 @@ fn none_in(b: &[i64], x: usize) -> bool
 // Whether Grow nodes may follow: after Shrink nodes the block is tested again.
 fn may_grow(b: &[i64]) -> bool
     requires { ⌜ Formed (now b) × (activeSound (stateOf (now b)) ≡ true) ⌝ }
-    ensures { λ r. ⌜ r ≡ noneOf (activeIn (stateOf (now (b .entry))) shrinking) || sound (stateOf (now (b .entry))) ⌝ }
+    ensures { λ r. ⌜ r ≡ noneOf (activeIn (stateOf (now (b .entry))) shrinking) || stateSound (stateOf (now (b .entry))) ⌝ }
 {
     if none_in(b, 2) {
         return true;

@@ -3,4 +3,5 @@ pub mod Active
 pub mod Block
 pub mod Memory
 pub mod Pack
+pub mod Removed
 pub mod Whole

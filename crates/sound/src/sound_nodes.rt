@@ -10,18 +10,26 @@ ghost use Rattle.graph.specs.Form.{Laid, Listed};
 ghost use Rattle.graph.specs.Scans.{nodeNumbers, Stamps};
 use crate::sound_lists;
 use graph::dual_node::DualNode;
+use graph::node;
 use graph::rows;
 
 // ---- the numbers
 
-// Whether the class of node n is a vertex, or a blossom whose first member is a node below n.
+// Whether the class of node n is a vertex, a removed blossom, or one whose first member is a node below n.
 fn class_sound(b: &[i64], n: usize) -> bool
     requires { ⌜ Laid (now b) × (n < nodeCount (stateOf (now b))) ⌝ }
     ensures { λ r. ⌜ r ≡ classSound (stateOf (now (b .entry))) n (classOf (stateOf (now (b .entry))) n) ⌝ }
 {
     let v = rows::vertex_count(b);
     let x = rows::node_word(b, 0, n);
-    if x < v { true } else { x - v < n }
+    if x < v {
+        return true;
+    }
+    if x == v + node::REMOVED {
+        true
+    } else {
+        x - v < n
+    }
 }
 
 // Whether the parent of node n is none, or a node above n.

@@ -9,7 +9,7 @@ use lib.ListN.{getD, set}
 use Rattle.graph.specs.Basic.{if_then_else_, below}
 use Rattle.graph.specs.State.{State, stay, growing, shrinking}
 use Rattle.calls.specs.Insert.{insertDefect, insertBlossom}
-use Rattle.calls.specs.Calls.{setGrowState, maxUpdateLength, growDualNode, signedFor, toward, advance, clear, Call, InsertDefect, InsertBlossom, SetGrowState, Prepare, MaxUpdateLength, Grow, ReadTable, Advance, Contacts, RepresentativeVertex, Clear, RenewActiveList, PrepareAll, GroupLength, Round, respond}
+use Rattle.calls.specs.Calls.{setGrowState, maxUpdateLength, growDualNode, signedFor, toward, advance, clear, Call, InsertDefect, InsertBlossom, SetGrowState, Prepare, MaxUpdateLength, Grow, ReadTable, Advance, Contacts, RepresentativeVertex, Clear, RenewActiveList, PrepareAll, GroupLength, Round, RemoveBlossom, respond}
 use Rattle.graph.specs.Active.{renewed, activeIn}
 use Rattle.calls.specs.Round.{round}
 use Rattle.table.specs.Answers.{accepted, isDone, limitOf}
@@ -76,6 +76,7 @@ recorded c h (RepresentativeVertex n) = h
 recorded c h RenewActiveList = h
 recorded c h PrepareAll = h
 recorded c h GroupLength = h
+recorded c h (RemoveBlossom n) = h
 
 -- ---- a list of calls
 
@@ -105,6 +106,7 @@ noBlossom c RenewActiveList = true
 noBlossom c PrepareAll = true
 noBlossom c GroupLength = true
 noBlossom c (Round l) = true
+noBlossom c (RemoveBlossom n) = true
 
 -- no blossom is accepted along the list
 unfoldable pub noBlossoms : State → List Call → Bool

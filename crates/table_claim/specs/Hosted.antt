@@ -20,7 +20,8 @@ use Rattle.table_claim.specs.Lent.{Returned, opening, returns, returnsLi
 use Rattle.table_claim.specs.Lent.{lentSheet, openingSheet}
 use Rattle.host_sheet.specs.Told.{sheetNumbers, SheetTold}
 use Rattle.host_round.specs.Told.{groupNumbers, RenewTold, PrepareAllTold, RoundTold, GroupTold}
-use Rattle.table_claim.specs.Lent.{lentRenew, lentPrepareAll, lentGroup, lentRound, returnsGroup}
+use Rattle.host_remove.specs.Told.{RemoveTold}
+use Rattle.table_claim.specs.Lent.{lentRenew, lentPrepareAll, lentGroup, lentRound, lentRemove, returnsGroup}
 use Rattle.table_claim.specs.Run.{Sizes, fedOne, fed, returned}
 
 -- the list says done: it has room for an answer, and in front the number of that case, 7
@@ -77,6 +78,8 @@ pub data HostStep (b : List ℤ) : LentCall → List ℕ → Reported → List �
       → HostStep b (lentPrepareAll s t) list (record { told = list'; count = k; words = [] }) b'
   fb-grow-all : {s t b' s' t' : List ℤ} {l : ℤ} {k : ℕ} {list list' : List ℕ} → RoundTold b s t l b' s' t' list list' k
       → HostStep b (lentRound s t l) list (record { told = list'; count = k; words = [] }) b'
+  fb-remove-blossom : {t b' t' : List ℤ} {n k : ℕ} {list list' : List ℕ} → RemoveTold b t n b' t' list list' k
+      → HostStep b (lentRemove t n) list (record { told = list'; count = k; words = [] }) b'
   -- the entries are numbers, told as words
   fb-group-max-update-length : {s t b' s' t' : List ℤ} {entries entries' : List ℕ} {k : ℕ} {list list' : List ℕ} → GroupTold b s t entries b' s' t' entries' list list' k
       → HostStep b (lentGroup s t entries) list (record { told = list'; count = k; words = map pos entries' }) b'
@@ -141,6 +144,7 @@ lentWords lentRenew = []
 lentWords (lentPrepareAll s t) = []
 lentWords (lentGroup s t entries) = map pos entries
 lentWords (lentRound s t l) = []
+lentWords (lentRemove t n) = []
 
 -- what the host has after a call in state c: the answer of the definitions, or what a list without room for it is told
 unfoldable pub reported : Sizes → State → LentCall → List ℕ → Reported

@@ -15,6 +15,7 @@ use Rattle.sheet.specs.declared.SheetOpened.the-variants.{Opened, Refused}
 use Rattle.sheet.specs.Called.{SheetCalled}
 use Rattle.calls.specs.declared.group.GroupMaxUpdateLength.{GroupMaxUpdateLength}
 use Rattle.lent_round.specs.Called.{RenewCalled, PrepareAllCalled, RoundCalled, GroupCalled}
+use Rattle.lent_remove.specs.Called.{RemoveCalled}
 
 -- a call with all that it is given beside the block: the scratch t first, numbers, and the words of other lent lists
 pub data LentCall : Type 0 where
@@ -35,6 +36,7 @@ pub data LentCall : Type 0 where
   lentPrepareAll : (second t : List ℤ) → LentCall
   lentGroup : (second t : List ℤ) (entries : List ℕ) → LentCall
   lentRound : (second t : List ℤ) (by : ℤ) → LentCall
+  lentRemove : (t : List ℤ) (node : ℕ) → LentCall
 
 -- what the host gets from a call
 pub data Returned : Type 0 where
@@ -72,6 +74,7 @@ pub data Step (b : List ℤ) : LentCall → Returned → List ℤ → Type 0 whe
   group-length : {s t b' s' t' : List ℤ} {entries entries' : List ℕ} {g : GroupMaxUpdateLength} → GroupCalled b s t entries b' s' t' entries' g
       → Step b (lentGroup s t entries) (returnsGroup g entries') b'
   round : {s t b' s' t' : List ℤ} {l : ℤ} {a : Answer} → RoundCalled b s t l b' s' t' a → Step b (lentRound s t l) (returns a) b'
+  remove-blossom : {t b' t' : List ℤ} {n : ℕ} {a : Answer} → RemoveCalled b t n b' t' a → Step b (lentRemove t n) (returns a) b'
 
 -- ---- lists of calls
 

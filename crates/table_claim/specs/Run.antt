@@ -28,11 +28,12 @@ use Rattle.sheet.specs.declared.SheetOpened.the-variants.{Opened, Refused as Sh
 use Rattle.sheet.specs.Sheet.{valuesFrom}
 use Rattle.sheet.specs.Called.{sheetRefusal, sheetAnswer, sheetEdges}
 use Rattle.calls.specs.declared.group.GroupMaxUpdateLength.the-variants.{Refused as groupRefused}
-use Rattle.calls.specs.Calls.{RenewActiveList, PrepareAll, GroupLength, Round}
+use Rattle.calls.specs.Calls.{RenewActiveList, PrepareAll, GroupLength, Round, RemoveBlossom}
+use Rattle.calls.specs.Remove.{removeBlossom}
 use Rattle.calls.specs.Round.{renewActiveList, prepareAll, groupLength, round}
 use Rattle.round.specs.Asked.{listedFrom}
 use Rattle.table.specs.History.{withRound}
-use Rattle.table_claim.specs.Lent.{lentRenew, lentPrepareAll, lentGroup, lentRound, returnsGroup}
+use Rattle.table_claim.specs.Lent.{lentRenew, lentPrepareAll, lentGroup, lentRound, lentRemove, returnsGroup}
 
 -- ---- lengths
 
@@ -84,6 +85,7 @@ fedOne z lentRenew = RenewActiveList ∷ []
 fedOne z (lentPrepareAll s t) = ifFits (trialFits z s t) PrepareAll
 fedOne z (lentGroup s t entries) = ifFits (groupFits z s t entries) GroupLength
 fedOne z (lentRound s t l) = ifFits (trialFits z s t) (Round l)
+fedOne z (lentRemove t n) = ifFits (scratchFits z t) (RemoveBlossom n)
 
 unfoldable pub fed : Sizes → List LentCall → List Call
 fed z [] = []
@@ -126,6 +128,7 @@ returned z c (lentGroup s t entries) =
     returnsGroup (if groupFits z s t entries then groupLength c .group else groupRefused 1)
     (if groupFits z s t entries then listedFrom 0 (groupLength c .listed) entries else entries)
 returned z c (lentRound s t l) = returns (orRefused (trialFits z s t) (round c l .answer))
+returned z c (lentRemove t n) = returns (orRefused (scratchFits z t) (removeBlossom c n .answer))
 
 -- of each call in turn, from state c on
 unfoldable pub returnedFrom : Sizes → State → List LentCall → List Returned
@@ -163,6 +166,7 @@ recordedBy c h (lentSheet t v e n l edges sheet virtuals) a = h
 recordedBy c h lentRenew a = h
 recordedBy c h (lentPrepareAll s t) a = h
 recordedBy c h (lentGroup s t entries) a = h
+recordedBy c h (lentRemove t n) a = h
 recordedBy c h (lentRound s t l) a = if isDone a then map (withRound l) h else h
 
 -- line by line, from state c and history h on

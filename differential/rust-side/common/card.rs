@@ -31,8 +31,11 @@ use Answer::*;
 pub struct Card {
     pub(super) sz: Sizes,
     pub(super) module: DualModuleSerial,
-    interface: DualModuleInterfacePtr,
+    pub(super) interface: DualModuleInterfacePtr,
     pub(super) nodes: Vec<DualNodePtr>,
+    /// what the module keeps of each node, and whether it has dropped it: a blossom that was opened
+    pub(super) internals: Vec<DualNodeInternalWeak>,
+    pub(super) removed: Vec<bool>,
     /// a pass of the last call took off an overgrown vertex with an edge of weight 0, and the Rust called for no other
     pub mended: bool,
 }
@@ -117,11 +120,16 @@ impl Card {
             }
             module.edge_num = edges.len();
         }
-        Card { sz, module, interface: DualModuleInterfacePtr::new_empty(), nodes: vec![], mended: false }
+        let interface = DualModuleInterfacePtr::new_empty();
+        Card { sz, module, interface, nodes: vec![], internals: vec![], removed: vec![], mended: false }
     }
 
     fn node(&self, n: i32) -> Option<DualNodePtr> {
-        usize::try_from(n).ok().and_then(|n| self.nodes.get(n)).cloned()
+        usize::try_from(n).ok().filter(|&n| n < self.nodes.len() && !self.removed[n]).map(|n| self.nodes[n].clone())
+    }
+    /// The nodes that were not removed.
+    pub(super) fn live(&self) -> impl Iterator<Item = &DualNodePtr> + '_ {
+        self.nodes.iter().zip(&self.removed).filter(|x| !x.1).map(|x| x.0)
     }
     fn inner(&self, p: &DualNodePtr) -> bool {
         p.read_recursive().parent_blossom.is_some()
@@ -144,7 +152,7 @@ impl Card {
 
     /// prepare_dual_node_growth with its passes counted; with `mend`, a pass that takes off an overgrown vertex with an edge of
     /// weight 0 calls for another.
-    fn prepare(&mut self, p: &DualNodePtr, grow: bool, mend: bool) -> usize {
+    pub(super) fn prepare(&mut self, p: &DualNodePtr, grow: bool, mend: bool) -> usize {
         let mut passes = 0;
         loop {
             let zero = mend && !grow && self.pops_zero(p);
@@ -160,6 +168,8 @@ impl Card {
 
     fn insert(&mut self, p: DualNodePtr, state: DualNodeGrowState) -> Answer {
         self.nodes.push(p.clone());
+        self.internals.push(self.module.get_dual_node_internal_ptr(&p).downgrade());
+        self.removed.push(false);
         self.interface.set_grow_state(&p, state, &mut self.module);
         let n = p.read_recursive().index;
         Node(n)
@@ -181,13 +191,16 @@ impl Card {
     fn contacts(&self) -> Answer {
         Contacts(self.growths().enumerate().filter(|(_, g)| g.0 + g.1 == g.2).map(|(e, _)| e).collect())
     }
-    pub fn representatives(&self) -> Vec<usize> {
-        self.nodes.iter().map(|p| p.get_representative_vertex()).collect()
+    /// The representative vertex of every node; none of one that was removed.
+    pub fn representatives(&self) -> Vec<Option<usize>> {
+        self.nodes.iter().zip(&self.removed).map(|(p, gone)| (!gone).then(|| p.get_representative_vertex())).collect()
     }
     fn clear(&mut self) -> Answer {
         self.module.clear();
         self.interface.clear();
         self.nodes.clear();
+        self.internals.clear();
+        self.removed.clear();
         Done
     }
 
@@ -195,7 +208,7 @@ impl Card {
 
     fn store_short(&self, named: &[DualNodePtr], c: usize) -> bool {
         let mut used = 0;
-        for p in self.nodes.iter().filter(|p| !named.contains(p)) {
+        for p in self.live().filter(|p| !named.contains(p)) {
             let i = self.module.get_dual_node_internal_ptr(p);
             let i = i.read_recursive();
             used += i.boundary.len() + i.overgrown_stack.len();
@@ -243,7 +256,7 @@ impl Card {
         more.then_some(12)
     }
 
-    fn node_refused(&self, n: i32, listed: bool, prepares: bool) -> Result<DualNodePtr, Answer> {
+    pub(super) fn node_refused(&self, n: i32, listed: bool, prepares: bool) -> Result<DualNodePtr, Answer> {
         let p = self.node(n).filter(|_| listed).ok_or(Refused(3))?;
         if self.inner(&p) {
             return Err(Refused(6));
@@ -292,7 +305,8 @@ impl Card {
                     return Err(Refused(6));
                 }
                 // the Rust has no limit: 63 is the port's own
-                if circle.len() < 3 || circle.len() > 63 || circle.len() % 2 == 0 || (1..circle.len()).any(|i| circle[..i].contains(&circle[i])) {
+                let repeats = || (1..circle.len()).any(|i| circle[..i].contains(&circle[i]));
+                if circle.len() < 3 || circle.len() > 63 || circle.len() % 2 == 0 || repeats() {
                     return Err(Refused(7));
                 }
                 if self.nodes.len() >= self.sz.n {

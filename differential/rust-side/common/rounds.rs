@@ -39,22 +39,25 @@ fn told(g: GroupMaxUpdateLength) -> Group {
 impl Card {
     /// Whether a shrinking node could take off an overgrown vertex with an edge of weight 0, where the port mends the pass.
     fn may_mend(&self) -> bool {
-        self.nodes.iter().filter(|p| p.read_recursive().grow_state == DualNodeGrowState::Shrink).any(|p| {
-            let i = self.module.get_dual_node_internal_ptr(p);
-            let i = i.read_recursive();
-            i.overgrown_stack.iter().any(|(v, _)| {
-                let v = v.upgrade_force();
-                let v = v.read_recursive_force();
-                let zero = v.edges.iter().any(|e| e.upgrade_force().read_recursive_force().weight == 0);
-                zero
-            })
+        self.live().filter(|p| p.read_recursive().grow_state == DualNodeGrowState::Shrink).any(|p| self.overgrows_zero(p))
+    }
+
+    /// Whether a vertex on the overgrown stack of a node has an edge of weight 0.
+    pub(super) fn overgrows_zero(&self, p: &DualNodePtr) -> bool {
+        let i = self.module.get_dual_node_internal_ptr(p);
+        let i = i.read_recursive();
+        i.overgrown_stack.iter().any(|(v, _)| {
+            let v = v.upgrade_force();
+            let v = v.read_recursive_force();
+            let zero = v.edges.iter().any(|e| e.upgrade_force().read_recursive_force().weight == 0);
+            zero
         })
     }
 }
 
 impl Session {
     /// A call on the Rust's module, or nothing where it stops.
-    fn on_module<T>(&mut self, f: impl FnOnce(&mut Card) -> T) -> Option<T> {
+    pub(super) fn on_module<T>(&mut self, f: impl FnOnce(&mut Card) -> T) -> Option<T> {
         let card = self.card.as_mut().unwrap();
         let done = catch_unwind(AssertUnwindSafe(|| f(card))).ok();
         super::notes();

@@ -230,7 +230,7 @@ impl Session {
     }
 
     /// The representative vertex of every node.
-    pub fn representatives(&self) -> Vec<usize> {
+    pub fn representatives(&self) -> Vec<Option<usize>> {
         self.card.as_ref().map_or(vec![], Card::representatives)
     }
 

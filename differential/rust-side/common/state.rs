@@ -7,12 +7,23 @@ fn number(p: &DualNodePtr) -> i64 {
     p.read_recursive().index as i64
 }
 
-/// The node behind a pointer, as its number + 1, or 0.
-fn stored(p: &Option<DualNodeInternalWeak>) -> i64 {
-    p.as_ref().map_or(0, |p| number(&p.upgrade_force().read_recursive().origin.upgrade_force()) + 1)
-}
+/// The class word of a blossom that was opened is V + this.
+const REMOVED: i64 = 1024;
 
 impl Card {
+    /// The node behind a pointer of the module; of one that was removed, by the pointer itself.
+    fn number_of(&self, p: &DualNodeInternalWeak) -> i64 {
+        match p.upgrade() {
+            Some(i) => number(&i.read_recursive().origin.upgrade_force()),
+            None => self.internals.iter().position(|x| x == p).map_or(-1, |n| n as i64),
+        }
+    }
+
+    /// The node behind a pointer, as its number + 1, or 0.
+    fn stored(&self, p: &Option<DualNodeInternalWeak>) -> i64 {
+        p.as_ref().map_or(0, |p| self.number_of(p) + 1)
+    }
+
     /// Flags, holders, grandsons, and the sides of each vertex in the Rust's order.
     fn vertex_rows(&self) -> [Vec<i64>; 5] {
         let [mut flags, mut holder, mut grandson, mut first, mut at] = [const { vec![] }; 5];
@@ -20,8 +31,8 @@ impl Card {
             let v = p.read_recursive_force();
             let fresh = v.timestamp == self.module.active_timestamp;
             flags.push(i64::from(v.is_virtual) + 2 * i64::from(fresh && v.is_defect));
-            holder.push(if fresh { stored(&v.propagated_dual_node) } else { 0 });
-            grandson.push(if fresh { stored(&v.propagated_grandson_dual_node) } else { 0 });
+            holder.push(if fresh { self.stored(&v.propagated_dual_node) } else { 0 });
+            grandson.push(if fresh { self.stored(&v.propagated_grandson_dual_node) } else { 0 });
             first.push(at.len() as i64);
             for e in &v.edges {
                 let e = e.upgrade_force();
@@ -42,8 +53,8 @@ impl Card {
                 end.push(v.upgrade_force().read_recursive_force().vertex_index as i64);
             }
             growth.extend([e.left_growth, e.right_growth].map(|g| fresh * g as i64));
-            holder.extend([&e.left_dual_node, &e.right_dual_node].map(|n| fresh * stored(n)));
-            grandson.extend([&e.left_grandson_dual_node, &e.right_grandson_dual_node].map(|n| fresh * stored(n)));
+            holder.extend([&e.left_dual_node, &e.right_dual_node].map(|n| fresh * self.stored(n)));
+            grandson.extend([&e.left_grandson_dual_node, &e.right_grandson_dual_node].map(|n| fresh * self.stored(n)));
             weight.push(e.weight as i64);
         }
         [end, growth, holder, grandson, weight]
@@ -52,7 +63,14 @@ impl Card {
     /// Class, grow state, parent, dual variable and lists of every node.
     fn node_rows(&self) -> [Vec<i64>; 8] {
         let mut rows = [const { vec![] }; 8];
-        for p in &self.nodes {
+        for (p, &removed) in self.nodes.iter().zip(&self.removed) {
+            if removed {
+                let start = rows[7].len() as i64;
+                for (row, x) in rows.iter_mut().zip([self.sz.v as i64 + REMOVED, 0, 0, 0, start, 0, 0]) {
+                    row.push(x);
+                }
+                continue;
+            }
             let internal = self.module.get_dual_node_internal_ptr(p);
             let i = internal.read_recursive();
             let n = p.read_recursive();
@@ -86,7 +104,7 @@ impl Card {
     fn active_row(&self) -> Vec<i64> {
         let mut row = vec![];
         for p in &self.module.active_list {
-            let n = number(&p.upgrade_force().read_recursive().origin.upgrade_force());
+            let n = self.number_of(p);
             if !row.contains(&n) {
                 row.push(n);
             }

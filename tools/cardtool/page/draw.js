@@ -162,7 +162,7 @@ function drawNests() {
       [standing.nodes[n][0]] :
       standing.nodes.flatMap((row, m) => row && row[3] === n + 1 ? inside(m) : []);
   const deep = n => Math.max(0, ...standing.nodes.map((row, m) => row && row[3] === n + 1 ? 1 + deep(m) : 0));
-  const list = standing.nodes.map((row, n) => row && row[0] === null ? n : -1)
+  const list = standing.nodes.map((row, n) => row && row[0] === null && !opened(row) ? n : -1)
                    .filter(n => n >= 0)
                    .sort((a, b) => deep(b) - deep(a));
   for (const n of list) {

@@ -25,6 +25,8 @@ function changes(k) {
           .map(
               ([n, old]) =>
                   `node ${n}: dual variable ${old ? old[4] : 'new,'} ${old ? '→ ' : ''}${standing.nodes[n][4]}`);
+  for (const [n, old] of step.nodes)
+    if (old && standing.nodes[n] && opened(standing.nodes[n]) && !opened(old)) words.push(`node ${n}: opened`);
   for (const [s, old] of step.growth) words.push(`${sideName(s)}: ${old} → ${standing.growth[s]}`);
   return { words, edges: [...new Set(step.growth.map(([s]) => s >> 1))] };
 }
@@ -56,14 +58,14 @@ function showNodes() {
     const [vertex, first, state, parent, dual] = row, tr = document.createElement('tr');
     const swatch = tr.appendChild(document.createElement('td')).appendChild(document.createElement('span'));
     swatch.className = 'swatch';
-    swatch.style.background = colour(n + 1);
+    swatch.style.background = opened(row) ? 'none' : colour(n + 1);
     const members =
         vertex === null ? standing.nodes.map((r, m) => r && r[3] === n + 1 ? m : -1).filter(m => m >= 0) : [];
     text(tr, n, 'td');
-    text(tr, vertex !== null ? `defect ${vertex}` : `nodes ${members.join(', ')}`, 'td');
-    text(tr, parent ? `in node ${parent - 1}` : STATES[state], 'td');
+    text(tr, vertex !== null ? `defect ${vertex}` : opened(row) ? 'opened' : `nodes ${members.join(', ')}`, 'td');
+    text(tr, parent ? `in node ${parent - 1}` : opened(row) ? '' : STATES[state], 'td');
     text(tr, dual, 'td').className = 'number';
-    tr.className = parent ? 'inner' : '';
+    tr.className = parent || opened(row) ? 'inner' : '';
     if (vertex !== null)
       tr.onclick = () => {
         chooseVertex(vertex);

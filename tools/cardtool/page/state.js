@@ -5,7 +5,7 @@ const run = JSON.parse(document.getElementById('run').textContent);
 const STATES = ['stay', 'grow', 'shrink'];
 
 // growth and holder (a node + 1, or 0) of each side, holder of each vertex, and the nodes as [vertex, first member,
-// state, parent + 1, dual]
+// state, parent + 1, dual]; an opened blossom has neither vertex nor first member
 const standing = {
   at: 0,
   growth: new Array(2 * run.edges.length).fill(0),
@@ -66,5 +66,7 @@ function duals() {
   });
   return out;
 }
+
+const opened = row => row[0] === null && row[1] === null;
 
 const blossoms = () => standing.nodes.some(row => row && row[0] === null);

@@ -15,6 +15,7 @@ use Rattle.graph.specs.State.{State, blossom, vertexCount, sideCount, nodeCount
 use Rattle.graph.specs.Sound.{entriesOf, entries}
 use Rattle.graph.specs.Word.{numbersAt}
 use Rattle.graph.specs.Layout.{stateOf, classFrom}
+use Rattle.graph.specs.laws.Class.{class-blossom}
 use Rattle.graph.specs.Form.{Formed, Becomes, sidesOk}
 use Rattle.graph.specs.Insert.{Inserted}
 use Rattle.graph.specs.laws.State.{if-both, fold-more, fold-done, fold-keeps, holder-same, holder-other}
@@ -358,10 +359,6 @@ circle-joined {b₀} {b} {b'} {t'} {n} {k} t circle e q x =
 
 -- ---- the node
 
-class-blossom : (v m : ℕ) → classFrom v (v + m) ≡ blossom m
-unfolding classFrom
-class-blossom v m = let z : v + m - v ≡ m = omega arith in rw (le-ltb (v + m) v (omega arith), z)
-
 module _ {b t : List ℤ} (u : Usable b t) (x k : ℕ) (circle : List ℕ) (e : k ≡ blossomRefusal (stateOf b) x circle) where
   pub blossom-refused : k ≢ 0 → RepliesInsert b b (Refused k) (insertBlossom (stateOf b) x circle)
   unfolding insertBlossom unless says
@@ -398,7 +395,8 @@ module _ {b t : List ℤ} (u : Usable b t) (x k : ℕ) (circle : List ℕ) (e : 
       unfolding insertBlossom unless blossomPut
       blossom-done {b₄} {b₅} class ec r a =
           let j : Joining = joinCircle (stateOf b) circle in
-          let y : classFrom (vertexCount (stateOf b₃)) class ≡ blossom (getD circle 0 0) = rw ec (class-blossom (vertexCount (stateOf b₃)) (getD circle 0 0)) in
+          let y : classFrom (vertexCount (stateOf b₃)) class ≡ blossom (getD circle 0 0) =
+          rw ec (class-blossom (vertexCount (stateOf b₃)) (getD circle 0 0) (λ q. omega (arith, q, blossom-first))) in
           let w : numbersAt t₃ 0 l ≡ j .sides = rw (p .count) (first-numbers (p .holding)) in
           let z : withNode (stateOf b₃) (classFrom (vertexCount (stateOf b₃)) class) x (numbersAt t₃ 0 l) ≡ withNode (j .state) (blossom (getD circle 0 0)) x (j .sides) = rw (y, w, p .block .state) in
           rw (← e, eq-eqb k 0 h) (inserted-joined (p .block) r a en z)

@@ -21,7 +21,8 @@ use Rattle.graph.specs.Scans.{onceAll}
 use Rattle.graph.specs.laws.Form.{laid-shape, formed-vertices}
 use Rattle.graph.specs.laws.Used.{entries-within}
 use Rattle.graph.specs.laws.Members.{by-test, or-neither-right, all-from, member-at, member-head, member-tail, distinct-head, distinct-tail, distinct-length}
-use Rattle.graph.specs.laws.Stamp.{Stamped, stamped-none, stamped-more, stamped-fails, stamped-all}
+use Rattle.graph.specs.laws.Stamp.{stamped-none, stamped-more, stamped-fails, stamped-all}
+use Rattle.graph.specs.Scans.{Stamped}
 use Rattle.graph.specs.laws.Opened.{getD-zeros}
 use Rattle.pass.specs.Ready.{Shrinkable}
 use Rattle.pass.specs.laws.Ready.{sound-shrinkable}
@@ -29,6 +30,7 @@ use Rattle.calls.specs.Refuse.{badNode, inBlossom, entriesUnless, entriesBut, s
 use Rattle.calls.specs.Insert.{noCircle, blossomRefusal}
 use Rattle.blossom.specs.Circle.{Joinable}
 use Rattle.calls.specs.Reply.{Usable}
+use Rattle.calls.specs.laws.Refuse.{good-inside}
 use Rattle.calls.specs.laws.Accepted.{BlossomAccepted, store-room, entries-named, entries-none}
 use Rattle.graph.specs.laws.Members.{none-member}
 use Rattle.graph.specs.laws.List.{store-max}
@@ -36,20 +38,9 @@ use Rattle.graph.specs.laws.Number.{word-entry}
 
 -- ---- its members are nodes
 
--- the test of a number, from the count that was read
-module _ (c : State) {k m : ℕ} (e : k ≡ nodeCount c) where
-  pub bad-yes : k ≤ m → badNode c m ≡ true
-  unfolding badNode
-  bad-yes h = le-leb (nodeCount c) m (omega (arith, e, h))
-
-  pub bad-no : m < k → badNode c m ≡ false
-  unfolding badNode
-  bad-no h = lt-leb (nodeCount c) m (omega (arith, e, h))
-
 module _ (c : State) (ms : List ℕ) (h : any (badNode c) ms ≡ false) where
   pub all-nodes : (m : ℕ) → member m ms ≡ true → m < nodeCount c
-  unfolding badNode
-  all-nodes m k = leb-false _ _ (none-member (badNode c) ms m h k)
+  all-nodes m k = good-inside c m (none-member (badNode c) ms m h k)
 
   pub nodes-small : nodeCount c ≤ 1024 → all (λ m. ltb m 1024) ms ≡ true
   nodes-small k = all-from (λ m. ltb m 1024) ms (λ m i. lt-ltb m 1024 (omega (arith, all-nodes m i)))

@@ -6,12 +6,14 @@ use mathlib.Core.Bool.{Bool, true, false, _||_}
 use mathlib.Core.List.{List, [], _∷_}
 use lib.IntN.{ℤ}
 use lib.Dec.{leb, ltb}
+use borrow.Author.Tests.{le-leb, lt-leb, leb-false}
 use Rattle.graph.specs.Basic.{any, member}
-use Rattle.graph.specs.State.{State, sideCount, vertexCount, nodeCount}
-use Rattle.graph.specs.Sound.{entriesOf, entries}
+use Rattle.graph.specs.State.{State, sideCount, vertexCount, nodeCount, classOf}
+use Rattle.graph.specs.Sound.{entriesOf, entries, isRemoved}
 use Rattle.graph.specs.Layout.{stateOf}
 use Rattle.graph.specs.Form.{Laid}
 use Rattle.calls.specs.Refuse.{badNode, inBlossom, entriesBut, storeShort, nodeRefusal}
+use Rattle.graph.specs.laws.Members.{or-neither-left}
 use Rattle.calls.specs.laws.Accepted.{entries-named, entries-none}
 
 -- the entries of one node are some of all
@@ -28,19 +30,31 @@ short-new c u e = rw (e, ← entries-none c)
 
 -- ---- the refusal of a call on a node
 
+pub bad-outside : (c : State) (n : ℕ) → nodeCount c ≤ n → true ≡ badNode c n
+unfolding badNode
+bad-outside c n h = rw (le-leb (nodeCount c) n h)
+
+pub bad-removed : (c : State) (n : ℕ) → n < nodeCount c → isRemoved (classOf c n) ≡ badNode c n
+unfolding badNode
+bad-removed c n h = rw (lt-leb (nodeCount c) n h)
+
+pub good-inside : (c : State) (n : ℕ) → badNode c n ≡ false → n < nodeCount c
+unfolding badNode
+good-inside c n h = leb-false _ _ (or-neither-left (leb (nodeCount c) n) (isRemoved (classOf c n)) h)
+
 module _ (c : State) (n : ℕ) (wrong short : Bool) where
-  pub refuses-number : leb (nodeCount c) n || wrong ≡ true → 3 ≡ nodeRefusal c n wrong short
-  unfolding nodeRefusal badNode
+  pub refuses-number : badNode c n || wrong ≡ true → 3 ≡ nodeRefusal c n wrong short
+  unfolding nodeRefusal
   refuses-number e = rw e
 
-  pub refuses-inner : leb (nodeCount c) n || wrong ≡ false → inBlossom c n ≡ true → 6 ≡ nodeRefusal c n wrong short
-  unfolding nodeRefusal badNode
+  pub refuses-inner : badNode c n || wrong ≡ false → inBlossom c n ≡ true → 6 ≡ nodeRefusal c n wrong short
+  unfolding nodeRefusal
   refuses-inner e i = rw (e, i)
 
-  pub refuses-store : leb (nodeCount c) n || wrong ≡ false → inBlossom c n ≡ false → short ≡ true → 9 ≡ nodeRefusal c n wrong short
-  unfolding nodeRefusal badNode
+  pub refuses-store : badNode c n || wrong ≡ false → inBlossom c n ≡ false → short ≡ true → 9 ≡ nodeRefusal c n wrong short
+  unfolding nodeRefusal
   refuses-store e i s = rw (e, i, s)
 
-  pub refuses-not : leb (nodeCount c) n || wrong ≡ false → inBlossom c n ≡ false → short ≡ false → 0 ≡ nodeRefusal c n wrong short
-  unfolding nodeRefusal badNode
+  pub refuses-not : badNode c n || wrong ≡ false → inBlossom c n ≡ false → short ≡ false → 0 ≡ nodeRefusal c n wrong short
+  unfolding nodeRefusal
   refuses-not e i s = rw (e, i, s)

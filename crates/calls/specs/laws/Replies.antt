@@ -139,7 +139,7 @@ module _ {b : List ℤ} (f : Formed b) (n d k : ℕ) (first : Bool) (e : k ≡ n
   length-accepted h = node-accepted (stateOf b) n (ltb up d) (first && storeShort (stateOf b) (n ∷ []) 1) (sym e ∙ h)
 
   pub length-first : first ≡ true → k ≡ 0 → NodeAccepted (stateOf b) n (ltb up d) (storeShort (stateOf b) (n ∷ []) 1)
-  length-first g h = let a = length-accepted h in record { inside = a .inside; right = a .right; outer = a .outer; room = rw g at (a .room) }
+  length-first g h = let a = length-accepted h in record { inside = a .inside; live = a .live; right = a .right; outer = a .outer; room = rw g at (a .room) }
 
   -- as it is
   pub length-plain : {a : Answer} → first ≡ false → k ≡ 0 → a ≡ scan (stateOf b) n d → Replies b b a (maxUpdateLength (stateOf b) n d first)

@@ -8,7 +8,7 @@ use lib.Dec.{eqb}
 use borrow.Author.Tests.{eqb-true, eqb-false}
 use Rattle.graph.specs.Basic.{fold, member}
 use Rattle.graph.specs.State.{State, growing, shrinking}
-use Rattle.graph.specs.Sound.{sound}
+use Rattle.graph.specs.Sound.{stateSound}
 use Rattle.graph.specs.Active.{renewed, activeIn}
 use Rattle.graph.specs.laws.State.{if-both, fold-keeps, fold-keeps-on}
 use Rattle.graph.specs.laws.Members.{by-test, or-right, all-from}
@@ -33,7 +33,7 @@ module _ (P : State → Type 0) where
 
   pub again-keeps : (ms ns : List ℕ) (t : Tried) → Holds t → Holds (soundAgain ms ns t)
   unfolding soundAgain
-  again-keeps ms ns t h = if-both Holds (noneOf ms || noneOf ns || not (eqb (t .refusal) 0) || sound (t .state)) h h
+  again-keeps ms ns t h = if-both Holds (noneOf ms || noneOf ns || not (eqb (t .refusal) 0) || stateSound (t .state)) h h
 
   pub turn-keeps : (f g : State → ℕ → Reply) → CallKeeps f → CallKeeps g → (c : State) → P (renewed c) → Holds (inTurn f g c)
   unfolding inTurn
@@ -80,15 +80,16 @@ module _ (f : State → ℕ → Reply) where
 pub again-accepted : (ms ns : List ℕ) (t : Tried) → soundAgain ms ns t .refusal ≡ 0 → soundAgain ms ns t ≡ t
 unfolding soundAgain
 again-accepted ms ns t h =
-    by-test (noneOf ms || noneOf ns || not (eqb (t .refusal) 0) || sound (t .state))
+    by-test (noneOf ms || noneOf ns || not (eqb (t .refusal) 0) || stateSound (t .state))
     (λ e. rw e refl)
     (λ e. let z : _≡_ {A = ℕ} 2 0 = rw e at h in absurd (omega arith))
 
 -- where the state is sound the second test changes nothing
-pub again-sound : (ms ns : List ℕ) (t : Tried) → sound (t .state) ≡ true → soundAgain ms ns t ≡ t
+pub again-sound : (ms ns : List ℕ) (t : Tried) → stateSound (t .state) ≡ true → soundAgain ms ns t ≡ t
 unfolding soundAgain
 again-sound ms ns t h =
-    let e : (noneOf ms || noneOf ns || not (eqb (t .refusal) 0) || sound (t .state)) ≡ true = or-right (noneOf ms || noneOf ns || not (eqb (t .refusal) 0)) (sound (t .state)) h in
+    let e : (noneOf ms || noneOf ns || not (eqb (t .refusal) 0) || stateSound (t .state)) ≡ true =
+    or-right (noneOf ms || noneOf ns || not (eqb (t .refusal) 0)) (stateSound (t .state)) h in
     rw e refl
 
 -- both parts of an accepted trial from the renewed state r
@@ -124,7 +125,7 @@ try-among Q R f t ns k q r =
     (λ u n m h. if-both (λ (v : Tried). Q (v .state) × R (v .refusal)) (eqb (u .refusal) 0) (k (u .state) n m (h .0)) h)
     t ns (all-from (λ n. member n ns) ns (λ n m. m)) (q, r)
 
-pub turn-among : (Q : State → Type 0) (R : ℕ → Type 0) (f g : State → ℕ → Reply) (c : State) → ((d : State) → Q d → sound d ≡ true)
+pub turn-among : (Q : State → Type 0) (R : ℕ → Type 0) (f g : State → ℕ → Reply) (c : State) → ((d : State) → Q d → stateSound d ≡ true)
     → ((d : State) (n : ℕ) → member n (activeIn (renewed c) shrinking) ≡ true → Q d → Q (f d n .state) × R (refusalOf (f d n .answer)))
     → ((d : State) (n : ℕ) → member n (activeIn (renewed c) growing) ≡ true → Q d → Q (g d n .state) × R (refusalOf (g d n .answer)))
     → Q (renewed c) → R 0 → Q (inTurn f g c .state) × R (inTurn f g c .refusal)

@@ -8,7 +8,7 @@ use mathlib.Core.List.{List, [], _∷_}
 use lib.Dec.{eqb, leb, ltb}
 use borrow.Author.Tests.{eqb-true, eqb-false, eq-eqb, ne-eqb, lt-ltb, ltb-true, not-true}
 use Rattle.graph.specs.Basic.{if_then_else_, all, only, member, distinct, allBelow}
-use Rattle.graph.specs.State.{State, NodeClass, defectVertex, blossom, classOf, vertexCount, edgeCount, sideCount, nodeCount, growStateOf, withActive, stay}
+use Rattle.graph.specs.State.{State, NodeClass, defectVertex, blossom, removed, classOf, vertexCount, edgeCount, sideCount, nodeCount, growStateOf, withActive, stay}
 use Rattle.graph.specs.Sound.{nodeOrNone, storedDefect, edgeSound, vertexSound, sideSound, classSound, parentSound, overSound, ownLists, nodeSound, entriesOf, entries, activeSound, sound}
 use Rattle.graph.specs.Active.{joinedTo, joinActive, activated, isActive, renewed, activeIn}
 use Rattle.graph.specs.laws.State.{and-left, and-right, if-both, if-cases}
@@ -84,6 +84,7 @@ class-same : (c : State) (l : List ℕ) (n : ℕ) (k : NodeClass) → classSound
 unfolding classSound withActive
 class-same c l n (defectVertex v) = refl
 class-same c l n (blossom m) = refl
+class-same c l n removed = refl
 
 node-same : (c : State) (l : List ℕ) (n : ℕ) → nodeSound (withActive c l) n ≡ nodeSound c n
 unfolding nodeSound parentSound overSound ownLists nodeOrNone withActive

@@ -12,7 +12,7 @@ use lib.Seq.{getD-take, take-set-lt, map-set-same}
 use borrow.Author.Tests.{lt-ltb, ltb-true, leb-true}
 use Rattle.graph.specs.Basic.{all}
 use Rattle.graph.specs.laws.Members.{all-at}
-use Rattle.graph.specs.State.{State, NodeClass, defectVertex, vertexCount, edgeCount, sideCount, nodeCount, endAt, weightAt, virtualAt, defectAt, classOf, growStateOf, parentOf, dualOf, withVertices, withSides, withNodes, withGrowth, withHolder, withGrandson, withDefect, withVertexHolder, withVertexGrandson, withGrowState, withParent, withDual}
+use Rattle.graph.specs.State.{State, NodeClass, defectVertex, vertexCount, edgeCount, sideCount, nodeCount, endAt, weightAt, virtualAt, defectAt, classOf, growStateOf, parentOf, dualOf, withVertices, withSides, withNodes, withGrowth, withHolder, withGrandson, withDefect, withVertexHolder, withVertexGrandson, withClass, withGrowState, withParent, withDual}
 use Rattle.graph.specs.Open.{weightLimit}
 use Rattle.graph.specs.Rows.{rows, offset}
 use Rattle.graph.specs.Layout.{vOf, countOf, rowsOf, row, classFrom, stateFrom, stateOf}
@@ -62,7 +62,7 @@ pub defect-read : (b : List ℤ) (v : ℕ) → getD (row (rowsOf b) 1) v 0 / 2 �
 unfolding stateOf stateFrom
 defect-read b v = sym (List·getD-map (λ x. x / 2) (row (rowsOf b) 1) v 0)
 
-pub map-set : (f : ℕ → ℕ) (l : List ℕ) (i x : ℕ) → map f (set l i x) ≡ set (map f l) i (f x)
+pub map-set : {A B : Type 0} (f : A → B) (l : List A) (i : ℕ) (x : A) → map f (set l i x) ≡ set (map f l) i (f x)
 map-set f [] i x = refl
 map-set f (y ∷ l) zero x = refl
 map-set f (y ∷ l) (suc i) x = ap (λ r. f y ∷ r) (map-set f l i x)
@@ -109,6 +109,16 @@ module _ {b₀ b : List ℤ} (n x : ℕ) (f : Formed b₀) (h : n < nodeCount (s
   pub grow-state-put : Rowed 12 b₀ b (set (row (rowsOf b₀) 12) n x) → Becomes b₀ b (withGrowState (stateOf b₀) n x)
   unfolding Listed Wired rowsOf rows stateOf stateFrom withGrowState withNodes
   grow-state-put q = becomes-row q (f .listed) (f .wired) (rw (take-set-lt (getD (row (rowsOf b₀) 0) 4 0) (row (rowsOf b₀) 12) n x (below-count b₀ (f .laid) n h)))
+
+  pub class-put : Rowed 11 b₀ b (set (row (rowsOf b₀) 11) n x)
+      → Becomes b₀ b (withClass (stateOf b₀) n (classFrom (vertexCount (stateOf b₀)) x))
+  unfolding Listed Wired Laid rowsOf rows stateOf stateFrom withClass withNodes
+  class-put q =
+      let k : ℕ = getD (row (rowsOf b₀) 0) 4 0 in
+      let v : vertexCount (stateOf b₀) ≡ getD (row (rowsOf b₀) 0) 0 0 =
+      f .laid .counted .vertices ∙ sym (header-get b₀ 0 (omega arith)) in
+      becomes-row q (f .listed) (f .wired)
+      (rw (v, take-set-lt k (row (rowsOf b₀) 11) n x (below-count b₀ (f .laid) n h), map-set (classFrom (getD (row (rowsOf b₀) 0) 0 0)) (take k (row (rowsOf b₀) 11)) n x))
 
   pub parent-put : Rowed 13 b₀ b (set (row (rowsOf b₀) 13) n x) → Becomes b₀ b (withParent (stateOf b₀) n x)
   unfolding Listed Wired rowsOf rows stateOf stateFrom withParent withNodes

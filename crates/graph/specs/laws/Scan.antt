@@ -13,9 +13,10 @@ use lib.ListN.{length, getD, take}
 use lib.Seq.{take-suc, take-all, getD-take}
 use borrow.Author.Tests.{leb-true, lt-ltb, eq-eqb, ne-eqb}
 use Rattle.graph.specs.Basic.{if_then_else_, allBelow, all}
-use Rattle.graph.specs.State.{State, defectVertex, blossom, classOf, vertexCount, edgeCount, sideCount, nodeCount, endAt, parentOf, overgrownOf}
-use Rattle.graph.specs.Sound.{isDefect, edgeSound, vertexSound, classSound, overSound, ownLists, nodeSound}
+use Rattle.graph.specs.State.{State, defectVertex, blossom, removed, removedPlace, classOf, vertexCount, edgeCount, sideCount, nodeCount, endAt, parentOf, overgrownOf}
+use Rattle.graph.specs.Sound.{isDefect, isRemoved, edgeSound, vertexSound, classSound, overSound, ownLists, nodeSound}
 use Rattle.graph.specs.laws.State.{and-left, and-right, by-parity}
+use Rattle.graph.specs.laws.Class.{is-removed}
 use Rattle.graph.specs.laws.Members.{all-below-at, all-snoc}
 use Rattle.graph.specs.laws.Shape.{SoundEdge, edge-facts}
 use Rattle.graph.specs.Layout.{rowsOf, row, classFrom, stateFrom, stateOf}
@@ -128,24 +129,40 @@ class-get b n q h =
 
 is-defect : (v x : ℕ) → isDefect (classFrom v x) ≡ ltb x v
 unfolding classFrom isDefect
-is-defect v x = go (ltb x v)
+is-defect v x = go (ltb x v) (eqb x (v + removedPlace))
   where
-    go : (t : Bool) → isDefect (if t then defectVertex x else blossom (x - v)) ≡ t
-    go true = refl
-    go false = refl
+    go : (t r : Bool) → isDefect (if t then defectVertex x else if r then removed else blossom (x - v)) ≡ t
+    go true r = refl
+    go false true = refl
+    go false false = refl
+
+-- a node is a removed one where its class word is V + 1024
+pub removed-node : (b : List ℤ) (n : ℕ) → Laid b → n < nodeCount (stateOf b)
+    → isRemoved (classOf (stateOf b) n) ≡ eqb (getD (row (rowsOf b) 11) n 0) (vertexCount (stateOf b) + removedPlace)
+removed-node b n q h = rw (class-get b n q h) (is-removed (vertexCount (stateOf b)) (getD (row (rowsOf b) 11) n 0))
 
 -- a node is a defect node where its class word is a vertex
 pub defect-node : (b : List ℤ) (n : ℕ) → Laid b → n < nodeCount (stateOf b) → isDefect (classOf (stateOf b) n) ≡ ltb (getD (row (rowsOf b) 11) n 0) (vertexCount (stateOf b))
 defect-node b n q h = rw (class-get b n q h) (is-defect (vertexCount (stateOf b)) (getD (row (rowsOf b) 11) n 0))
 
--- its class is sound where that word is a vertex or V + a node below it
-pub class-test : (b : List ℤ) (n : ℕ) → Laid b → n < nodeCount (stateOf b) → classSound (stateOf b) n (classOf (stateOf b) n) ≡ (if ltb (getD (row (rowsOf b) 11) n 0) (vertexCount (stateOf b)) then true else ltb (getD (row (rowsOf b) 11) n 0 - vertexCount (stateOf b)) n)
+-- its class is sound where that word x is a vertex, V + 1024, or V + a node below it
+abbrev pub classTest : ℕ → ℕ → ℕ → Bool
+classTest v n x = if ltb x v then true else if eqb x (v + removedPlace) then true else ltb (x - v) n
+
+pub class-test : (b : List ℤ) (n : ℕ) → Laid b → n < nodeCount (stateOf b)
+    → classSound (stateOf b) n (classOf (stateOf b) n) ≡ classTest (vertexCount (stateOf b)) n (getD (row (rowsOf b) 11) n 0)
 unfolding classSound classFrom
-class-test b n q h = rw (class-get b n q h) (go (getD (row (rowsOf b) 11) n 0) (ltb (getD (row (rowsOf b) 11) n 0) (vertexCount (stateOf b))) refl)
+class-test b n q h =
+    let v : ℕ = vertexCount (stateOf b) in
+    let x : ℕ = getD (row (rowsOf b) 11) n 0 in
+    rw (class-get b n q h) (go x (ltb x v) (eqb x (v + removedPlace)) refl)
   where
-    go : (x : ℕ) (t : Bool) → ltb x (vertexCount (stateOf b)) ≡ t → classSound (stateOf b) n (if t then defectVertex x else blossom (x - vertexCount (stateOf b))) ≡ (if t then true else ltb (x - vertexCount (stateOf b)) n)
-    go x true e = e
-    go x false e = refl
+    go : (x : ℕ) (t r : Bool) → ltb x (vertexCount (stateOf b)) ≡ t
+        → classSound (stateOf b) n (if t then defectVertex x else if r then removed else blossom (x - vertexCount (stateOf b)))
+        ≡ (if t then true else if r then true else ltb (x - vertexCount (stateOf b)) n)
+    go x true r e = e
+    go x false true e = refl
+    go x false false e = refl
 
 pub both-le : (x m : ℕ) → leb 1 x && leb x m ≡ true → (1 ≤ x) × (x ≤ m)
 both-le x m h = (leb-true 1 x (and-left (leb 1 x) (leb x m) h), leb-true x m (and-right (leb 1 x) (leb x m) h))

@@ -19,7 +19,7 @@ use Rattle.graph.specs.Open.{dualLimit}
 use Rattle.graph.specs.Sound.{overSound, ownLists}
 use Rattle.graph.specs.laws.Opened.{getD-zeros}
 use Rattle.graph.specs.Layout.{overgrownFrom}
-use Rattle.graph.specs.Scans.{sideHeld, vertexHeld, overgrownVertices, onceAll, AtMost, Stamps}
+use Rattle.graph.specs.Scans.{sideHeld, vertexHeld, overgrownVertices, onceAll, AtMost, Carry, Stamped, Stamps}
 use Rattle.graph.specs.laws.Scan.{and-false, list-at, list-fails}
 
 -- ---- lists
@@ -57,13 +57,18 @@ twice (x ∷ l) (suc i) h m =
 
 -- ---- the loop over one list
 
--- the first i entries of l pass, none of them twice, and they alone carry k
-pub record Stamped (k : ℕ) (p : ℕ → Bool) (l : List ℕ) (i : ℕ) (m : List ℕ) : Type 0 where
-  pub within : i ≤ length l
-  pub most : AtMost m k
-  pub marks : (x : ℕ) → x < length m → eqb (getD m x 0) k ≡ member x (take i l)
-  pub once : distinct (take i l) ≡ true
-  pub pass : all p (take i l) ≡ true
+module _ (k : ℕ) (l : List ℕ) (i : ℕ) (m : List ℕ) (y : ℕ) (h : i < length l) (e : y ≡ getD l i 0) (small : y < length m) where
+  next-entry : take (i + 1) l ≡ take i l ++ (y ∷ [])
+  next-entry = rw (add-one, take-suc l i 0 h, e)
+
+  -- entry i carries k too
+  pub carry-more : Carry k l i m → Carry k l (i + 1) (set m y k)
+  carry-more c x j =
+      rw (next-entry, member-snoc x (take i l) y)
+      (elim (decEq x y) [
+        | yes q ↦ rw (q, getD-set-same m y k 0 small, eq-eqb k k refl, eq-eqb y y refl) (or-yes (member y (take i l)))
+        | no q ↦ rw (getD-set-other m y x k 0 q, ne-eqb x y q) (c x (rw (length-set m y k) at j) ∙ or-none (member x (take i l)))
+      ])
 
 pub stamped-none : (n : ℕ) (p : ℕ → Bool) (l m : List ℕ) → AtMost m n → Stamped (n + 1) p l 0 m
 unfolding member any distinct all
@@ -86,21 +91,19 @@ module _ (k : ℕ) (p : ℕ → Bool) (l : List ℕ) (i : ℕ) (m : List ℕ) (s
 
   module _ (y : ℕ) (h : i < length l) (e : y ≡ getD l i 0) (small : y < length m) where
     pub stamped-more : fresh k p m y ≡ true → Stamped k p l (i + 1) (set m y k)
-    stamped-more f = record { within = omega arith; most = most'; marks = marks'; once = rw next once'; pass = rw next (all-snoc p (take i l) y (s .pass) (and-left (p y) (not (eqb (getD m y 0) k)) f)) }
+    stamped-more f = record {
+      within = omega arith;
+      most = most';
+      marks = carry-more k l i m y h e small (s .marks);
+      once = rw next once';
+      pass = rw next (all-snoc p (take i l) y (s .pass) (and-left (p y) (not (eqb (getD m y 0) k)) f));
+    }
       where
         next : take (i + 1) l ≡ take i l ++ (y ∷ [])
-        next = rw (add-one, take-suc l i 0 h, e)
+        next = next-entry k l i m y h e small
 
         most' : (x : ℕ) → getD (set m y k) x 0 ≤ k
         most' x = elim (decEq x y) [ yes q ↦ rw (q, getD-set-same m y k 0 small) (omega arith) | no q ↦ rw (getD-set-other m y x k 0 q) (s .most x) ]
-
-        marks' : (x : ℕ) → x < length (set m y k) → eqb (getD (set m y k) x 0) k ≡ member x (take (i + 1) l)
-        marks' x j =
-            rw (next, member-snoc x (take i l) y)
-            (elim (decEq x y) [
-              | yes q ↦ rw (q, getD-set-same m y k 0 small, eq-eqb k k refl, eq-eqb y y refl) (or-yes (member y (take i l)))
-              | no q ↦ rw (getD-set-other m y x k 0 q, ne-eqb x y q) (s .marks x (rw (length-set m y k) at j) ∙ or-none (member x (take i l)))
-            ])
 
         once' : distinct (take i l ++ (y ∷ [])) ≡ true
         once' = distinct-snoc (take i l) y (s .once) (sym (s .marks y small) ∙ not-true (eqb (getD m y 0) k) (and-right (p y) (not (eqb (getD m y 0) k)) f))

@@ -7,7 +7,7 @@ use mathlib.Core.List.{List, [], _∷_, _++_, map, reverse, reverse-cons}
 use lib.IntN.{ℤ}
 use lib.ListN.{length, set, getD, take, drop, length-set, length-take, length-drop}
 use lib.Seq.{getD-take, getD-drop, getD-set-same, getD-set-other, ext-getD, length-take-le, take-suc, take-all, take-at, set-at, set-getD}
-use borrow.Author.Tests.{lt-ltb, le-ltb}
+use borrow.Author.Tests.{lt-ltb, le-ltb, eq-eqb, ne-eqb}
 use Rattle.graph.specs.State.{State, Overgrown, nodeCount, boundaryOf, overgrownOf, withNodes, withOvergrown}
 use Rattle.graph.specs.Rows.{rows, offset}
 use Rattle.graph.specs.Layout.{rowsOf, row, classFrom, overgrownFrom, stackFrom, boundaries, stacks, stateFrom, stateOf}
@@ -200,5 +200,9 @@ unfolding classFrom classNumber
 class-number v x =
     elim (decLt x v) [
       | yes h ↦ rw (lt-ltb x v h)
-      | no h ↦ rw (le-ltb x v (omega arith)) (omega arith)
+      | no h ↦ rw (le-ltb x v (omega arith))
+          (elim (decEq x (v + 1024)) [
+            | yes e ↦ rw (eq-eqb x (v + 1024) e) (sym e)
+            | no e ↦ rw (ne-eqb x (v + 1024) e) (omega arith)
+          ])
     ]

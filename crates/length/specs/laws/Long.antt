@@ -9,7 +9,7 @@ use lib.IntN.{ℤ, pos, negsuc, negℤ, subℕ}
 use lib.Dec.{eqb, leb, ltb}
 use borrow.Author.Tests.{eqb-false, eq-eqb, ne-eqb, leb-true, le-leb, ltb-false, not-true}
 use Rattle.graph.specs.Basic.{if_then_else_, fold, all, member}
-use Rattle.graph.specs.State.{State, NodeClass, defectVertex, blossom, opposite, passable, holderAt, endAt, sidesAt, growthAt, growStateOf, classOf, dualOf, boundaryOf, overgrownOf, grownOver, weightOver, growing, shrinking, up, down}
+use Rattle.graph.specs.State.{State, NodeClass, defectVertex, blossom, removed, opposite, passable, holderAt, endAt, sidesAt, growthAt, growStateOf, classOf, dualOf, boundaryOf, overgrownOf, grownOver, weightOver, growing, shrinking, up, down}
 use Rattle.graph.specs.laws.State.{and-left, and-right, if-both, if-cases, fold-keeps}
 use Rattle.graph.specs.laws.Members.{both, by-test, clash, all-member}
 use Rattle.length.specs.declared.Answer.{Answer}
@@ -175,6 +175,7 @@ stop-plain n (conflicting a) h = not-true (isLength a) h
 pub stop-short : (c : State) (n : ℕ) (k : NodeClass) → isLength (stopAnswer c n k) ≡ false
 unfolding stopAnswer isLength stopStep peersPlain
 stop-short c n (blossom m) = refl
+stop-short c n removed = refl
 stop-short c n (defectVertex v) =
     stop-plain n (fold (stopStep c) nobody (sidesAt c v))
     (fold-keeps (stopStep c) (λ (x : Peers). peersPlain x ≡ true) (λ x t q. if-both (λ (y : Peers). peersPlain y ≡ true) (meetsPeer c t) (meet-plain x _ _ q) q) nobody (sidesAt c v) refl)

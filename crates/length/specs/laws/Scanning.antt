@@ -3,13 +3,14 @@ use Prim.Native.Nat.{ℕ, suc, _+_, _-_, _≤_, _<_, min}
 use native.Mathlib.Omega.{arith}
 use mathlib.Core.Path.{_≡_, refl, sym, _∙_}
 use mathlib.Core.Logic.{_≢_}
+use mathlib.Core.Bool.{Bool, true, false}
 use mathlib.Core.List.{List, [], _∷_, map}
 use lib.IntN.{ℤ, pos}
 use lib.Dec.{eqb}
 use lib.ListN.{length, getD, take, length-map}
 use borrow.Author.Tests.{ne-eqb, lt-ltb, le-ltb}
-use Rattle.graph.specs.Basic.{fold}
-use Rattle.graph.specs.State.{State, Overgrown, vertexCount, sidesAt, classOf, boundaryOf, weightOver, grownOver}
+use Rattle.graph.specs.Basic.{if_then_else_, fold}
+use Rattle.graph.specs.State.{State, Overgrown, blossom, removed, removedPlace, vertexCount, sidesAt, classOf, boundaryOf, weightOver, grownOver}
 use Rattle.graph.specs.Word.{toNat, wordAt}
 use Rattle.graph.specs.Layout.{classFrom, overgrownFrom}
 use Rattle.graph.specs.laws.State.{fold-none, fold-more, fold-done}
@@ -70,7 +71,11 @@ module _ (c : State) (n x : ℕ) (e : classFrom (vertexCount c) x ≡ classOf c 
 
   pub stop-blossom : vertexCount c ≤ x → BlossomNeedExpand n ≡ stopAnswer c n (classOf c n)
   unfolding classFrom stopAnswer
-  stop-blossom h = rw (← e, le-ltb x (vertexCount c) h)
+  stop-blossom h = rw (← e, le-ltb x (vertexCount c) h) (go (eqb x (vertexCount c + removedPlace)))
+    where
+      go : (r : Bool) → BlossomNeedExpand n ≡ stopAnswer c n (if r then removed else blossom (x - vertexCount c))
+      go true = refl
+      go false = refl
 
 -- ---- the limit of a node that shrinks
 

@@ -216,13 +216,13 @@ module _ {b : List ℤ} (f : Formed b) (n k : ℕ) (e : k ≡ nodeRefusal (state
 -- ---- the calls that only read
 
 module _ {j k : ℕ} (e : j ≡ k) (h : j ≡ 0) (c : State) (n : ℕ) where
-  pub vertex-beyond : nodeCount c ≤ n → Refused 3 ≡ unless k c (representativeVertex c n) .answer
-  unfolding unless representativeVertex says badNode
-  vertex-beyond q = rw (sym e ∙ h, le-leb (nodeCount c) n q)
+  pub vertex-beyond : badNode c n ≡ true → Refused 3 ≡ unless k c (representativeVertex c n) .answer
+  unfolding unless representativeVertex says
+  vertex-beyond q = rw (sym e ∙ h, q)
 
-  pub vertex-told : n < nodeCount c → {v : ℕ} → v ≡ representativeVertexOf c n → Vertex v ≡ unless k c (representativeVertex c n) .answer
-  unfolding unless representativeVertex says badNode
-  vertex-told q {v} x = rw (sym e ∙ h, lt-leb (nodeCount c) n q, x)
+  pub vertex-told : badNode c n ≡ false → {v : ℕ} → v ≡ representativeVertexOf c n → Vertex v ≡ unless k c (representativeVertex c n) .answer
+  unfolding unless representativeVertex says
+  vertex-told q {v} x = rw (sym e ∙ h, q, x)
 
 -- the growth of every side in a list of two words for each edge
 pub table-placed : {b t : List ℤ} (list : List ℤ) {list' : List ℤ} → Lendable b t → length list ≡ 2 * edgeCount (stateOf b) → list' ≡ placed (growthTable (stateOf b)) list → list' ≡ map pos (growthTable (stateOf b))

@@ -1,11 +1,13 @@
 -- A preparation that finds nothing to take, or nothing to release, changes nothing.
 use Prim.Native.Nat.{ℕ, suc, _+_}
+use native.Mathlib.Omega.{arith}
 use mathlib.Core.Path.{_≡_, ap, _∙_}
 use mathlib.Core.Logic.{_≢_}
 use mathlib.Core.Bool.{true, false}
 use mathlib.Core.List.{List, [], _∷_, _++_, append-assoc, append-nil}
+use lib.ListN.{length}
 use lib.Seq.{set-getD}
-use borrow.Author.Tests.{ne-eqb}
+use borrow.Author.Tests.{eq-eqb, ne-eqb}
 use Rattle.graph.specs.Basic.{fold, member, distinct}
 use Rattle.graph.specs.State.{State, Overgrown, growthAt, vertexCount, boundaryOf, overgrownOf, withNodes, withBoundary, withOvergrown, up, down}
 use Rattle.graph.specs.laws.Members.{by-test, clash, member-head, member-tail, member-append-right, member-cons, member-nil, distinct-head, distinct-tail}
@@ -56,6 +58,12 @@ finish-same c n = rw (set-getD (c .nodes .boundary) n [], set-getD (c .nodes .ov
 -- the top amount of a stack is not 0
 abbrev pub TopLeft : List Overgrown → Type 0
 TopLeft st = (emptyTops st ≡ []) × (belowTops st ≡ st)
+
+pub top-amount : (o : Overgrown) (os : List Overgrown) → TopLeft (o ∷ os) → o .amount ≢ 0
+unfolding emptyTops
+top-amount o os t e =
+    let k : length (o .vertex ∷ emptyTops os) ≡ length {A = ℕ} [] = ap (λ (l : List ℕ). length l) (rw (eq-eqb (o .amount) 0 e) at (t .0)) in
+    omega arith
 
 shrink-same : (c : State) (n : ℕ) → TopLeft (overgrownOf c n) → ((s : ℕ) → member s (boundaryOf c n) ≡ true → growthAt c s ≢ 0) → distinct (boundaryOf c n) ≡ true → shrinkPass c n ≡ same c n
 unfolding shrinkPass shrinkScanned dropped startPass fold

@@ -3,13 +3,13 @@ use Prim.Native.Nat.{ℕ, _+_, _-_, _/_, _≤_, _<_, min}
 use native.Mathlib.Omega.{arith}
 use native.Mathlib.Decide.{ℕ-discrete as decEq}
 use mathlib.Core.Path.{_≡_, refl, sym, ap, _∙_}
-use mathlib.Core.Logic.{_≢_, _⊎_, ⊎-elim, by-cases}
+use mathlib.Core.Logic.{_≢_, ⊎-elim, by-cases}
 use mathlib.Core.Bool.{Bool, true, false}
 use mathlib.Core.List.{List, [], _∷_}
 use lib.IntN.{ℤ, pos, negsuc}
 use lib.Dec.{eqb, ltb}
-use lib.ListN.{length, getD}
-use borrow.Author.Tests.{eqb-true, eqb-false, eq-eqb, ne-eqb, le-leb, leb-true}
+use lib.ListN.{getD}
+use borrow.Author.Tests.{eqb-true, eqb-false, ne-eqb, le-leb, leb-true}
 use Rattle.graph.specs.Basic.{fold, any, all, member, distinct}
 use Rattle.graph.specs.State.{State, Overgrown, opposite, nodeCount, sideCount, endAt, holderAt, growthAt, virtualAt, classOf, growStateOf, dualOf, boundaryOf, overgrownOf, grownOver, weightOver, withActive, growing, shrinking, up, down}
 use Rattle.graph.specs.Active.{renewed, activeIn}
@@ -18,10 +18,9 @@ use Rattle.graph.specs.laws.Members.{by-test, both, clash, all-from, member-hea
 use Rattle.graph.specs.laws.Shape.{sound-active}
 use Rattle.graph.specs.laws.Active.{active-in, in-active, active-in-once, active-below, renewed-active}
 use Rattle.pass.specs.Prepare.{prepareNode}
-use Rattle.pass.specs.Shrink.{emptyTops}
 use Rattle.pass.specs.laws.Passes.{Passed}
 use Rattle.pass.specs.laws.Prepare.{prepare-passed}
-use Rattle.pass.specs.laws.Idle.{TopLeft}
+use Rattle.pass.specs.laws.Idle.{TopLeft, top-amount}
 use Rattle.pass.specs.laws.Leaves.{prepare-top-left, prepare-frees-none}
 use Rattle.length.specs.declared.Answer.{Answer}
 use Rattle.length.specs.declared.Answer.the-variants.{NonZeroGrow, Unlimited, Conflicting, TouchingVirtual, BlossomNeedExpand, VertexShrinkStop, VertexShrinkStopPeer, Done, Node, Prepared, Refused, Vertex}
@@ -40,7 +39,7 @@ use Rattle.reachable.specs.laws.prepare.Preparation.{PreparedDown, prepa
 use Rattle.reachable.specs.laws.prepare.Scan.{accepts, stop-accepts}
 use Rattle.reachable.specs.laws.Active.{renewed-invariant}
 use Rattle.reachable.specs.laws.Round.{Among, Along, prepare-along, Free, listed-free, free-along}
-use Rattle.reachable.specs.laws.Relied.{next-among, try-none}
+use Rattle.reachable.specs.laws.TrialSteps.{next-among, try-none}
 
 -- ---- answers that are no refusal, and whose length is above 0
 
@@ -131,11 +130,9 @@ pub record DownReady (c : State) (n : ℕ) : Type 0 where
   pub top : TopLeft (overgrownOf c n)
 
 limit-left : (y : ℕ) (st : List Overgrown) → y ≢ 0 → TopLeft st → shrinkLimit y st ≢ 0
-unfolding shrinkLimit emptyTops
+unfolding shrinkLimit
 limit-left y [] ne t = ne
-limit-left y (o ∷ os) ne t =
-    let a : o .amount ≢ 0 = λ e. let k : length (o .vertex ∷ emptyTops os) ≡ length {A = ℕ} [] = ap (λ (l : List ℕ). length l) (rw (eq-eqb (o .amount) 0 e) at (t .0)) in omega arith in
-    λ e. omega arith
+limit-left y (o ∷ os) ne t = let a : o .amount ≢ 0 = top-amount o os t in λ e. omega arith
 
 shrink-look : (c : State) (n s : ℕ) → growthAt c s ≢ 0 → lookFine (look c n down s) ≡ true
 unfolding look lookShrink lookFine
@@ -217,7 +214,7 @@ up-other c n q ne h s m e f =
 down-here : (c : State) → Invariant c → (n : ℕ) → Free c n → DownReady (prepareNode c n down .state) n
 down-here c g n f =
     let d : State = prepareNode c n down .state in
-    let r : PreparedDown n d = prepare-down n down refl c (invariant-ready c g n (f .inside) (f .outer)) in
+    let r : PreparedDown n c (g .labels) d = prepare-down n down c (g .labels) refl c (invariant-ready c g n (f .inside) (f .outer)) in
     let k = r .held-ready .labels in
     let i = r .held-ready .ready .clusters .node n (r .held-ready .ready .inside) (r .held-ready .ready .outer) in
     record {
@@ -230,7 +227,7 @@ down-here c g n f =
     }
 
 up-here : (c : State) → Invariant c → (n : ℕ) → Free c n → NothingToTake (prepareNode c n up .state) n
-up-here c g n f = prepare-up n up refl c (invariant-ready c g n (f .inside) (f .outer)) .nothing-to-take
+up-here c g n f = prepare-up n up c (g .labels) refl c (invariant-ready c g n (f .inside) (f .outer)) .nothing-to-take
 
 prepare-done : (c : State) (n d : ℕ) → refusalOf (prepareDualNodeGrowth c n d .answer) ≡ 0 → prepareDualNodeGrowth c n d .state ≡ prepareNode c n d .state
 unfolding prepareDualNodeGrowth
@@ -299,7 +296,7 @@ module _ (r : State) (g : Invariant r) where
 
   begins : Readied (activeIn r shrinking) (activeIn r growing) r
   begins = record {
-    along = record { invariant = g; growState = refl; parent = refl };
+    along = record { invariant = g; class = refl; growState = refl; parent = refl };
     active = refl;
     downs = λ n i o. clash (member n (activeIn r shrinking)) i o;
     ups = λ n i o. clash (member n (activeIn r growing)) i o;

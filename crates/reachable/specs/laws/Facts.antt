@@ -31,7 +31,7 @@ module _ (c : State) (g : Invariant c) where
 
   -- preparation leaves every listed side of the node held; for shrinking, none of growth 0 but at a defect
   pub prepared-held : (n d : ℕ) → n < nodeCount c → parentOf c n ≡ 0 → BoundaryHeld (prepareNode c n d .state) n
-  prepared-held n d b o = prepare-ready n d c (invariant-ready c g n b o) .boundary-held
+  prepared-held n d b o = prepare-ready n d c (g .labels) c (invariant-ready c g n b o) .boundary-held
 
   pub prepared-grown : (n : ℕ) → n < nodeCount c → parentOf c n ≡ 0 → (s : ℕ) → member s (boundaryOf (prepareNode c n down .state) n) ≡ true → growthAt (prepareNode c n down .state) s ≡ 0 → defectAt (prepareNode c n down .state) (endAt (prepareNode c n down .state) s) ≢ 0
-  prepared-grown n b o = prepare-down n down refl c (invariant-ready c g n b o) .zero-at-defects
+  prepared-grown n b o = prepare-down n down c (g .labels) refl c (invariant-ready c g n b o) .zero-at-defects

@@ -1,12 +1,12 @@
 -- What the group's free length says of every active node; so a round by it, or by less, is refused 9 or 12 only.
-use Prim.Native.Nat.{ℕ, suc, _≤_, _<_}
+use Prim.Native.Nat.{ℕ, _≤_, _<_}
 use native.Mathlib.Omega.{arith}
 use mathlib.Core.Path.{_≡_, refl, sym, subst}
 use mathlib.Core.Bool.{Bool, true, false, _&&_}
 use mathlib.Core.List.{List, [], _∷_}
-use lib.IntN.{ℤ, pos}
+use lib.IntN.{ℤ}
 use lib.Dec.{eqb, ltb}
-use borrow.Author.Tests.{le-leb, le-ltb}
+use borrow.Author.Tests.{le-ltb}
 use Rattle.graph.specs.Basic.{fold, all, member}
 use Rattle.graph.specs.State.{State, Overgrown, growStateOf, overgrownOf, dualOf, withActive, growing, shrinking, up, down}
 use Rattle.graph.specs.Active.{isActive, renewed, activeIn}
@@ -19,14 +19,13 @@ use Rattle.length.specs.declared.Answer.the-variants.{NonZeroGrow, Unlimited, C
 use Rattle.length.specs.Scan.{shrinkLimit, scan}
 use Rattle.length.specs.laws.Long.{longAs, lesser-long, answerLong, LeftDown, LeftUp, scan-down-long, scan-up-long}
 use Rattle.calls.specs.Calls.{toward}
-use Rattle.calls.specs.Round.{refusalOf, tried, preparedAll, movedAll, round, answersOf, isFree, joinLength, joinUnlimited, joinFree, groupOf, groupRefusal, groupLength}
+use Rattle.calls.specs.Round.{preparedAll, movedAll, answersOf, isFree, joinLength, joinUnlimited, joinFree, groupOf, groupRefusal, groupLength}
 use Rattle.calls.specs.declared.group.GroupMaxUpdateLength.{GroupMaxUpdateLength as Group}
 use Rattle.calls.specs.declared.group.GroupMaxUpdateLength.the-variants.{NonZeroGrow as groupFree, Unlimited as groupUnlimited, Conflicts as groupConflicts, Refused as groupRefused}
-use Rattle.calls.specs.laws.Trial.{unless-among}
 use Rattle.reachable.specs.Invariant.{Invariant}
 use Rattle.reachable.specs.laws.Calls.{group-invariant}
 use Rattle.reachable.specs.laws.Round.{Among}
-use Rattle.reachable.specs.laws.Relied.{LongDown, zero-met, round-relied}
+use Rattle.reachable.specs.laws.Relied.{LongDown, round-relied}
 
 -- the group leaves at least m
 unfoldable pub groupLong : ℕ → Group → Bool
@@ -136,13 +135,3 @@ round-by-group c g m z h =
 
     toward-up : (x : ℕ) → x ≡ growing → (P : ℕ → Type 0) → P (toward x) → P up
     toward-up x e P p = unfold toward in (rw e at p)
-
--- as answers: the length that the group answers
-pub round-by-length : (c : State) → Invariant c → (l : ℕ) (e : Bool) → groupLength c .group ≡ groupFree (pos (suc l)) e → Among (0 ∷ 9 ∷ 12 ∷ []) (refusalOf (round (groupLength c .state) (pos (suc l)) .answer))
-unfolding round tried refusalOf
-round-by-length c g l e h =
-    unless-among (Among (0 ∷ 9 ∷ 12 ∷ [])) (movedAll (suc l) (groupLength c .state) .refusal) (groupLength c .state) _
-    (round-by-group c g (suc l) (omega arith) (rw h (enough l e))) (λ k. zero-met)
-  where
-    enough : (l : ℕ) (e : Bool) → groupLong (suc l) (groupFree (pos (suc l)) e) ≡ true
-    enough l e = unfold groupLong longAs in (le-leb (suc l) (suc l) (omega arith))

@@ -14,7 +14,7 @@ use Rattle.reachable.specs.Invariant.{Invariant}
 use Rattle.reachable.specs.laws.state.GraphOk.{GraphOk}
 use Rattle.reachable.specs.laws.state.Numbers.{numbers-graph-ok}
 use Rattle.reachable.specs.laws.prepare.Preparation.{invariant-numbers}
-use Rattle.reachable.specs.laws.Relied.{none-from}
+use Rattle.reachable.specs.laws.TrialSteps.{none-from}
 use Rattle.reachable.specs.laws.Facts.{free-together}
 
 module _ (c : State) (g : Invariant c) (v : ℕ) where

@@ -4,14 +4,14 @@ use Prim.Native.Nat.{ℕ, _+_, _-_, _/_, _≤_, _<_}
 use native.Mathlib.Omega.{arith}
 use native.Mathlib.Decide.{ℕ-discrete as decEq}
 use mathlib.Core.Path.{_≡_, refl, sym, ap, subst, _∙_}
-use mathlib.Core.Logic.{_≢_, _⊎_, ⊎-elim, by-cases}
+use mathlib.Core.Logic.{_≢_, ⊎-elim, by-cases}
 use mathlib.Core.Bool.{Bool, true, false, _&&_}
 use mathlib.Core.List.{List, [], _∷_}
 use lib.Dec.{eqb, ltb}
 use lib.ListN.{getD}
 use lib.Seq.{getD-set-other}
 use borrow.Author.Tests.{eqb-false, ne-eqb, le-ltb, ltb-false}
-use Rattle.graph.specs.Basic.{fold, any, member, distinct}
+use Rattle.graph.specs.Basic.{any, member, distinct}
 use Rattle.graph.specs.State.{State, Graph, Overgrown, opposite, passable, endAt, sideCount, nodeCount, growthAt, holderAt, growStateOf, parentOf, dualOf, boundaryOf, overgrownOf, grownOver, weightOver, growing, shrinking, up, down}
 use Rattle.graph.specs.Node.{moved}
 use Rattle.graph.specs.Active.{renewed, activeIn}
@@ -25,18 +25,18 @@ use Rattle.pass.specs.Shrink.{emptyTops, belowTops}
 use Rattle.pass.specs.laws.Idle.{TopLeft, shrink-idle, grow-idle}
 use Rattle.growth.specs.Growth.{topIs, passesWeight, passesLimit, fallsShort, growCheck, movedStack, growApply}
 use Rattle.growth.specs.laws.Growth.{apply-in, apply-out}
-use Rattle.length.specs.Answer.{Reply}
 use Rattle.length.specs.laws.Long.{LeftUp}
-use Rattle.calls.specs.Refuse.{nodeRefusal, storeShort}
-use Rattle.calls.specs.Calls.{growPrepared, growToward}
-use Rattle.calls.specs.Round.{Tried, refusalOf, triedBy, tryStep, tryAll, soundAgain, inTurn, moving, movedAll}
+use Rattle.calls.specs.Calls.{growToward}
+use Rattle.calls.specs.Round.{Tried, refusalOf, tryAll, soundAgain, inTurn, moving, movedAll}
 use Rattle.calls.specs.laws.Sounds.{Applied, apply-applied}
-use Rattle.calls.specs.laws.Trial.{unless-accepted, begun, try-keeps, again-sound}
+use Rattle.calls.specs.laws.Trial.{begun, try-keeps, again-sound}
 use Rattle.reachable.specs.Cluster.{OutwardEdge, InwardEdge}
 use Rattle.reachable.specs.Invariant.{Invariant, sideGraphOf, viewOf, nodeViewOf}
 use Rattle.reachable.specs.laws.prepare.Preparation.{invariant-numbers}
 use Rattle.reachable.specs.laws.Active.{renewed-invariant}
 use Rattle.reachable.specs.laws.Calls.{grow-toward-invariant}
+use Rattle.reachable.specs.laws.state.Live.{invariant-sound}
+use Rattle.reachable.specs.laws.TrialSteps.{none-from, toward-idle, refused-stays, next-among, zero-met, nine-met, try-none, not-in}
 use Rattle.reachable.specs.laws.Round.{Among, toward-among, Along, toward-along, Free, listed-free, free-along}
 
 -- ---- a length that a node has left
@@ -47,13 +47,6 @@ pub record LongDown (m : ℕ) (c : State) (n : ℕ) : Type 0 where
   pub top : topIs (λ a. ltb a m) (overgrownOf c n) ≡ false
   pub growth : (s : ℕ) → member s (boundaryOf c n) ≡ true → m ≤ growthAt c s
 
--- ---- small things
-
-pub none-from : (p : ℕ → Bool) (l : List ℕ) → ((s : ℕ) → member s l ≡ true → p s ≡ false) → any p l ≡ false
-unfolding any
-none-from p [] g = refl
-none-from p (s ∷ l) g = rw (g s (member-head s l)) (none-from p l (λ t i. g t (member-tail t s l i)))
-
 top-left : (m : ℕ) → 0 < m → (st : List Overgrown) → topIs (λ a. ltb a m) st ≡ false → TopLeft st
 unfolding topIs emptyTops belowTops
 top-left m z [] h = (refl, refl)
@@ -61,49 +54,6 @@ top-left m z (o ∷ os) h =
     let le : m ≤ o .amount = ltb-false _ _ h in
     let e : eqb (o .amount) 0 ≡ false = ne-eqb (o .amount) 0 (λ q. omega arith) in
     (rw e refl, rw e refl)
-
--- a growth whose preparation changes nothing
-toward-idle : (c : State) (n d l : ℕ) → prepareNode c n d .state ≡ c → refusalOf (growToward c n d l .answer) ≡ 0 → growToward c n d l .state ≡ growApply c n d l
-unfolding growToward growPrepared
-toward-idle c n d l e h =
-    let b : State = prepareNode c n d .state in
-    let u = unless-accepted (nodeRefusal c n false (storeShort c (n ∷ []) 1)) c _ h in
-    let v = unless-accepted (growCheck b n d l) b _ (ap (λ (r : Reply). refusalOf (r .answer)) (sym (u .1)) ∙ h) in
-    ap (λ (r : Reply). r .state) (u .1 ∙ v .1) ∙ ap (λ (x : State). growApply x n d l) e
-
--- a trial that is refused goes no further
-pub refused-stays : (f : State → ℕ → Reply) (t : Tried) (ns : List ℕ) → t .refusal ≢ 0 → tryAll f t ns ≡ t
-unfolding tryAll fold tryStep
-refused-stays f t [] h = refl
-refused-stays f t (n ∷ ns) h = rw (ne-eqb (t .refusal) 0 h) (unfold tryAll tryStep in (refused-stays f t ns h))
-
--- one node, and then the others
-pub next-among : (ks : List ℕ) (f : State → ℕ → Reply) (c : State) (n : ℕ) (ns : List ℕ) (P : Tried → Type 0)
-    → ((t : Tried) → t .refusal ≢ 0 → t .refusal ≡ refusalOf (f c n .answer) → P t)
-    → (refusalOf (f c n .answer) ≡ 0 → P (tryAll f (begun (f c n .state)) ns))
-    → P (tryAll f (begun c) (n ∷ ns))
-unfolding tryAll fold tryStep triedBy
-next-among ks f c n ns P bad good =
-    let t : Tried = record { refusal = refusalOf (f c n .answer); state = f c n .state } in
-    by-cases (decEq (refusalOf (f c n .answer)) 0)
-    (λ e. rw e (unfold tryAll tryStep triedBy in (good e)))
-    (λ e. let k : tryAll f t ns ≡ t = refused-stays f t ns e in subst P (sym (unfold tryAll tryStep triedBy in k)) (bad t e refl))
-
-pub zero-met : Among (0 ∷ 9 ∷ 12 ∷ []) 0
-unfolding member any
-zero-met = refl
-
-nine-met : Among (0 ∷ 9 ∷ 12 ∷ []) 9
-unfolding member any
-nine-met = refl
-
-pub try-none : (f : State → ℕ → Reply) (t : Tried) → tryAll f t [] ≡ t
-unfolding tryAll fold
-try-none f t = refl
-
-not-in : (k : ℕ) → member k [] ≡ false
-unfolding member any
-not-in k = refl
 
 up-by : (l y : ℕ) → moved up l y ≡ y + l
 unfolding moved
@@ -378,7 +328,8 @@ module _ (r : State) (g : Invariant r) (m : ℕ) where
         let fd' : Free d n = free-along (p .along) f in
         let out : member n ns ≡ false = distinct-head n ns w in
         let e : prepareNode d n up .state ≡ d = idle-up n ns d p f x out z (ups n i) in
-        let h : Among (0 ∷ 9 ∷ 12 ∷ []) (refusalOf (growToward d n up m .answer)) = toward-among (0 ∷ 9 ∷ 12 ∷ []) zero-met nine-met d n up m (fd' .inside) (fd' .outer) (rw e (check-up n ns d p f x out z (ups n i))) in
+        let h : Among (0 ∷ 9 ∷ 12 ∷ []) (refusalOf (growToward d n up m .answer)) =
+        toward-among (0 ∷ 9 ∷ 12 ∷ []) zero-met nine-met d n up m fd' (rw e (check-up n ns d p f x out z (ups n i))) in
         next-among (0 ∷ 9 ∷ 12 ∷ []) (moving up m) d n ns Met
         (λ t ne q. rw q h)
         (λ ok. grow-all ns (growToward d n up m .state) (step-up n ns d p f x out z (ups n i) ok) (distinct-tail n ns w) (λ q j. k q (member-tail q n ns j)))
@@ -398,14 +349,15 @@ module _ (r : State) (g : Invariant r) (m : ℕ) where
         let out : member n ms ≡ false = distinct-head n ms w in
         let e : prepareNode d n down .state ≡ d = idle-down n ms ns d p f x out z (downs n i) in
         let y : growCheck d n down m ≡ 0 = check-down n ms ns d p f x out z (downs n i) in
-        let h : Among (0 ∷ 9 ∷ 12 ∷ []) (refusalOf (growToward d n down m .answer)) = toward-among (0 ∷ 9 ∷ 12 ∷ []) zero-met nine-met d n down m (fd' .inside) (fd' .outer) (rw (e, y) zero-met) in
+        let h : Among (0 ∷ 9 ∷ 12 ∷ []) (refusalOf (growToward d n down m .answer)) =
+        toward-among (0 ∷ 9 ∷ 12 ∷ []) zero-met nine-met d n down m fd' (rw (e, y) zero-met) in
         next-among (0 ∷ 9 ∷ 12 ∷ []) (moving down m) d n ms (Drawn ns)
         (λ t ne q. (rw q h, λ v. absurd (ne v)))
         (λ ok. shrink-all ns ms (growToward d n down m .state) (step-down n ms ns d p f x out z (downs n i) ok) (distinct-tail n ms w) (λ q j. k q (member-tail q n ms j)))
 
     begins : Progress (activeIn r shrinking) (activeIn r growing) r
     begins = record {
-      along = record { invariant = g; growState = refl; parent = refl };
+      along = record { invariant = g; class = refl; growState = refl; parent = refl };
       graph = refl;
       holder = refl;
       boundary = refl;
@@ -430,7 +382,7 @@ round-relied c gc m z downs ups =
     let t : Tried = tryAll (moving down m) (begun r) ms in
     let b = shrink-all r g m z downs ups ns ms r (begins r g m z downs ups) (active-in-once r shrinking (sound-active r (g .sounds))) (λ n i. i) in
     let gt : Invariant (t .state) = try-keeps Invariant (moving down m) (λ d n h. grow-toward-invariant d h n down m) (begun r) ms g in
-    let e : soundAgain ms ns t ≡ t = again-sound ms ns t (gt .sounds) in
+    let e : soundAgain ms ns t ≡ t = again-sound ms ns t (invariant-sound gt) in
     by-cases (decEq (t .refusal) 0)
     (λ k.
     let q : t ≡ begun (t .state) = ap (λ (j : ℕ). record { refusal = j; state = t .state }) k in

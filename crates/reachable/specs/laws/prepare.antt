@@ -2,6 +2,7 @@
 pub mod Holders
 pub mod PassDone
 pub mod FinishedState
+pub mod Since
 pub mod Preparation
 pub mod Scan
 pub mod Ends

@@ -2,3 +2,4 @@
 pub mod Views
 pub mod GraphOk
 pub mod Numbers
+pub mod Live

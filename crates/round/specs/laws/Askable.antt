@@ -13,7 +13,8 @@ use borrow.Author.Tests.{eq-eqb}
 use Rattle.graph.specs.Basic.{member, fold}
 use Rattle.graph.specs.State.{State, vertexCount, nodeCount, growStateOf, parentOf, stay, growing, shrinking, down, up, withActive}
 use Rattle.graph.specs.Active.{activeIn, renewed}
-use Rattle.graph.specs.Sound.{activeSound, sound}
+use Rattle.graph.specs.Sound.{activeSound, sound, soundRemoved, stateSound}
+use Rattle.graph.specs.laws.State.{and-left}
 use Rattle.graph.specs.Layout.{stateOf}
 use Rattle.graph.specs.Form.{Becomes, sidesOk}
 use Rattle.graph.specs.Readable.{Readable}
@@ -107,9 +108,9 @@ module _ (c : State) (z : Shape c) (v : 1 ≤ vertexCount c) (h : sound c ≡ tr
   again = try-start (preparing up) (soundAgain ms ns shrunk) ns ok
 
   tested : noneOf ms ≡ false → noneOf ns ≡ false → sound (shrunk .state) ≡ true
-  unfolding soundAgain
+  unfolding soundAgain stateSound
   tested p q =
-      by-test (sound (shrunk .state)) (λ e. e)
+      by-test (stateSound (shrunk .state)) (λ e. and-left (sound (shrunk .state)) (soundRemoved (shrunk .state)) e)
       (λ e. let k : _≡_ {A = ℕ} 2 0 = rw (p, q, eq-eqb (shrunk .refusal) 0 (turns .shrunk), e) at again in absurd (omega arith))
 
   unmoved : noneOf ms ≡ true → shrunk .state ≡ renewed c

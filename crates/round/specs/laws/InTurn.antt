@@ -11,7 +11,8 @@ use borrow.Author.Tests.{ne-eqb}
 use Rattle.graph.specs.Basic.{if_then_else_, fold}
 use Rattle.graph.specs.State.{State, nodeCount, growing, shrinking, up}
 use Rattle.graph.specs.Active.{activeIn, renewed}
-use Rattle.graph.specs.Sound.{sound}
+use Rattle.graph.specs.Sound.{sound, soundRemoved, stateSound}
+use Rattle.graph.specs.laws.State.{and-left}
 use Rattle.graph.specs.Layout.{stateOf, blockSound}
 use Rattle.graph.specs.Form.{Formed, Becomes}
 use Rattle.graph.specs.laws.Form.{laid-shape, formed-vertices}
@@ -19,7 +20,7 @@ use Rattle.graph.specs.laws.Active.{active-kept, renewed-sound, with-active-sou
 use Rattle.graph.specs.laws.Members.{by-test}
 use Rattle.graph.specs.laws.Row.{becomes-none, becomes-then}
 use Rattle.graph.specs.laws.Shape.{sound-active}
-use Rattle.sound.specs.laws.Block.{block-sound}
+use Rattle.sound.specs.laws.Block.{block-state-sound}
 use Rattle.sound.specs.laws.Whole.{formed-sized, formed-sound}
 use Rattle.pass.specs.Scratch.{zeroScratch}
 use Rattle.calls.specs.Calls.{toward}
@@ -55,24 +56,24 @@ pub grown-none : (l : ℕ) (c : State) → noneOf (activeIn c growing) ≡ true 
 unfolding grownFrom soundAgain tryAll fold noneOf
 grown-none l c h = rw (none-empty (activeIn c growing) h) (both (noneOf (activeIn c shrinking)))
   where
-    both : (t : Bool) → (if (t || true || false) || sound c then begun c else record { refusal = 2; state = c }) ≡ begun c
+    both : (t : Bool) → (if (t || true || false) || stateSound c then begun c else record { refusal = 2; state = c }) ≡ begun c
     both true = refl
     both false = refl
 
 module _ (l : ℕ) (c : State) (some : noneOf (activeIn c growing) ≡ false) where
-  pub grown-on : noneOf (activeIn c shrinking) || sound c ≡ true → grownFrom l c ≡ tryAll (turn l up) (begun c) (activeIn c growing)
+  pub grown-on : noneOf (activeIn c shrinking) || stateSound c ≡ true → grownFrom l c ≡ tryAll (turn l up) (begun c) (activeIn c growing)
   unfolding grownFrom soundAgain
-  grown-on h = ap (λ (u : Tried). tryAll (turn l up) u (activeIn c growing)) (rw some (go (noneOf (activeIn c shrinking)) (sound c) h))
+  grown-on h = ap (λ (u : Tried). tryAll (turn l up) u (activeIn c growing)) (rw some (go (noneOf (activeIn c shrinking)) (stateSound c) h))
     where
       go : (s t : Bool) → s || t ≡ true → (if s || false || false || t then begun c else record { refusal = 2; state = c }) ≡ begun c
       go true t h = refl
       go false true h = refl
       go false false h = ap (λ (x : Bool). if x then begun c else record { refusal = 2; state = c }) h
 
-  pub grown-stopped : noneOf (activeIn c shrinking) || sound c ≡ false → grownFrom l c ≡ record { refusal = 2; state = c }
+  pub grown-stopped : noneOf (activeIn c shrinking) || stateSound c ≡ false → grownFrom l c ≡ record { refusal = 2; state = c }
   unfolding grownFrom soundAgain
   grown-stopped h =
-      ap (λ (u : Tried). tryAll (turn l up) u (activeIn c growing)) (rw some (go (noneOf (activeIn c shrinking)) (sound c) h))
+      ap (λ (u : Tried). tryAll (turn l up) u (activeIn c growing)) (rw some (go (noneOf (activeIn c shrinking)) (stateSound c) h))
       ∙ try-refused (turn l up) (record { refusal = 2; state = c }) (activeIn c growing) (λ e. omega (arith, e))
     where
       go : (s t : Bool) → s || t ≡ false → (if s || false || false || t then begun c else record { refusal = 2; state = c }) ≡ record { refusal = 2; state = c }
@@ -99,7 +100,7 @@ again-refused : (ms ns : List ℕ) (u : Tried) → u .refusal ≢ 0 → soundAga
 unfolding soundAgain
 again-refused ms ns u h = rw (ne-eqb (u .refusal) 0 h) (go (noneOf ms) (noneOf ns))
   where
-    go : (s t : Bool) → (if s || t || true || sound (u .state) then u else record { refusal = 2; state = u .state }) ≡ u
+    go : (s t : Bool) → (if s || t || true || stateSound (u .state) then u else record { refusal = 2; state = u .state }) ≡ u
     go true true = refl
     go true false = refl
     go false true = refl
@@ -124,11 +125,11 @@ turned-on l c d e =
 
 -- ---- in a block
 
-pub sound-is : (b : List ℤ) → Formed b → blockSound b ≡ sound (stateOf b)
+pub sound-is : (b : List ℤ) → Formed b → blockSound b ≡ stateSound (stateOf b)
 sound-is b f =
-    by-test (sound (stateOf b))
+    by-test (stateSound (stateOf b))
     (λ e. formed-sound b f e ∙ sym e)
-    (λ e. by-test (blockSound b) (λ h. h ∙ sym (block-sound b (formed-sized b f) h)) (λ h. h ∙ sym e))
+    (λ e. by-test (blockSound b) (λ h. h ∙ sym (block-state-sound b (formed-sized b f) h)) (λ h. h ∙ sym e))
 
 pub renewed-ok : (c : State) → sound c ≡ true → sound (renewed c) ≡ true
 unfolding renewed
@@ -188,20 +189,21 @@ module _ (b t : List ℤ) (l : ℕ) (s : Shrunk b t) where
   pub grow-none : noneOf (activeIn (stateOf b) growing) ≡ true → TriedTo b b 0 (grownFrom l (stateOf b))
   grow-none h = rw (grown-none l (stateOf b) h) (record { refusal = refl; block = becomes-none b (stateOf b) (s .formed) refl })
 
-  pub grow-stopped : noneOf (activeIn (stateOf b) growing) ≡ false → noneOf (activeIn (stateOf b) shrinking) || sound (stateOf b) ≡ false → TriedTo b b 2 (grownFrom l (stateOf b))
+  pub grow-stopped : noneOf (activeIn (stateOf b) growing) ≡ false → noneOf (activeIn (stateOf b) shrinking) || stateSound (stateOf b) ≡ false → TriedTo b b 2 (grownFrom l (stateOf b))
   grow-stopped h k = rw (grown-stopped l (stateOf b) h k) (record { refusal = refl; block = becomes-none b (stateOf b) (s .formed) refl })
 
-  pub grow-going : noneOf (activeIn (stateOf b) shrinking) || sound (stateOf b) ≡ true → Going growing b t
+  pub grow-going : noneOf (activeIn (stateOf b) shrinking) || stateSound (stateOf b) ≡ true → Going growing b t
+  unfolding stateSound
   grow-going h = record {
     formed = s .formed;
     scratch = s .scratch;
     active = s .active;
     known = λ e. absurd (e refl);
     shrinks = λ e. absurd (omega (arith, e));
-    grows = λ e. by-test (noneOf (activeIn (stateOf b) shrinking)) (λ k. s .still k) (λ k. rw k at h);
+    grows = λ e. by-test (noneOf (activeIn (stateOf b) shrinking)) (λ k. s .still k) (λ k. and-left (sound (stateOf b)) (soundRemoved (stateOf b)) (rw k at h));
   }
 
-  pub grow-ends : noneOf (activeIn (stateOf b) growing) ≡ false → noneOf (activeIn (stateOf b) shrinking) || sound (stateOf b) ≡ true
+  pub grow-ends : noneOf (activeIn (stateOf b) growing) ≡ false → noneOf (activeIn (stateOf b) shrinking) || stateSound (stateOf b) ≡ true
       → (b' : List ℤ) (r : ℕ) → TriedTo b b' r (tryAll (turn l (toward growing)) (begun (stateOf b)) (activeIn (stateOf b) growing)) → TriedTo b b' r (grownFrom l (stateOf b))
   unfolding toward
   grow-ends h k b' r p = rw (grown-on l (stateOf b) h k) p

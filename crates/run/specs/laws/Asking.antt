@@ -25,7 +25,7 @@ use Rattle.calls.specs.Reply.{Usable, Replies, RepliesInsert}
 use Rattle.calls.specs.Insert.{insertDefect, insertBlossom}
 use Rattle.calls.specs.Calls.{Call, InsertDefect, InsertBlossom, SetGrowState, Prepare, MaxUpdateLength, Grow, Advance, setGrowState, prepareDualNodeGrowth, maxUpdateLength, growDualNode, advance, clear, growthTable, contacts, growths, touching, answered, response, respond}
 use Rattle.reachable.specs.Reachable.{after, Reachable}
-use Rattle.reachable.specs.Theorems.{reachable-sound}
+use Rattle.reachable.specs.laws.past.Calls.{reachable-invariant}
 use Rattle.records.specs.Record.{Record, sizes, ask, field, fields, fieldCounts, signed, askLength, recordOf, decoded}
 use Rattle.records.specs.Decode.{isRecord, wellFormed}
 use Rattle.records.specs.Lines.{line, wordsOf, linesFor}
@@ -178,7 +178,7 @@ circle-part c n e = let z : n - 0 ≡ n = omega arith in rw z e
 -- ---- an opened block
 
 pub opened-usable : {b t : List ℤ} → Opened b t → Usable b t
-opened-usable {b} {t} o = record { formed = o .formed; sounds = reachable-sound (stateOf b) (o .reachable); scratch = o .scratch }
+opened-usable {b} {t} o = record { formed = o .formed; sounds = reachable-invariant (stateOf b) (o .reachable) .sounds; scratch = o .scratch }
 
 -- one call more
 pub reachable-next : {c : State} → Reachable c → (k : Call) → Reachable (respond c k .state)

@@ -12,7 +12,7 @@ use Rattle.graph.specs.Basic.{below}
 use Rattle.graph.specs.State.{State, edgeCount, growthAt, weightAt}
 use Rattle.graph.specs.Layout.{stateOf}
 use Rattle.graph.specs.laws.Members.{by-test, length-below, length-only}
-use Rattle.calls.specs.Calls.{Call, InsertDefect, InsertBlossom, SetGrowState, Prepare, MaxUpdateLength, Grow, ReadTable, Advance, Contacts, RepresentativeVertex, Clear, RenewActiveList, PrepareAll, GroupLength, Round, growthTable, contacts, response, respond}
+use Rattle.calls.specs.Calls.{Call, InsertDefect, InsertBlossom, SetGrowState, Prepare, MaxUpdateLength, Grow, ReadTable, Advance, Contacts, RepresentativeVertex, Clear, RenewActiveList, PrepareAll, GroupLength, Round, RemoveBlossom, growthTable, contacts, response, respond}
 use Rattle.records.specs.Record.{Record, sizes, anEdge, aVirtual, ask, illFormed}
 use Rattle.records.specs.Lines.{edgeLines, contactLine, linesFor, joined}
 use Rattle.records.specs.Run.{Stage, fresh, gathering, running, ended, turn, ends, toldTurn, openTurn, runRefusal}
@@ -54,6 +54,7 @@ outcome-few k c RenewActiveList g e = omega arith
 outcome-few k c PrepareAll g e = omega arith
 outcome-few k c GroupLength g e = omega arith
 outcome-few k c (Round l) g e = omega arith
+outcome-few k c (RemoveBlossom n) g e = omega arith
 
 -- of a call on the opened graph
 asked-few : (k : ℕ) (a : Call) {s : Setup} {block : List ℤ} → Runs s block → length (linesFor k (respond (stateOf (partOf s block)) a .outcome)) ≤ 128

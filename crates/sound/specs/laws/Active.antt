@@ -14,7 +14,8 @@ use Rattle.graph.specs.Sound.{activeSound}
 use Rattle.graph.specs.Scans.{onceAll}
 use Rattle.graph.specs.laws.Opened.{getD-zeros}
 use Rattle.graph.specs.laws.Scan.{list-at}
-use Rattle.graph.specs.laws.Stamp.{Stamped, stamped-none, stamped-more, stamped-fails}
+use Rattle.graph.specs.laws.Stamp.{stamped-none, stamped-more, stamped-fails}
+use Rattle.graph.specs.Scans.{Stamped}
 
 pub none-met : (m : ℕ) (p : ℕ → Bool) (l : List ℕ) → Stamped 1 p l 0 (replicate m 0)
 none-met m p l = stamped-none 0 p l (replicate m 0) (λ x. omega (arith, getD-zeros m x))

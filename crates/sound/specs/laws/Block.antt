@@ -12,7 +12,7 @@ use borrow.Author.Tests.{leb-true, le-leb, lt-ltb}
 use Rattle.graph.specs.Basic.{all, below, allBelow}
 use Rattle.graph.specs.State.{vertexCount, edgeCount, sideCount, nodeCount}
 use Rattle.graph.specs.Open.{weightLimit, sidesOf}
-use Rattle.graph.specs.Sound.{edgeSound, vertexSound, sideSound, nodeSound, entries, activeSound, sound}
+use Rattle.graph.specs.Sound.{edgeSound, vertexSound, sideSound, nodeSound, entries, activeSound, sound, soundRemoved, stateSound}
 use Rattle.graph.specs.Rows.{offset}
 use Rattle.graph.specs.laws.State.{and-left, and-right}
 use Rattle.graph.specs.laws.Members.{length-below, all-below-from}
@@ -20,6 +20,7 @@ use Rattle.graph.specs.laws.Shape.{sound-edge, sound-vertex, edge-facts, vertex
 use Rattle.graph.specs.laws.Opened.{getD-tabled}
 use Rattle.graph.specs.Layout.{eOf, nOf, countOf, activeCountOf, rowsOf, row, stretches, risingTo, packed, stateFrom, stateOf, sized, blockSound}
 use Rattle.graph.specs.Form.{GraphRows, Laid, Listed, Formed}
+use Rattle.graph.specs.laws.SidesAt.{Rising}
 use Rattle.graph.specs.laws.Row.{header-get, rows-length, laid-of, formed-of}
 use Rattle.graph.specs.laws.Size.{sized-of}
 use Rattle.graph.specs.laws.Scan.{list-from, ends-of}
@@ -80,6 +81,11 @@ module _ (b : List ℤ) (q : Laid b) (h : sound (stateOf b) ≡ true) where
   wired-of : risingTo (row (rowsOf b) 4) (2 * eOf b) ≡ true → GraphRows (rowsOf b)
   wired-of r = record { ends = ends-in; sides = sides-right; firsts = rw (header-get b 1 (omega arith)) r; weights = weights-in }
 
+  -- lists and stretches in order, and a sound state: the block is in form
+  pub sound-formed : Listed b → Rising b → Formed b
+  unfolding Listed
+  sound-formed p r = formed-of b q p (wired-of r)
+
 -- ---- the whole test
 
 -- what the test of a block says, part by part
@@ -89,15 +95,18 @@ record Parts (b : List ℤ) : Type 0 where
   packed : packed b ≡ true
   rising : risingTo (row (rowsOf b) 4) (2 * eOf b) ≡ true
   sound : sound (stateOf b) ≡ true
+  removed : soundRemoved (stateOf b) ≡ true
 
 parts-of : (b : List ℤ) → blockSound b ≡ true → Parts b
-unfolding blockSound
+unfolding blockSound stateSound
 parts-of b h =
     let x = leb (countOf b) (nOf b) in
     let a = leb (activeCountOf b) (nOf b) in
     let y = packed b in
     let z = risingTo (row (rowsOf b) 4) (2 * eOf b) in
-    let w = sound (stateOf b) in
+    let u = sound (stateOf b) in
+    let r = soundRemoved (stateOf b) in
+    let w = u && r in
     let h₁ = and-left (x && a && y && z) w h in
     let h₂ = and-left (x && a && y) z h₁ in
     let h₃ = and-left (x && a) y h₂ in
@@ -106,7 +115,8 @@ parts-of b h =
       active = leb-true (activeCountOf b) (nOf b) (and-right x a h₃);
       packed = and-right (x && a) y h₂;
       rising = and-right (x && a && y) z h₁;
-      sound = and-right (x && a && y && z) w h;
+      sound = and-left u r (and-right (x && a && y && z) w h);
+      removed = and-right u r (and-right (x && a && y && z) w h);
     }
 
 module _ (b : List ℤ) (s : sized b ≡ true) (h : blockSound b ≡ true) where
@@ -114,9 +124,13 @@ module _ (b : List ℤ) (s : sized b ≡ true) (h : blockSound b ≡ true) where
   pub block-sound : sound (stateOf b) ≡ true
   block-sound = parts-of b h .sound
 
+  pub block-state-sound : stateSound (stateOf b) ≡ true
+  unfolding stateSound
+  block-state-sound = rw (parts-of b h .sound, parts-of b h .removed)
+
   -- the block is in form
   pub block-formed : Formed b
   block-formed =
       let p = parts-of b h in
       let q : Laid b = laid-of b (sized-of b s) (p .count) (p .active) in
-      formed-of b q (packed-of b q (p .packed)) (wired-of b q (p .sound) (p .rising))
+      sound-formed b q (p .sound) (listed-of b q (p .packed)) (p .rising)

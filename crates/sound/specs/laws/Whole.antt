@@ -11,7 +11,7 @@ use borrow.Author.Tests.{le-leb, eq-eqb}
 use Rattle.graph.specs.Basic.{if_then_else_}
 use Rattle.graph.specs.State.{edgeCount}
 use Rattle.graph.specs.Open.{sizesOk}
-use Rattle.graph.specs.Sound.{sound}
+use Rattle.graph.specs.Sound.{stateSound}
 use Rattle.graph.specs.Layout.{vOf, eOf, nOf, lOf, countOf, activeCountOf, blockLength, scratchLength, rowsOf, row, stateOf, sized, risingTo, fitsAt, packedFrom, packed, blockSound, memoryFits, blockRefusal, memoryRefusal, listRefusal}
 use Rattle.graph.specs.Form.{startsFrom, totalFrom, Laid, Listed, Wired, Formed}
 use Rattle.graph.specs.laws.Row.{header-get}
@@ -62,7 +62,7 @@ wired-rising : (b : List ℤ) → Wired b → risingTo (row (rowsOf b) 4) (2 * e
 unfolding Wired
 wired-rising b w = rw (header-get b 1 (omega arith)) at (w .firsts)
 
-pub formed-sound : (b : List ℤ) → Formed b → sound (stateOf b) ≡ true → blockSound b ≡ true
+pub formed-sound : (b : List ℤ) → Formed b → stateSound (stateOf b) ≡ true → blockSound b ≡ true
 unfolding blockSound Laid
 formed-sound b f s =
     let x : leb (countOf b) (nOf b) ≡ true = le-leb (countOf b) (nOf b) (f .laid .counted .count-max) in
@@ -74,10 +74,10 @@ unfolding Laid
 edges-are b f = sym (f .laid .counted .edges)
 
 -- refused 1 for a scratch or a list that has not its length, and else not at all
-pub memory-by-length : (b t : List ℤ) → Formed b → sound (stateOf b) ≡ true → memoryRefusal b t ≡ (if eqb (length t) (scratchLength (edgeCount (stateOf b))) then 0 else 1)
+pub memory-by-length : (b t : List ℤ) → Formed b → stateSound (stateOf b) ≡ true → memoryRefusal b t ≡ (if eqb (length t) (scratchLength (edgeCount (stateOf b))) then 0 else 1)
 unfolding memoryRefusal blockRefusal memoryFits
 memory-by-length b t f s = rw (formed-sized b f, formed-sound b f s, edges-are b f)
 
-pub list-by-length : (b t : List ℤ) (m k : ℕ) → Formed b → sound (stateOf b) ≡ true → listRefusal b t m k ≡ (if eqb (length t) (scratchLength (edgeCount (stateOf b))) && eqb m (k * edgeCount (stateOf b)) then 0 else 1)
+pub list-by-length : (b t : List ℤ) (m k : ℕ) → Formed b → stateSound (stateOf b) ≡ true → listRefusal b t m k ≡ (if eqb (length t) (scratchLength (edgeCount (stateOf b))) && eqb m (k * edgeCount (stateOf b)) then 0 else 1)
 unfolding listRefusal blockRefusal memoryFits
 list-by-length b t m k f s = rw (formed-sized b f, formed-sound b f s, edges-are b f)

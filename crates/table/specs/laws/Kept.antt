@@ -18,9 +18,11 @@ use Rattle.length.specs.Answer.{Reply, says}
 use Rattle.calls.specs.Refuse.{nodeRefusal, storeShort, unless}
 use Rattle.growth.specs.Growth.{growCheck}
 use Rattle.calls.specs.Insert.{insertDefect, defectPut, defectRefusal, insertBlossom, blossomPut, blossomRefusal, Joining, prepareStep, joinSide, seated, joinStep, joinCircle}
-use Rattle.calls.specs.Calls.{setGrowState, prepareDualNodeGrowth, maxUpdateLength, readied, growPrepared, growToward, growDualNode, signedFor, follow, advanceBy, toward, advance, representativeVertex, clear, Call, InsertDefect, InsertBlossom, SetGrowState, Prepare, MaxUpdateLength, Grow, ReadTable, Advance, Contacts, RepresentativeVertex, Clear, RenewActiveList, PrepareAll, GroupLength, Round, response, respond}
+use Rattle.calls.specs.Calls.{setGrowState, prepareDualNodeGrowth, maxUpdateLength, readied, growPrepared, growToward, growDualNode, signedFor, follow, advanceBy, toward, advance, representativeVertex, clear, Call, InsertDefect, InsertBlossom, SetGrowState, Prepare, MaxUpdateLength, Grow, ReadTable, Advance, Contacts, RepresentativeVertex, Clear, RenewActiveList, PrepareAll, GroupLength, Round, RemoveBlossom, response, respond}
 use Rattle.graph.specs.Active.{joinActive, activated, renewed}
 use Rattle.calls.specs.Round.{renewActiveList, preparing, preparedAll, prepareAll, moving, movedAll, round, GroupReply, groupRefusal, groupLength}
+use Rattle.calls.specs.Remove.{removeBlossom}
+use Rattle.calls.specs.laws.RemoveCall.{remove-keeps}
 use Rattle.calls.specs.laws.Trial.{turn-keeps, tried-keeps}
 use Rattle.calls.specs.laws.Accepted.{unless-cases}
 use Rattle.calls.specs.laws.Sounds.{apply-applied}
@@ -129,6 +131,9 @@ round-fixed c (pos (suc l)) =
     tried-keeps (λ (d : State). fixedOf d ≡ fixedOf c) c (movedAll (suc l) c) Done refl
     (turn-keeps (λ (d : State). fixedOf d ≡ fixedOf c) (moving down (suc l)) (moving up (suc l)) (λ d n h. toward-fixed d n down (suc l) ∙ h) (λ d n h. toward-fixed d n up (suc l) ∙ h) c refl)
 
+remove-fixed : (c : State) (n : ℕ) → fixedOf (removeBlossom c n .state) ≡ fixedOf c
+remove-fixed c n = let k = remove-keeps c n in rw (k .graph, k .nodeLimit, k .storeLimit) refl
+
 pub call-fixed : (c : State) (k : Call) → fixedOf (respond c k .state) ≡ fixedOf c
 unfolding respond response insertDefect insertBlossom setGrowState prepareDualNodeGrowth representativeVertex says clear cleared blankState withGrowState withNodes joinActive activated withActive renewActiveList prepareAll groupLength renewed
 call-fixed c (InsertDefect v x) = unless-fixed (defectRefusal c v x) c _ (defect-fixed c v x)
@@ -146,3 +151,4 @@ call-fixed c RenewActiveList = refl
 call-fixed c PrepareAll = tried-keeps (λ (d : State). fixedOf d ≡ fixedOf c) c (preparedAll c) Done refl (prepared-all-fixed c)
 call-fixed c GroupLength = if-both (λ (r : GroupReply). fixedOf (r .state) ≡ fixedOf c) (eqb (groupRefusal (preparedAll c)) 0) (prepared-all-fixed c) refl
 call-fixed c (Round l) = round-fixed c l
+call-fixed c (RemoveBlossom n) = remove-fixed c n

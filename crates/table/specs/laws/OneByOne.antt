@@ -10,7 +10,7 @@ use lib.ListN.{length}
 use lib.Seq.{ext-getD}
 use borrow.Author.Tests.{eqb-true}
 use Rattle.graph.specs.Basic.{fold}
-use Rattle.graph.specs.State.{State, Graph as StateGraph, NodeClass, defectVertex, blossom, nodeCount, growing, shrinking, up, down}
+use Rattle.graph.specs.State.{State, Graph as StateGraph, NodeClass, defectVertex, blossom, removed, nodeCount, growing, shrinking, up, down}
 use Rattle.graph.specs.Active.{renewed, activeIn}
 use Rattle.graph.specs.laws.Members.{by-test, clash}
 use Rattle.length.specs.Answer.{Reply, says}
@@ -75,6 +75,7 @@ growths-plain c l = grows-plain _ (negsuc l) (activeIn (renewed c) shrinking) (m
 vertexIn : NodeClass → ℕ
 vertexIn (defectVertex v) = v
 vertexIn (blossom m) = 0
+vertexIn removed = 0
 
 entries-agree : (c : State) (h k : History) (n : ℕ) → Agrees c h n → Agrees c k n → entryAt h n ≡ entryAt k n
 unfolding vertexIn

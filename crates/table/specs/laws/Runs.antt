@@ -11,7 +11,8 @@ use Rattle.graph.specs.State.{Graph as StateGraph, vertexCount, edgeOf}
 use Rattle.graph.specs.Open.{Edge, graphOf, opened}
 use Rattle.calls.specs.Calls.{growthTable}
 use Rattle.reachable.specs.Invariant.{Invariant}
-use Rattle.reachable.specs.laws.Calls.{opened-invariant, after-invariant}
+use Rattle.reachable.specs.laws.Calls.{opened-invariant}
+use Rattle.reachable.specs.laws.past.Calls.{opened-past, after-past}
 use Rattle.distance.specs.Graph.{WellFormed}
 use Rattle.distance.specs.Table.{tableFromDistances}
 use Rattle.distance.specs.Feasible.{Feasible}
@@ -37,7 +38,9 @@ module _ {v : ℕ} {edges : List Edge} {virtuals : List ℕ} (r : Run v edges vi
   start-good = opened-invariant v (r .edgeNumber) (r .nodeLimit) (r .storeLimit) edges virtuals (r .fits) (r .opening)
 
   end-good : Invariant (end r)
-  end-good = after-invariant (start r) start-good (r .calls)
+  end-good =
+      after-past (start r) (opened-past {log = λ n. start r} v (r .edgeNumber) (r .nodeLimit) (r .storeLimit) edges virtuals (r .fits) (r .opening))
+      (r .calls) .invariant
 
   pub end-matches : Matches (graphOf v edges virtuals) (end r) (history r)
   end-matches = calls-match (graphOf v edges virtuals) (start r) [] start-good (unfold opened in (blank-matches (graphOf v edges virtuals) (r .nodeLimit) (r .storeLimit))) (r .calls) (r .withoutBlossoms)

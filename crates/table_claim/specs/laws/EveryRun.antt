@@ -2,18 +2,16 @@
 use Prim.Native.Nat.{ℕ, _<_}
 use mathlib.Core.Path.{_≡_, refl, sym, ap, subst, _∙_}
 use mathlib.Core.Logic.{_↔_}
-use mathlib.Core.Bool.{Bool, true, false, _&&_}
-use mathlib.Core.List.{List, [], _∷_, _++_, map}
+use mathlib.Core.Bool.{Bool, true, false}
+use mathlib.Core.List.{List, [], _∷_, map}
 use lib.IntN.{ℤ, pos}
 use lib.Dec.{eqb}
 use lib.ListN.{length, length-map}
-use borrow.Author.Tests.{eqb-true}
-use Rattle.graph.specs.Basic.{if_then_else_}
 use Rattle.graph.specs.Word.{toNat}
 use Rattle.graph.specs.State.{State, edgeCount, up}
 use Rattle.graph.specs.Open.{Edge, graphOf, blankState, opened, openRefusal}
 use Rattle.graph.specs.Opening.{fits, openedWords}
-use Rattle.graph.specs.Layout.{blockLength, scratchLength, stateOf, sized, blockSound, memoryRefusal, listRefusal}
+use Rattle.graph.specs.Layout.{stateOf, sized, blockSound, memoryRefusal, listRefusal}
 use Rattle.graph.specs.Form.{Formed}
 use Rattle.graph.specs.laws.Members.{by-test, clash}
 use Rattle.graph.specs.laws.Opened.{Accepted, accepted}
@@ -21,14 +19,14 @@ use Rattle.memory.specs.laws.OpenedBlock.{opened-length, opened-state, opened-f
 use Rattle.memory.specs.laws.Join.{numbers-plain}
 use Rattle.sound.specs.laws.Whole.{formed-sized, formed-sound}
 use Rattle.length.specs.declared.Answer.{Answer}
-use Rattle.length.specs.declared.Answer.the-variants.{Done, Refused}
-use Rattle.length.specs.Answer.{Reply, says}
+use Rattle.length.specs.declared.Answer.the-variants.{Done}
+use Rattle.length.specs.Answer.{says}
 use Rattle.calls.specs.Refuse.{unless}
-use Rattle.calls.specs.Calls.{Call, growthTable, maxUpdateLength, respond}
+use Rattle.calls.specs.Calls.{growthTable, maxUpdateLength}
 use Rattle.lent.specs.Called.{LengthCalled, ListRead, TableRead}
 use Rattle.reachable.specs.Reachable.{after}
-use Rattle.reachable.specs.Invariant.{Invariant}
-use Rattle.reachable.specs.laws.Calls.{opened-invariant}
+use Rattle.reachable.specs.Past.{PastInvariant}
+use Rattle.reachable.specs.laws.past.Calls.{opened-past}
 use Rattle.distance.specs.Table.{tableFromDistances}
 use Rattle.distance.specs.Feasible.{Feasible}
 use Rattle.distance.specs.Nearest.{ReachesVirtual}
@@ -38,11 +36,11 @@ use Rattle.table.specs.History.{History, dualAt, dualsOf, recorded, historyFrom
 use Rattle.table.specs.Runs.{Run, end, SameNodes}
 use Rattle.table.specs.laws.Append.{history-append}
 use Rattle.table.specs.laws.Runs.{end-matches, end-table, end-feasible, tables-tell-duals}
-use Rattle.table_claim.specs.Lent.{LentCall, lentOpen, lentDefect, lentBlossom, lentState, lentPrepare, lentLength, lentGrow, lentTable, lentAdvance, lentContacts, lentVertex, lentClear, lentRenew, lentPrepareAll, lentGroup, lentRound}
-use Rattle.table_claim.specs.Lent.{Returned, Exchange, Steps}
+use Rattle.table_claim.specs.Lent.{LentCall, lentOpen, lentDefect, lentBlossom, lentState, lentPrepare, lentLength, lentGrow, lentTable, lentAdvance, lentContacts, lentVertex, lentClear, lentRenew, lentPrepareAll, lentGroup, lentRound, lentRemove}
+use Rattle.table_claim.specs.Lent.{Returned, Exchange}
 use Rattle.table_claim.specs.Lent.{lentSheet}
 use Rattle.table_claim.specs.Run.{Sizes, scratchFits, listFits, callsOf, fedOne, fed, orRefused, returned, returnedFrom, answerIn, recordedBy, historyBy, LentRun, runSizes, runStart, runCalls, lentHistory, WithoutBlossoms, trialFits, groupFits}
-use Rattle.table_claim.specs.laws.Steps.{Whole, memory-fits, list-fits, Follows, follows-whole, steps-follow, steps-return}
+use Rattle.table_claim.specs.laws.Steps.{Whole, whole-sound, memory-fits, list-fits, Follows, follows-whole, steps-follow, steps-return}
 
 -- ---- lists
 
@@ -72,6 +70,7 @@ one-recorded z c h (lentDefect t v x) = by-test (scratchFits z t) (λ e. rw e re
 one-recorded z c h (lentBlossom t x circle) = by-test (scratchFits z t) (λ e. rw e refl) (λ e. rw e refl)
 one-recorded z c h (lentState t n x) = by-test (scratchFits z t) (λ e. rw e refl) (λ e. rw (recorded-refused e _ .0, e) refl)
 one-recorded z c h (lentPrepare t n d) = by-test (scratchFits z t) (λ e. rw e refl) (λ e. rw e refl)
+one-recorded z c h (lentRemove t n) = by-test (scratchFits z t) (λ e. rw e refl) (λ e. rw e refl)
 one-recorded z c h (lentLength t n d first) = by-test (scratchFits z t) (λ e. rw e refl) (λ e. rw e refl)
 one-recorded z c h (lentGrow t n l) = by-test (scratchFits z t) (λ e. rw e refl) (λ e. rw (recorded-refused e _ .1, e) refl)
 one-recorded z c h (lentTable t list) = by-test (listFits z 2 t list) (λ e. rw e refl) (λ e. rw e refl)
@@ -122,7 +121,10 @@ module _ {v : ℕ} {edges : List Edge} {virtuals : List ℕ} (r : LentRun v edge
   pub first-whole : Whole (runSizes r) (r .first)
   first-whole = record {
     formed = subst Formed (sym first-words) (opened-formed v (r .edgeNumber) (r .nodeLimit) (r .storeLimit) edges virtuals fit passed);
-    good = subst Invariant (sym first-state) (opened-invariant v (r .edgeNumber) (r .nodeLimit) (r .storeLimit) edges virtuals fit opening-accepted);
+    log = λ n. runStart r;
+    good =
+        subst (PastInvariant (λ n. runStart r)) (sym first-state)
+        (opened-past v (r .edgeNumber) (r .nodeLimit) (r .storeLimit) edges virtuals fit opening-accepted);
     edges-are = ap (λ (c : State). edgeCount c) first-state ∙ opened-edges;
     nodes-are = ap (λ (c : State). c .nodeLimit) first-state ∙ unfold opened blankState in refl;
     size = ap length first-words ∙ opened-length v (r .edgeNumber) (r .nodeLimit) (r .storeLimit) edges virtuals fit passed;
@@ -144,7 +146,7 @@ module _ {v : ℕ} {edges : List Edge} {virtuals : List ℕ} (r : LentRun v edge
   last-sized = formed-sized (r .last) (last-whole .formed)
 
   pub last-sound : blockSound (r .last) ≡ true
-  last-sound = formed-sound (r .last) (last-whole .formed) (last-whole .good .sounds)
+  last-sound = formed-sound (r .last) (last-whole .formed) (whole-sound last-whole)
 
   -- what the host got
   pub last-returned : map (λ (x : Exchange). x .got) (r .exchanges) ≡ returnedFrom (runSizes r) (runStart r) (callsOf (r .exchanges))

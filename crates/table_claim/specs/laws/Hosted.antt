@@ -30,8 +30,8 @@ use Rattle.sheet.specs.Called.{SheetCalled}
 use Rattle.host_sheet.specs.Told.{sheetNumbers}
 use Rattle.table_claim.specs.Lent.{lentSheet, openingSheet, sheet-refused}
 use Rattle.table_claim.specs.Hosted.{SaysOpened, fb-open-sheet}
-use Rattle.table_claim.specs.Lent.{renew-active-list, prepare-all, group-length, round, returnsGroup}
-use Rattle.table_claim.specs.Hosted.{fb-renew-active-list, fb-prepare-all, fb-grow-all, fb-group-max-update-length}
+use Rattle.table_claim.specs.Lent.{renew-active-list, prepare-all, group-length, round, remove-blossom, returnsGroup}
+use Rattle.table_claim.specs.Hosted.{fb-renew-active-list, fb-prepare-all, fb-grow-all, fb-remove-blossom, fb-group-max-update-length}
 
 -- ---- the number of the case
 
@@ -137,6 +137,7 @@ host-made (fb-contacts {words' = words'} p) r =
 host-made (fb-open-sheet p n) r = let s = p .told r in sheet-made (s .answer) (s .says) (s .tells) r n
 host-made (fb-renew-active-list p) r = let s = p .told r in record { got = returns (s .answer); step = renew-active-list (s .says); tells = s .tells; words = refl }
 host-made (fb-prepare-all p) r = let s = p .told r in record { got = returns (s .answer); step = prepare-all (s .says); tells = s .tells; words = refl }
+host-made (fb-remove-blossom p) r = let s = p .told r in record { got = returns (s .answer); step = remove-blossom (s .says); tells = s .tells; words = refl }
 host-made (fb-grow-all p) r = let s = p .told r in record { got = returns (s .answer); step = round (s .says); tells = s .tells; words = refl }
 host-made (fb-group-max-update-length {entries' = entries'} p) r =
     let s = p .told r in
@@ -159,6 +160,7 @@ host-kept (fb-contacts p) r = let s = p .short r in record { block = refl; told 
 host-kept (fb-open-sheet p n) r = let s = p .short r in record { block = s .2 .0; told = s .1; count = s .0; words = s .2 .1 }
 host-kept (fb-renew-active-list p) r = let s = p .short r in record { block = s .2; told = s .1; count = s .0; words = refl }
 host-kept (fb-prepare-all p) r = let s = p .short r in record { block = s .2 .0; told = s .1; count = s .0; words = refl }
+host-kept (fb-remove-blossom p) r = let s = p .short r in record { block = s .2 .0; told = s .1; count = s .0; words = refl }
 host-kept (fb-grow-all p) r = let s = p .short r in record { block = s .2 .0; told = s .1; count = s .0; words = refl }
 host-kept (fb-group-max-update-length p) r = let s = p .short r in record { block = s .2 .0 .0; told = s .1; count = s .0; words = ap (map pos) (s .2 .1) }
 

@@ -2,35 +2,36 @@
 use Prim.Native.Nat.{ℕ}
 use mathlib.Core.Path.{_≡_, refl, sym, ap, subst, _∙_}
 use mathlib.Core.Logic.{_⊎_, inl, inr, ⊎-elim}
-use mathlib.Core.Bool.{Bool, true, false, _&&_}
-use mathlib.Core.List.{List, [], _∷_, _++_, map}
-use lib.IntN.{ℤ, pos}
+use mathlib.Core.Bool.{Bool, true, false}
+use mathlib.Core.List.{List, [], _∷_, map}
+use lib.IntN.{ℤ}
 use lib.Dec.{eqb}
 use lib.ListN.{length}
 use Rattle.graph.specs.Basic.{if_then_else_}
-use Rattle.graph.specs.State.{State, Graph, edgeCount}
+use Rattle.graph.specs.State.{State, edgeCount}
 use Rattle.graph.specs.Word.{toNat}
 use Rattle.graph.specs.Layout.{eOf, nOf, stateOf, sized, blockLength, memoryFits, blockRefusal, memoryRefusal, listRefusal}
 use Rattle.graph.specs.Form.{Formed, Laid}
 use Rattle.graph.specs.Opening.{edgesFrom, virtualsFrom, fits}
-use Rattle.graph.specs.laws.Members.{by-test}
 use Rattle.memory.specs.laws.OpenedBlock.{refused-block}
 use Rattle.sound.specs.laws.Whole.{formed-sized, formed-sound, memory-by-length, list-by-length}
 use Rattle.length.specs.declared.Answer.{Answer}
 use Rattle.length.specs.declared.Answer.the-variants.{Done}
 use Rattle.length.specs.Answer.{Reply, says}
 use Rattle.calls.specs.Refuse.{unless}
-use Rattle.calls.specs.Reply.{placed}
 use Rattle.calls.specs.Calls.{Call, InsertDefect, InsertBlossom, SetGrowState, Prepare, MaxUpdateLength, Grow, ReadTable, Advance, Contacts, RepresentativeVertex, Clear}
-use Rattle.calls.specs.Calls.{respond, response, growthTable, contacts as contactsOf, representativeVertex}
+use Rattle.calls.specs.Calls.{respond, response, contacts as contactsOf, representativeVertex}
 use Rattle.lent.specs.Called.{Called, ListRead}
 use Rattle.reachable.specs.Reachable.{after}
-use Rattle.reachable.specs.Invariant.{Invariant}
-use Rattle.reachable.specs.laws.Calls.{after-invariant}
+use Rattle.graph.specs.Sound.{stateSound}
+use Rattle.reachable.specs.Past.{PastInvariant}
+use Rattle.reachable.specs.laws.state.Live.{invariant-sound}
+use Rattle.reachable.specs.laws.past.Calls.{after-past}
+use Rattle.reachable.specs.Opening.{afterLog}
 use Rattle.table.specs.laws.Kept.{Fixed, fixedOf, call-fixed}
 use Rattle.table.specs.laws.Append.{after-append}
 use Rattle.table_claim.specs.Lent.{LentCall, lentOpen, Step, open-refused, insert-defect, insert-blossom, set-grow-state, prepare, max-update-length, grow, read-table, advance, contacts, representative-vertex, clear}
-use Rattle.table_claim.specs.Lent.{Returned, opening, returns, returnsList, returnsCount, Exchange, Steps, none, next, AnySteps, no-call, one-call, one-opening}
+use Rattle.table_claim.specs.Lent.{Returned, opening, returns, Exchange, Steps, none, next, AnySteps, no-call, one-call, one-opening}
 use Rattle.table_claim.specs.Run.{Sizes, scratchFits, listFits, callsOf, ifFits, fedOne, fed, orRefused, returned, returnedFrom, SinceOpening}
 use Rattle.table_claim.specs.Run.{lentRunFrom, Begins, with-open, with-sheet}
 use Rattle.table_claim.specs.Lent.{lentSheet, sheet-refused, openingSheet, one-sheet}
@@ -38,10 +39,10 @@ use Rattle.sheet.specs.declared.SheetOpened.the-variants.{Opened}
 use Rattle.sheet.specs.Theorems.{refused-leaves-all, sheet-opens}
 use Rattle.graph.specs.Opening.{OpenCalled}
 use Rattle.calls.specs.declared.group.GroupMaxUpdateLength.{GroupMaxUpdateLength as Group}
-use Rattle.calls.specs.Calls.{RenewActiveList, PrepareAll, GroupLength, Round}
+use Rattle.calls.specs.Calls.{RenewActiveList, PrepareAll, GroupLength, Round, RemoveBlossom}
 use Rattle.calls.specs.Round.{prepareAll, groupLength}
 use Rattle.lent_round.specs.Called.{trialRefusal, groupTrialRefusal, GroupOnTrial}
-use Rattle.table_claim.specs.Lent.{renew-active-list, prepare-all, group-length, round, returnsGroup}
+use Rattle.table_claim.specs.Lent.{renew-active-list, prepare-all, group-length, round, remove-blossom}
 use Rattle.table_claim.specs.Run.{trialFits, groupFits}
 use Rattle.table_claim.specs.laws.Rounds.{Ends, trial-ends, round-ends, group-answers, group-kept}
 
@@ -57,18 +58,22 @@ after-fixed c (k ∷ ks) = after-fixed (respond c k .state) ks ∙ call-fixed c 
 -- in form, of these sizes, and its state keeps what every call keeps
 pub record Whole (z : Sizes) (b : List ℤ) : Type 0 where
   pub formed : Formed b
-  pub good : Invariant (stateOf b)
+  pub log : ℕ → State
+  pub good : PastInvariant log (stateOf b)
   pub edges-are : edgeCount (stateOf b) ≡ z .edges
   pub nodes-are : stateOf b .nodeLimit ≡ z .nodes
   pub size : length b ≡ blockLength (z .vertices) (z .edges) (z .nodes) (z .store)
 
 module _ {z : Sizes} {b : List ℤ} (w : Whole z b) where
+  pub whole-sound : stateSound (stateOf b) ≡ true
+  whole-sound = invariant-sound (w .good .invariant)
+
   -- what is lent to a call is refused for its length alone
   pub memory-fits : (t : List ℤ) → memoryRefusal b t ≡ (if scratchFits z t then 0 else 1)
-  memory-fits t = rw (w .edges-are) at (memory-by-length b t (w .formed) (w .good .sounds))
+  memory-fits t = rw (w .edges-are) at (memory-by-length b t (w .formed) whole-sound)
 
   pub list-fits : (t list : List ℤ) (m : ℕ) → listRefusal b t (length list) m ≡ (if listFits z m t list then 0 else 1)
-  list-fits t list m = rw (w .edges-are) at (list-by-length b t (length list) m (w .formed) (w .good .sounds))
+  list-fits t list m = rw (w .edges-are) at (list-by-length b t (length list) m (w .formed) whole-sound)
 
   edges-of : eOf b ≡ z .edges
   unfolding Laid
@@ -84,18 +89,18 @@ module _ {z : Sizes} {b : List ℤ} (w : Whole z b) where
 
   pub alone-fits : blockRefusal (sized b) b ≡ 0
   unfolding blockRefusal
-  alone-fits = rw (formed-sized b (w .formed), formed-sound b (w .formed) (w .good .sounds)) refl
+  alone-fits = rw (formed-sized b (w .formed), formed-sound b (w .formed) whole-sound) refl
 
   pub trial-fits : (s t : List ℤ) → trialRefusal b s t ≡ (if trialFits z s t then 0 else 1)
   unfolding trialRefusal blockRefusal
   trial-fits s t =
       let m : memoryFits b t ≡ scratchFits z t = fits-alike t in
-      rw (m, w .size, formed-sound b (w .formed) (w .good .sounds)) refl
+      rw (m, w .size, formed-sound b (w .formed) whole-sound) refl
 
   pub group-fits : (s t : List ℤ) (entries : List ℕ) → groupTrialRefusal b s t (length entries) ≡ (if groupFits z s t entries then 0 else 1)
   unfolding groupTrialRefusal blockRefusal
   group-fits s t entries =
-      rw (fits-alike t, w .size, limit-is, formed-sound b (w .formed) (w .good .sounds)) refl
+      rw (fits-alike t, w .size, limit-is, formed-sound b (w .formed) whole-sound) refl
 
 -- ---- one step: the state
 
@@ -159,6 +164,7 @@ step-follows {z} w (representative-vertex {t} {n} p) = reading-follows w (scratc
 step-follows {z} w (clear {t} p) = called-follows w (scratchFits z t) (memory-fits w t) p Clear refl
 step-follows {z} w (sheet-refused p) = unchanged-follows w (refused-leaves-all p .1)
 step-follows {z} w (renew-active-list p) = called-follows w true (alone-fits w) p RenewActiveList refl
+step-follows {z} w (remove-blossom {t} {n = n} p) = called-follows w (scratchFits z t) (memory-fits w t) (p .block) (RemoveBlossom n) refl
 step-follows {z} w (prepare-all {s} {t} p) = ends-follows w (trialFits z s t) (trial-ends (trialFits z s t) (trial-fits w s t) p) PrepareAll refl
 step-follows {z} w (group-length {s} {t} {entries = entries} p) = group-follows w (groupFits z s t entries) (group-fits w s t entries) p
 step-follows {z} w (round {s} {t} {l = l} p) = ends-follows w (trialFits z s t) (round-ends l (trialFits z s t) (w .formed) (trial-fits w s t) p) (Round l) refl
@@ -200,6 +206,7 @@ step-returns {z} {b} w (representative-vertex {t} {n} p) = ap returns (read-answ
 step-returns {z} w (clear {t} p) = ap returns (called-answered (scratchFits z t) (memory-fits w t) p)
 step-returns {z} w (sheet-refused p) = rw (p .leaves .answer, p .leaves .edges-are, w .size) refl
 step-returns {z} w (renew-active-list p) = ap returns (called-answered true (alone-fits w) p)
+step-returns {z} w (remove-blossom {t} p) = ap returns (called-answered (scratchFits z t) (memory-fits w t) (p .block))
 step-returns {z} {b} w (prepare-all {s} {t} p) = ap returns (read-answered (trialFits z s t) (stateOf b) (prepareAll (stateOf b)) (trial-fits w s t) (p .answer))
 step-returns {z} {b} w (group-length {s} {t} {entries = entries} p) =
     let q = group-answers (groupFits z s t entries) (group-fits w s t entries) p in
@@ -211,7 +218,8 @@ step-returns {z} {b} w (round {s} {t} {l = l} p) = ap returns (round-ends l (tri
 pub follows-whole : {z : Sizes} {b b' : List ℤ} {ks : List Call} → Whole z b → Follows b ks b' → Whole z b'
 follows-whole {z} {b} {b'} {ks} w f = record {
   formed = f .formed;
-  good = subst Invariant (sym (f .state)) (after-invariant (stateOf b) (w .good) ks);
+  log = afterLog (stateOf b) ks (w .log);
+  good = subst (PastInvariant (afterLog (stateOf b) ks (w .log))) (sym (f .state)) (after-past (stateOf b) (w .good) ks);
   edges-are = ap (λ (c : State). edgeCount c) (f .state) ∙ ap (λ (x : Fixed). length (x .graph .weight)) (after-fixed (stateOf b) ks) ∙ w .edges-are;
   nodes-are = ap (λ (c : State). c .nodeLimit) (f .state) ∙ ap (λ (x : Fixed). x .nodes) (after-fixed (stateOf b) ks) ∙ w .nodes-are;
   size = f .len ∙ w .size;

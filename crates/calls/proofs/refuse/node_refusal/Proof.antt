@@ -1,33 +1,33 @@
 use mathlib.Core.Path.{_≡_, sym, _∙_}
 use mathlib.Core.Bool.{false, _||_}
-use lib.Dec.{leb}
-use borrow.Author.Tests.{leb-false}
 use Prim.Native.Nat.{_<_}
 use Rattle.graph.specs.State.{nodeCount}
 use Rattle.graph.specs.Layout.{stateOf}
 use Rattle.graph.specs.laws.Members.{or-neither-left}
-use Rattle.calls.specs.Refuse.{inBlossom}
-use Rattle.calls.specs.laws.Refuse.{refuses-number, refuses-inner, refuses-store, refuses-not}
+use Rattle.calls.specs.Refuse.{badNode, inBlossom}
+use Rattle.calls.specs.laws.Refuse.{good-inside, refuses-number, refuses-inner, refuses-store, refuses-not}
 use borrow.Author.Needs.{needs}
 use Rattle.calls.proofs.refuse.node_refusal.Statement.{statement}
 use Rattle.calls.proofs.refuse.node_refusal.Tie as tie
 
 -- the numbers are in range
-listed : (c : tie.Else1) → leb (nodeCount (stateOf (c .before .before .args .b .now))) (c .before .before .args .n) || c .before .before .args .wrong ≡ false
-listed c = rw (c .before .node-count .ensures .0) at (c .if1 .left)
+listed : (c : tie.Else1) → badNode (stateOf (c .before .before .args .b .now)) (c .before .before .args .n) || c .before .before .args .wrong ≡ false
+listed c = rw (c .before .bad-node .ensures) at (c .if1 .left)
 
 inside : (c : tie.Else1) → c .before .before .args .n < nodeCount (stateOf (c .before .before .args .b .now))
-inside c = leb-false _ _ (or-neither-left (leb (nodeCount (stateOf (c .before .before .args .b .now))) (c .before .before .args .n)) _ (listed c))
+inside c =
+    let d = stateOf (c .before .before .args .b .now) in
+    good-inside d (c .before .before .args .n) (or-neither-left (badNode d (c .before .before .args .n)) _ (listed c))
 
 -- the node is outermost
 outer : (c : tie.Else2) → inBlossom (stateOf (c .before .before .before .before .args .b .now)) (c .before .before .before .before .args .n) ≡ false
 outer c = sym (c .before .in-blossom .ensures) ∙ c .if2 .left
 
-node-count-requires : tie.Need-node-count-requires
-node-count-requires c κs = search needs
+bad-node-requires : tie.Need-bad-node-requires
+bad-node-requires c κs = search needs
 
 returns : tie.Need-returns
-returns c = let a = c .before .before .args in refuses-number (stateOf (a .b .now)) (a .n) (a .wrong) _ (rw (c .before .node-count .ensures .0) at (c .if1 .taken))
+returns c = let a = c .before .before .args in refuses-number (stateOf (a .b .now)) (a .n) (a .wrong) _ (rw (c .before .bad-node .ensures) at (c .if1 .taken))
 
 in-blossom-requires : tie.Need-in-blossom-requires
 in-blossom-requires c κs = (c .before .before .pre, inside c)
@@ -51,7 +51,7 @@ pub node-refusal-spec : {M : Type 1} → statement M
 node-refusal-spec =
     tie.close
     (tie.spec
-    node-count-requires
+    bad-node-requires
     returns
     in-blossom-requires
     returns-2

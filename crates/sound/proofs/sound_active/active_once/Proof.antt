@@ -1,5 +1,6 @@
 use Rattle.sound.specs.laws.Active.{none-met, met-below, met-more, met-again}
-use Rattle.graph.specs.laws.Stamp.{Stamped, stamped-all}
+use Rattle.graph.specs.laws.Stamp.{stamped-all}
+use Rattle.graph.specs.Scans.{Stamped}
 use Rattle.graph.specs.Form.{Laid}
 use Rattle.graph.specs.Layout.{stateOf}
 use Rattle.graph.specs.State.{nodeCount}

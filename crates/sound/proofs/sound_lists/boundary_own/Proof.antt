@@ -6,7 +6,8 @@ use lib.ListN.{length, length-set}
 use Rattle.graph.specs.State.{boundaryOf}
 use Rattle.graph.specs.Layout.{stateOf, stateFrom}
 use Rattle.graph.specs.Scans.{sideHeld}
-use Rattle.graph.specs.laws.Stamp.{Stamped, fresh, stamped-none, stamped-more, stamped-fails, stamped-all}
+use Rattle.graph.specs.laws.Stamp.{fresh, stamped-none, stamped-more, stamped-fails, stamped-all}
+use Rattle.graph.specs.Scans.{Stamped}
 use borrow.Author.Needs.{needs}
 use Prim.Native.Nat.{_+_, _-_}
 use Rattle.sound.proofs.sound_lists.boundary_own.Statement.{statement}

@@ -7,7 +7,8 @@ use lib.ListN.{length, length-set}
 use Rattle.graph.specs.Layout.{stateOf, stateFrom}
 use Rattle.graph.specs.Form.{Laid}
 use Rattle.graph.specs.Scans.{vertexHeld, overgrownVertices}
-use Rattle.graph.specs.laws.Stamp.{Stamped, fresh, stamped-none, stamped-more, stamped-fails, stamped-all, overgrown-count}
+use Rattle.graph.specs.laws.Stamp.{fresh, stamped-none, stamped-more, stamped-fails, stamped-all, overgrown-count}
+use Rattle.graph.specs.Scans.{Stamped}
 use Rattle.sound.proofs.sound_lists.overgrown_own.Statement.{statement}
 use Rattle.sound.proofs.sound_lists.overgrown_own.Tie as tie
 

@@ -1,0 +1,2 @@
+-- What the contract of the exported opening cites.
+pub mod Told

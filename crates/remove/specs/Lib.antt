@@ -1,0 +1,4 @@
+-- What the contracts inside `remove` cite. The call itself is defined in crate `calls` (specs/Remove).
+pub mod Stops
+pub mod Opened
+pub mod laws
