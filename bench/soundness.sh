@@ -9,7 +9,7 @@ cp -r "$here/../crates" "$here/../crates.txt" "$work"
 [ -d "$here/../target" ] && cp -r "$here/../target" "$work"
 git init -q "$work"
 mkdir -p "$work/crates/exported/src"
-echo "exported: graph sound" >> "$work/crates.txt"
+echo "exported: graph memory_tests" >> "$work/crates.txt"
 cat > "$work/crates/exported/src/lib.rt" <<'RT'
 // The soundness test for C.
 ghost use mathlib.Core.Path.{_≡_};
@@ -18,7 +18,7 @@ ghost use Rattle.graph.specs.Layout.{memoryRefusal};
 pub extern "C" fn memory_refusal(b: &[i64], t: &[i64]) -> usize
     ensures { λ r. ⌜ r ≡ memoryRefusal (now (b .entry)) (now (t .entry)) ⌝ }
 {
-    sound::refuse::refusal(b, t)
+    memory_tests::refuse::refusal(b, t)
 }
 RT
 (cd "$work" && rt staticlib exported > build.log 2>&1) || { tail "$work/build.log"; exit 1; }

@@ -1,12 +1,14 @@
-// Links the archive of crate `stream`: ARCHIVE names it, by default target/staticlib/libstream.a of the repository. LIBRARY names
-// the archive of the library, the calls on lent memory; without it the library is neither compared nor measured. CORES names the
-// archive that bench/cores.sh makes, for measuring calls without the test of the memory.
+// Links the archive of crate `lines_export`: ARCHIVE names it, by default target/staticlib/liblines_export.a of the
+// repository. LIBRARY names the archive of the library, the calls on lent memory; without it the library is neither
+// compared nor measured. CORES names the archive that bench/cores.sh makes, for measuring calls without the test of the
+// memory.
 use std::{env, path::PathBuf};
 
 fn main() {
     let here = env::var("CARGO_MANIFEST_DIR").unwrap();
-    let archive = env::var("ARCHIVE").unwrap_or_else(|_| format!("{here}/../target/staticlib/libstream.a"));
-    let archive = PathBuf::from(&archive).canonicalize().unwrap_or_else(|_| panic!("{archive} is missing: rt staticlib stream"));
+    let archive = env::var("ARCHIVE").unwrap_or_else(|_| format!("{here}/../target/staticlib/liblines_export.a"));
+    let missing = format!("{archive} is missing: rt staticlib lines_export");
+    let archive = PathBuf::from(&archive).canonicalize().unwrap_or_else(|_| panic!("{missing}"));
     println!("cargo:rerun-if-env-changed=ARCHIVE");
     println!("cargo:rerun-if-changed={}", archive.display());
     println!("cargo:rustc-link-arg={}", archive.display());

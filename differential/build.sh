@@ -1,7 +1,7 @@
-# Builds the archive of crate `stream` and the bench; sets `bench` to its program. Read by the other scripts; those that
+# Builds the archive of crate `lines_export` and the bench; sets `bench` to its program. Read by the other scripts; those that
 # set `with_library` get the calls on lent memory too, and those that set `with_cores` the calls without the test of the
 # memory.
-#   ARCHIVE         another archive with the call cardrun_lines (default: what `rt staticlib stream` writes)
+#   ARCHIVE         another archive with the call cardrun_lines (default: what `rt staticlib lines_export` writes)
 #   LIBRARY         another archive with the calls on lent memory (default: what tools/build-library.sh makes)
 #   CORES           another archive of bench/cores (default: what bench/cores.sh makes)
 #   FB_SRC          the folder of the three Rust files, which are not in the repository; it has no default
@@ -17,11 +17,11 @@ FB_SRC=$(cd "$FB_SRC" && pwd)
 export FB_SRC
 mkdir -p "$root/target"
 if [ -z "$ARCHIVE" ]; then
-    (cd "$root" && rt staticlib stream) > "$root/target/differential.log" 2>&1 || {
+    (cd "$root" && rt staticlib lines_export) > "$root/target/differential.log" 2>&1 || {
         tail "$root/target/differential.log"
         exit 1
     }
-    ARCHIVE=$root/target/staticlib/libstream.a
+    ARCHIVE=$root/target/staticlib/liblines_export.a
 fi
 export ARCHIVE
 export CARGO_TARGET_DIR="${CARGO_TARGET_DIR:-$root/target/differential}"

@@ -106,7 +106,7 @@ def main():
     missed = 0
     work = tempfile.mkdtemp()
     env = dict(os.environ, FB_SRC=os.path.join(work, 'src'), FOUND=os.path.join(work, 'found'))
-    for name, archive in (('ARCHIVE', 'libstream.a'), ('LIBRARY', '../lib/libfusion_blossom.a')):
+    for name, archive in (('ARCHIVE', 'liblines_export.a'), ('LIBRARY', '../lib/libfusion_blossom.a')):
         env.setdefault(name, os.path.join(ROOT, 'target', 'staticlib', archive))
     env.setdefault('CARGO_TARGET_DIR', os.path.join(ROOT, 'target', 'faults'))
     try:

@@ -3,8 +3,8 @@
 # target/lib/libfusion_blossom.a and libcardrun_lines.a for C (include/fusion_blossom.h). Needs the Rattle toolchain, cc
 # and ar.
 set -e
-calls='host host_sheet host_check host_round host_remove'  # the crates that export fb_open and the other calls
-lines=stream             # the crate that exports cardrun_lines
+calls='c_api c_api_sheet c_api_check c_api_round c_api_remove'  # the crates that export fb_open and the other calls
+lines=lines_export       # the crate that exports cardrun_lines
 cd "$(dirname "$0")/.."
 mkdir -p target/lib
 for crate in $calls $lines; do

@@ -1,4 +1,4 @@
-//! The exported calls of crate `host` on lent memory, at sizes that records do not have: their answers, tables,
+//! The exported calls of crate `c_api` on lent memory, at sizes that records do not have: their answers, tables,
 //! contacts, representative vertices and the words that they leave in the block are compared with the Rust's, and they
 //! are timed.
 use crate::graphs::{self, Graph, Weights};
@@ -375,7 +375,7 @@ fn cores_time(_: &[Record], _: &[Record]) -> (f64, Vec<i64>) {
 }
 
 const LIBRARY_CALLS: &str = "\
-Decoding runs again, without lines. **With the test**: the exported calls of crate `host`, each of which tests block and
+Decoding runs again, without lines. **With the test**: the exported calls of crate `c_api`, each of which tests block and
 scratch first, soundness included; the Rust has no such test. **Without**: the same calls on a block that was opened in
 the same call (bench/cores, proved like the rest, for measuring only), with reading each call from its record and less
 the time of the opening. Both leave the same words, which is checked.";

@@ -1,4 +1,4 @@
-//! The exported call of crate `stream`. A slice goes over as its address and its length.
+//! The exported call of crate `lines_export`. A slice goes over as its address and its length.
 mod c {
     extern "C" {
         pub fn cardrun_lines(records: *const u8, records_length: usize, lines: *mut u8, lines_length: usize) -> usize;

@@ -194,7 +194,7 @@ use lib.IntN.{{pos, negsuc}}
 use Rattle.graph.specs.State.{{State, Overgrown, NodeClass, defectVertex, blossom, removed}}
 use Rattle.graph.specs.Open.{{opened}}
 use Rattle.graph.specs.Sound.{{stateSound}}
-use Rattle.length.specs.declared.Answer.the-variants.{{NonZeroGrow, Unlimited, Conflicting, TouchingVirtual, BlossomNeedExpand, VertexShrinkStop, VertexShrinkStopPeer, Done, Node, Prepared, Vertex, Refused}}
+use Rattle.update_length.specs.declared.Answer.the-variants.{{NonZeroGrow, Unlimited, Conflicting, TouchingVirtual, BlossomNeedExpand, VertexShrinkStop, VertexShrinkStopPeer, Done, Node, Prepared, Vertex, Refused}}
 use Rattle.calls.specs.Calls.{{InsertDefect, InsertBlossom, SetGrowState, Prepare, MaxUpdateLength, Grow, ReadTable, Advance, Contacts, RepresentativeVertex, Clear, RenewActiveList, PrepareAll, GroupLength, Round, RemoveBlossom, answered, growths, touching, grouped, respond}}
 use Rattle.calls.specs.declared.group.GroupMaxUpdateLength.the-variants.{{NonZeroGrow as groupFree, Unlimited as groupUnlimited, Conflicts as groupConflicts, Refused as groupRefused}}
 use Rattle.calls.specs.Insert.{{occupied}}
@@ -341,7 +341,7 @@ def main():
     os.makedirs(specs, exist_ok=True)
     os.makedirs(os.path.join(top, 'crates', 'trial', 'src'), exist_ok=True)
     open(os.path.join(top, 'crates', 'trial', 'src', 'lib.rt'), 'w').write('// Tests only.\n')
-    open(os.path.join(top, 'crates.txt'), 'a').write('trial: graph memory pass length growth calls records\n')
+    open(os.path.join(top, 'crates.txt'), 'a').write('trial: graph open_graph pass update_length growth calls records\n')
     open(os.path.join(specs, 'Lib.antt'), 'w').write('-- Tests.\n' + ''.join(f'pub mod {m}\n' for m in modules))
     for m, text in modules.items(): open(os.path.join(specs, m + '.antt'), 'w').write(text)
     run = subprocess.run(['rt', 'check', 'trial'], cwd=top, capture_output=True, text=True)

@@ -3,22 +3,31 @@
 
 Run it from the top of the repository after adding, renaming or removing a definition."""
 import re
+import textwrap
 
 MODULES = {
     'graph': ['Basic', 'State', 'Open', 'Sound', 'Active', 'Node'],
     'pass': ['Work', 'Grow', 'Shrink', 'Prepare'],
-    'length': ['Answer', 'Scan'],
+    'update_length': ['Answer', 'Scan'],
     'growth': ['Growth'],
     'calls': ['Refuse', 'Insert', 'Occupied', 'Each', 'Round', 'Remove', 'Calls'],
     'records': ['Text', 'Record', 'Lines', 'Run'],
 }
-BELOW = {'graph': [], 'pass': ['graph'], 'length': [], 'growth': [], 'calls': ['pass', 'length', 'growth'], 'records': ['calls']}
+BELOW = {
+    'graph': [],
+    'pass': ['graph'],
+    'update_length': [],
+    'growth': [],
+    'calls': ['pass', 'update_length', 'growth'],
+    'records': ['calls'],
+}
 
 for crate, modules in MODULES.items():
     uses, names = [], []
     for below in BELOW[crate]:
-        uses.append(f'use Rattle.{below}.specs.Opens as {below.capitalize()}')
-        names.append(f'{below.capitalize()}.everything')
+        alias = below.title().replace('_', '')
+        uses.append(f'use Rattle.{below}.specs.Opens as {alias}')
+        names.append(f'{alias}.everything')
     for module in modules:
         text = open(f'crates/{crate}/specs/{module}.antt').read()
         uses.append(f'use Rattle.{crate}.specs.{module}')
@@ -28,4 +37,5 @@ for crate, modules in MODULES.items():
         out.write(f'-- A name that opens all definitions of this crate{and_below}: under `unfolding everything` a '
                   'closed term computes.\n')
         out.write('use Prim.Native.Nat.{ℕ}\n' + '\n'.join(uses) + '\n\n')
-        out.write('unfoldable pub everything : ℕ\nunfolding ' + ' '.join(names) + '\neverything = 0\n')
+        named = textwrap.fill(' '.join(names), 116, initial_indent='unfolding ', subsequent_indent='    ', break_on_hyphens=False)
+        out.write('unfoldable pub everything : ℕ\n' + named + '\neverything = 0\n')

@@ -1,3 +1,3 @@
 -- What the functions over the active list promise, and laws about it.
-pub mod Renewal
+pub mod inner
 pub mod laws

@@ -10,8 +10,10 @@ ghost use Rattle.graph.specs.State.{nodeCount, withActive};
 ghost use Rattle.graph.specs.Sound.{activeSound};
 ghost use Rattle.graph.specs.Active.{joinActive, activated, renewed};
 ghost use Rattle.graph.specs.Layout.{stateOf};
-ghost use Rattle.graph.specs.Form.{Laid, Formed, Becomes};
-ghost use Rattle.active_list.specs.Renewal.{keptAt, keptCount};
+ghost use Rattle.graph.specs.Form.{Laid, Formed};
+ghost use Rattle.graph.specs.inner.Form.{Becomes};
+ghost use Rattle.active_list.specs.inner.Renewal.{keptAt, keptCount};
+ghost use Rattle.graph.specs.Word.{wordLimit};
 use graph::node;
 use graph::rows;
 use store::clear;
@@ -20,7 +22,7 @@ use store::clear;
 
 // Place i of the list gets the number x.
 fn put_entry(b: &mut [i64], i: usize, x: usize)
-    requires { ⌜ Formed (now b) × (i < length (stateOf (now b) .active)) × (x < 9223372036854775808) ⌝ }
+    requires { ⌜ Formed (now b) × (i < length (stateOf (now b) .active)) × (x < wordLimit) ⌝ }
     ensures { λ r. ⌜ Becomes (now (b .entry)) (now (b .exit)) (withActive (stateOf (now (b .entry))) (set (stateOf (now (b .entry)) .active) i x)) ⌝ }
 {
     rows::put_active(b, i, x);
@@ -36,7 +38,7 @@ fn cut(b: &mut [i64], j: usize)
 
 // Node n goes behind the list, where there is room.
 fn push(b: &mut [i64], n: usize)
-    requires { ⌜ Formed (now b) × (length (stateOf (now b) .active) < stateOf (now b) .nodeLimit) × (n < 9223372036854775808) ⌝ }
+    requires { ⌜ Formed (now b) × (length (stateOf (now b) .active) < stateOf (now b) .nodeLimit) × (n < wordLimit) ⌝ }
     ensures { λ r. ⌜ Becomes (now (b .entry)) (now (b .exit)) (withActive (stateOf (now (b .entry))) (stateOf (now (b .entry)) .active ++ (n ∷ []))) ⌝ }
 {
     let k = rows::active_count(b);
@@ -79,7 +81,7 @@ pub fn activate(b: &mut [i64], n: usize, x: usize)
     requires { ⌜ Formed (now b) × (activeSound (stateOf (now b)) ≡ true) × (n < nodeCount (stateOf (now b))) ⌝ }
     ensures { λ r. ⌜ Becomes (now (b .entry)) (now (b .exit)) (activated (stateOf (now (b .entry))) n x) ⌝ }
 {
-    if (node::grow_state(b, n) == 0) & (x != 0) {
+    if (node::grow_state(b, n) == node::STAY) & (x != node::STAY) {
         join(b, n);
     }
 }
@@ -89,10 +91,13 @@ pub fn activate(b: &mut [i64], n: usize, x: usize)
 // Entry i is kept at place j where its node is not in Stay; how many are kept then.
 fn keep(b: &mut [i64], i: usize, j: usize) -> usize
     requires { ⌜ Formed (now b) × (j ≤ i) × (i < length (stateOf (now b) .active)) × (getD (stateOf (now b) .active) i 0 < nodeCount (stateOf (now b))) ⌝ }
-    ensures { λ r. ⌜ Becomes (now (b .entry)) (now (b .exit)) (withActive (stateOf (now (b .entry))) (keptAt (stateOf (now (b .entry))) i j)) × (r ≡ keptCount (stateOf (now (b .entry))) i j) ⌝ }
+    ensures { λ r.
+        ⌜ Becomes (now (b .entry)) (now (b .exit))
+        (withActive (stateOf (now (b .entry))) (keptAt (stateOf (now (b .entry))) i j))
+        × (r ≡ keptCount (stateOf (now (b .entry))) i j) ⌝ }
 {
     let n = rows::active_node(b, i);
-    if node::grow_state(b, n) == 0 {
+    if node::grow_state(b, n) == node::STAY {
         return j;
     }
     put_entry(b, j, n);

@@ -6,9 +6,9 @@ use mathlib.Core.List.{List, [], _∷_, _++_}
 use lib.IntN.{natAbs}
 use lib.Signed.{nonNeg}
 use lib.ListN.{length, drop}
-use Rattle.length.specs.declared.Answer.{Answer}
-use Rattle.length.specs.declared.Answer.the-variants.{NonZeroGrow, Unlimited, Conflicting, TouchingVirtual, BlossomNeedExpand, VertexShrinkStop, VertexShrinkStopPeer, Done, Node, Prepared, Vertex, Refused}
-use Rattle.length.specs.Answer.{flag}
+use Rattle.update_length.specs.declared.Answer.{Answer}
+use Rattle.update_length.specs.declared.Answer.the-variants.{NonZeroGrow, Unlimited, Conflicting, TouchingVirtual, BlossomNeedExpand, VertexShrinkStop, VertexShrinkStopPeer, Done, Node, Prepared, Vertex, Refused}
+use Rattle.update_length.specs.Answer.{flag}
 
 -- the number of its case, and its values; a length is told as its sign, 1 below 0 and 0 else, and its magnitude
 unfoldable pub answerNumbers : Answer → List ℕ

@@ -5,11 +5,11 @@ ghost use mathlib.Core.Bool.{not};
 ghost use Prim.Native.Nat.{_≤_};
 ghost use lib.Signed.{nonNeg};
 ghost use lib.ListN.{length};
-ghost use Rattle.length.specs.Answer.{flag};
-ghost use Rattle.length.specs.declared.Answer.the-variants.{NonZeroGrow};
+ghost use Rattle.update_length.specs.Answer.{flag};
+ghost use Rattle.update_length.specs.declared.Answer.the-variants.{NonZeroGrow};
 ghost use Rattle.answer_numbers.specs.Numbers.{answerNumbers, Tells};
 use graph::words;
-use length::Answer;
+use update_length::Answer;
 
 // The numbers are written over the front of the list; how many they are.
 pub fn front(list: &mut [usize], numbers: &[usize]) -> usize

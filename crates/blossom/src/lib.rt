@@ -4,29 +4,30 @@ ghost use mathlib.Core.Path.{_≡_};
 ghost use mathlib.Core.Logic.{_≢_};
 ghost use mathlib.Core.Bool.{not, true, false};
 ghost use mathlib.Core.List.{map};
-ghost use Prim.Native.Nat.{_+_, _*_, _<_};
+ghost use Prim.Native.Nat.{_+_, _<_};
 ghost use lib.Dec.{ltb};
 ghost use lib.ListN.{length};
 ghost use Rattle.graph.specs.Basic.{fold, all, any, distinct};
-ghost use Rattle.graph.specs.State.{sideCount, nodeCount, boundaryOf};
+ghost use Rattle.graph.specs.State.{nodeCount, boundaryOf};
 ghost use Rattle.graph.specs.Sound.{entries};
 ghost use Rattle.graph.specs.Word.{toNat};
 ghost use Rattle.graph.specs.Layout.{stateOf};
-ghost use Rattle.graph.specs.Form.{Formed, Becomes, sidesOk};
-ghost use Rattle.pass.specs.Scratch.{zeroScratch};
+ghost use Rattle.graph.specs.Form.{Formed};
+ghost use Rattle.graph.specs.inner.Form.{Becomes, sidesOk};
+ghost use Rattle.pass.specs.Scratch.{scratchOf};
 ghost use Rattle.calls.specs.Refuse.{badNode, inBlossom, entriesBut, storeShort};
 ghost use Rattle.calls.specs.Insert.{noCircle, blossomRefusal, prepareStep, joinSide, joinStep, joinCircle, insertBlossom};
-ghost use Rattle.blossom.specs.Circle.{Joinable, JoinedIn, joinedIn};
-ghost use Rattle.calls.specs.Reply.{Usable, RepliesInsert};
+ghost use Rattle.blossom.specs.inner.Circle.{Joinable, JoinedIn, joinedIn};
+ghost use Rattle.calls.specs.inner.Reply.{RepliesInsert, Usable};
 use calls::refuse;
 use graph::lists;
 use graph::node;
 use graph::rows;
 use graph::side;
 use graph::words;
-use length::Answer;
 use pass::scratch;
 use store::insert;
+use update_length::Answer;
 
 // ---- what refuses it
 
@@ -125,7 +126,7 @@ pub fn blossom_refusal(b: &[i64], x: usize, circle: &[i64]) -> usize
     requires { ⌜ Formed (now b) ⌝ }
     ensures { λ r. ⌜ r ≡ blossomRefusal (stateOf (now (b .entry))) x (map toNat (now (circle .entry))) ⌝ }
 {
-    if (2 < x) | any_bad(b, circle) {
+    if (node::SHRINK < x) | any_bad(b, circle) {
         return 3;
     }
     if any_inner(b, circle) {
@@ -144,8 +145,11 @@ pub fn blossom_refusal(b: &[i64], x: usize, circle: &[i64]) -> usize
 
 // Each member of the circle is prepared for shrinking.
 fn prepare_members(b: &mut [i64], t: &mut [i64], circle: &[i64])
-    requires { ⌜ Formed (now b) × (now t ≡ zeroScratch (3 * sideCount (stateOf (now b)))) × Joinable (stateOf (now b)) (map toNat (now circle)) ⌝ }
-    ensures { λ r. ⌜ Becomes (now (b .entry)) (now (b .exit)) (fold prepareStep (stateOf (now (b .entry))) (map toNat (now (circle .entry)))) × (now (t .exit) ≡ now (t .entry)) × Joinable (stateOf (now (b .exit))) (map toNat (now (circle .entry))) ⌝ }
+    requires { ⌜ Formed (now b) × (now t ≡ scratchOf (stateOf (now b))) × Joinable (stateOf (now b)) (map toNat (now circle)) ⌝ }
+    ensures { λ r.
+        ⌜ Becomes (now (b .entry)) (now (b .exit))
+        (fold prepareStep (stateOf (now (b .entry))) (map toNat (now (circle .entry))))
+        × (now (t .exit) ≡ now (t .entry)) × Joinable (stateOf (now (b .exit))) (map toNat (now (circle .entry))) ⌝ }
 {
     let mut i = 0;
     while i < circle.len() {
@@ -157,8 +161,11 @@ fn prepare_members(b: &mut [i64], t: &mut [i64], circle: &[i64])
 
 // The sides that member m holds join the boundary of blossom n, behind the k that stand at the front of t; how many they are then.
 fn join_sides(b: &mut [i64], t: &mut [i64], m: usize, n: usize, k: usize) -> usize
-    requires { ⌜ JoinedIn (now b) (now b) (now t) n k (joinedIn (now b) (now t) k) × (m < nodeCount (stateOf (now b))) × (sidesOk (stateOf (now b)) m ≡ true) × (n < 1024) × (m ≢ n) ⌝ }
-    ensures { λ r. ⌜ JoinedIn (now (b .entry)) (now (b .exit)) (now (t .exit)) n r (fold (joinSide n m) (joinedIn (now (b .entry)) (now (t .entry)) k) (boundaryOf (stateOf (now (b .entry))) m)) ⌝ }
+    requires { ⌜ JoinedIn (now b) (now b) (now t) n k (joinedIn (now b) (now t) k) × (m < nodeCount (stateOf (now b)))
+        × (sidesOk (stateOf (now b)) m ≡ true) × (n < 1024) × (m ≢ n) ⌝ }
+    ensures { λ r.
+        ⌜ JoinedIn (now (b .entry)) (now (b .exit)) (now (t .exit)) n r
+        (fold (joinSide n m) (joinedIn (now (b .entry)) (now (t .entry)) k) (boundaryOf (stateOf (now (b .entry))) m)) ⌝ }
 {
     let l = lists::boundary_len(b, m);
     let mut i = 0;
@@ -179,19 +186,24 @@ fn join_sides(b: &mut [i64], t: &mut [i64], m: usize, n: usize, k: usize) -> usi
 
 // Member m is joined to blossom n: its sides, and it becomes Stay and lies in n.
 fn join_member(b: &mut [i64], t: &mut [i64], m: usize, n: usize, k: usize) -> usize
-    requires { ⌜ JoinedIn (now b) (now b) (now t) n k (joinedIn (now b) (now t) k) × (m < nodeCount (stateOf (now b))) × (sidesOk (stateOf (now b)) m ≡ true) × (n < 1024) × (m ≢ n) ⌝ }
+    requires { ⌜ JoinedIn (now b) (now b) (now t) n k (joinedIn (now b) (now t) k) × (m < nodeCount (stateOf (now b)))
+        × (sidesOk (stateOf (now b)) m ≡ true) × (n < 1024) × (m ≢ n) ⌝ }
     ensures { λ r. ⌜ JoinedIn (now (b .entry)) (now (b .exit)) (now (t .exit)) n r (joinStep n (joinedIn (now (b .entry)) (now (t .entry)) k) m) ⌝ }
 {
     let q = join_sides(b, t, m, n, k);
-    node::set_grow_state(b, m, 0);
+    node::set_grow_state(b, m, node::STAY);
     node::set_parent(b, m, n + 1);
     q
 }
 
 // The members of the circle are joined to blossom n, whose sides are written at the front of t; how many they are.
 fn join_members(b: &mut [i64], t: &mut [i64], circle: &[i64], n: usize) -> usize
-    requires { ⌜ Formed (now b) × (now t ≡ zeroScratch (3 * sideCount (stateOf (now b)))) × Joinable (stateOf (now b)) (map toNat (now circle)) × (n ≡ nodeCount (stateOf (now b))) ⌝ }
-    ensures { λ r. ⌜ JoinedIn (now (b .entry)) (now (b .exit)) (now (t .exit)) n r (fold (joinStep n) (joinedIn (now (b .entry)) (now (t .entry)) 0) (map toNat (now (circle .entry)))) × Joinable (stateOf (now (b .exit))) (map toNat (now (circle .entry))) ⌝ }
+    requires { ⌜ Formed (now b) × (now t ≡ scratchOf (stateOf (now b)))
+        × Joinable (stateOf (now b)) (map toNat (now circle)) × (n ≡ nodeCount (stateOf (now b))) ⌝ }
+    ensures { λ r.
+        ⌜ JoinedIn (now (b .entry)) (now (b .exit)) (now (t .exit)) n r
+        (fold (joinStep n) (joinedIn (now (b .entry)) (now (t .entry)) 0) (map toNat (now (circle .entry))))
+        × Joinable (stateOf (now (b .exit))) (map toNat (now (circle .entry))) ⌝ }
 {
     let mut i = 0;
     let mut k = 0;
@@ -205,8 +217,12 @@ fn join_members(b: &mut [i64], t: &mut [i64], circle: &[i64], n: usize) -> usize
 
 // The members of the circle are prepared, then joined to the next node n.
 fn join_circle(b: &mut [i64], t: &mut [i64], circle: &[i64], n: usize) -> usize
-    requires { ⌜ Formed (now b) × (now t ≡ zeroScratch (3 * sideCount (stateOf (now b)))) × Joinable (stateOf (now b)) (map toNat (now circle)) × (n ≡ nodeCount (stateOf (now b))) ⌝ }
-    ensures { λ r. ⌜ JoinedIn (now (b .entry)) (now (b .exit)) (now (t .exit)) n r (joinCircle (stateOf (now (b .entry))) (map toNat (now (circle .entry)))) × Joinable (stateOf (now (b .exit))) (map toNat (now (circle .entry))) ⌝ }
+    requires { ⌜ Formed (now b) × (now t ≡ scratchOf (stateOf (now b)))
+        × Joinable (stateOf (now b)) (map toNat (now circle)) × (n ≡ nodeCount (stateOf (now b))) ⌝ }
+    ensures { λ r.
+        ⌜ JoinedIn (now (b .entry)) (now (b .exit)) (now (t .exit)) n r
+        (joinCircle (stateOf (now (b .entry))) (map toNat (now (circle .entry))))
+        × Joinable (stateOf (now (b .exit))) (map toNat (now (circle .entry))) ⌝ }
 {
     prepare_members(b, t, circle);
     join_members(b, t, circle, n)
@@ -217,7 +233,10 @@ fn join_circle(b: &mut [i64], t: &mut [i64], circle: &[i64], n: usize) -> usize
 // The next node is a blossom of the circle, in grow state x.
 pub fn insert_blossom(b: &mut [i64], t: &mut [i64], x: usize, circle: &[i64]) -> Answer
     requires { ⌜ Usable (now b) (now t) ⌝ }
-    ensures { λ r. ⌜ RepliesInsert (now (b .entry)) (now (b .exit)) r (insertBlossom (stateOf (now (b .entry))) x (map toNat (now (circle .entry)))) × (now (t .exit) ≡ now (t .entry)) ⌝ }
+    ensures { λ r.
+        ⌜ RepliesInsert (now (b .entry)) (now (b .exit)) r
+        (insertBlossom (stateOf (now (b .entry))) x (map toNat (now (circle .entry))))
+        × (now (t .exit) ≡ now (t .entry)) ⌝ }
 {
     let k = blossom_refusal(b, x, circle);
     if k != 0 {

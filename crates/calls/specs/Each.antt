@@ -8,12 +8,12 @@ use Rattle.graph.specs.Basic.{if_then_else_, only, below}
 use Rattle.graph.specs.State.{State, defectVertex, blossom, removed, edgeCount, growthAt, weightAt, classOf, growStateOf, withGrowState, stay, growing, shrinking, down, up}
 use Rattle.graph.specs.Open.{cleared}
 use Rattle.graph.specs.Active.{activated}
-use Rattle.length.specs.declared.Answer.{Answer}
-use Rattle.length.specs.declared.Answer.the-variants.{NonZeroGrow, Unlimited, Conflicting, TouchingVirtual, BlossomNeedExpand, VertexShrinkStop, VertexShrinkStopPeer, Done, Node, Prepared, Refused, Vertex}
-use Rattle.length.specs.Answer.{Reply, says}
+use Rattle.update_length.specs.declared.Answer.{Answer}
+use Rattle.update_length.specs.declared.Answer.the-variants.{NonZeroGrow, Unlimited, Conflicting, TouchingVirtual, BlossomNeedExpand, VertexShrinkStop, VertexShrinkStopPeer, Done, Node, Prepared, Refused, Vertex}
+use Rattle.update_length.specs.Answer.{Reply, says}
 use Rattle.calls.specs.Refuse.{badNode, nodeRefusal, storeShort, unless}
 use Rattle.pass.specs.Prepare.{prepareNode}
-use Rattle.length.specs.Scan.{scan}
+use Rattle.update_length.specs.Scan.{scan}
 use Rattle.growth.specs.Growth.{growCheck, growApply}
 
 -- ---- set state
@@ -24,7 +24,9 @@ setGrowState c n x = unless (nodeRefusal c n (ltb shrinking x) false) c (record 
 -- ---- prepare
 
 unfoldable pub prepareDualNodeGrowth : State → ℕ → ℕ → Reply
-prepareDualNodeGrowth c n d = unless (nodeRefusal c n (ltb up d) (storeShort c (n ∷ []) 1)) c (record { answer = Prepared (prepareNode c n d .passes); state = prepareNode c n d .state })
+prepareDualNodeGrowth c n d =
+    unless (nodeRefusal c n (ltb up d) (storeShort c (n ∷ []) 1)) c
+    (record { answer = Prepared (prepareNode c n d .passes); state = prepareNode c n d .state })
 
 -- ---- length
 

@@ -10,13 +10,16 @@ use Rattle.graph.specs.Basic.{if_then_else_, fold, all, only}
 use Rattle.graph.specs.State.{State, growStateOf, growing, shrinking, down, up}
 use Rattle.graph.specs.Sound.{stateSound}
 use Rattle.graph.specs.Active.{renewed, activeIn}
-use Rattle.length.specs.declared.Answer.{Answer}
-use Rattle.length.specs.declared.Answer.the-variants.{NonZeroGrow, Unlimited, Conflicting, TouchingVirtual, BlossomNeedExpand, VertexShrinkStop, VertexShrinkStopPeer, Done, Node, Prepared, Refused, Vertex}
-use Rattle.length.specs.Answer.{Reply, says}
+use Rattle.update_length.specs.declared.Answer.{Answer}
+use Rattle.update_length.specs.declared.Answer.the-variants.{NonZeroGrow, Unlimited, Conflicting, TouchingVirtual, BlossomNeedExpand, VertexShrinkStop, VertexShrinkStopPeer, Done, Node, Prepared, Refused, Vertex}
+use Rattle.update_length.specs.Answer.{Reply, says}
 -- what the group answers: the least length that is left, no limit, how many conflicts and how many stops it has listed, or a refusal
 pub use Rattle.calls.specs.declared.group.GroupMaxUpdateLength.{GroupMaxUpdateLength as Group}
-pub use Rattle.calls.specs.declared.group.GroupMaxUpdateLength.the-variants.{NonZeroGrow as groupFree, Unlimited as groupUnlimited, Conflicts as groupConflicts, Refused as groupRefused}
-use Rattle.length.specs.Scan.{lesser, scan}
+pub use Rattle.calls.specs.declared.group.GroupMaxUpdateLength.the-variants.{NonZeroGrow as groupFree}
+pub use Rattle.calls.specs.declared.group.GroupMaxUpdateLength.the-variants.{Unlimited as groupUnlimited}
+pub use Rattle.calls.specs.declared.group.GroupMaxUpdateLength.the-variants.{Conflicts as groupConflicts}
+pub use Rattle.calls.specs.declared.group.GroupMaxUpdateLength.the-variants.{Refused as groupRefused}
+use Rattle.update_length.specs.Scan.{lesser, scan}
 use Rattle.calls.specs.Refuse.{unless}
 use Rattle.calls.specs.Each.{prepareDualNodeGrowth, growToward, toward}
 
@@ -213,4 +216,5 @@ unfoldable pub groupLength : State → GroupReply
 groupLength c =
     let t : Tried = preparedAll c in
     let xs : List Answer = answersOf (t .state) (t .state .active) in
-    if eqb (groupRefusal t) 0 then record { group = groupOf xs; listed = listedBy xs; state = t .state } else record { group = groupRefused (groupRefusal t); listed = []; state = c }
+    if eqb (groupRefusal t) 0 then record { group = groupOf xs; listed = listedBy xs; state = t .state }
+    else record { group = groupRefused (groupRefusal t); listed = []; state = c }

@@ -6,18 +6,19 @@ use lib.IntN.{pos, negsuc}
 use Rattle.graph.specs.State.{State, defectVertex}
 use Rattle.graph.specs.Open.{opened}
 use Rattle.graph.specs.Sound.{sound}
-use Rattle.length.specs.declared.Answer.the-variants.{Conflicting, TouchingVirtual, VertexShrinkStop, Done, Node, Refused}
+use Rattle.update_length.specs.declared.Answer.the-variants.{Conflicting, TouchingVirtual, VertexShrinkStop, Done, Node, Refused}
 use Rattle.calls.specs.Calls.{InsertDefect, SetGrowState, ReadTable, RenewActiveList, GroupLength, Round, answered, growths, grouped}
 use Rattle.calls.specs.Round.{groupFree, groupUnlimited, groupConflicts, prepareAll}
 use Rattle.calls.specs.Examples.{_gives_, Example, given, wanted, edge}
 use Rattle.calls.specs.Opens.{everything}
 
-unfoldable pub examples : List Example
-examples =
+unfoldable pub roundExamples : List Example
+roundExamples =
     -- without an active node the group is unlimited and not empty, and a round of any length above 0 is done
     record {
       start = opened 4 4 40 (edge 0 1 4 ∷ edge 1 2 4 ∷ edge 2 3 4 ∷ []) (0 ∷ 3 ∷ []);
-      lines = GroupLength gives grouped (groupUnlimited false) [] ∷ Round (pos 1000000001) gives answered Done ∷ Round (pos 0) gives answered (Refused 14) ∷ Round (negsuc 0) gives answered (Refused 14) ∷ [];
+      lines = GroupLength gives grouped (groupUnlimited false) [] ∷ Round (pos 1000000001) gives answered Done
+          ∷ Round (pos 0) gives answered (Refused 14) ∷ Round (negsuc 0) gives answered (Refused 14) ∷ [];
     } ∷
     -- two defects grow toward each other, half of the gap each; then they conflict, as each of them meets it
     record {
@@ -50,18 +51,25 @@ examples =
     record {
       start = opened 4 4 80 (edge 0 1 2 ∷ edge 1 2 2 ∷ edge 2 3 2 ∷ []) (3 ∷ []);
       lines =
-          InsertDefect 2 0 gives answered (Node 0) ∷ InsertDefect 0 2 gives answered (Node 1) ∷ RenewActiveList gives answered Done ∷ SetGrowState 0 2 gives answered Done
+          InsertDefect 2 0 gives answered (Node 0) ∷ InsertDefect 0 2 gives answered (Node 1)
+          ∷ RenewActiveList gives answered Done ∷ SetGrowState 0 2 gives answered Done
           ∷ GroupLength gives grouped (groupConflicts 0 2) (VertexShrinkStop 0 ∷ VertexShrinkStop 1 ∷ []) ∷ [];
     } ∷ []
 
-pub worked : map (λ (x : Example). given (x .start) (x .lines)) examples ≡ map (λ (x : Example). wanted (x .lines)) examples
-unfolding everything given wanted edge examples
-worked = refl
+pub rounds-worked : map (λ (x : Example). given (x .start) (x .lines)) roundExamples ≡ map (λ (x : Example). wanted (x .lines)) roundExamples
+unfolding everything given wanted edge roundExamples
+rounds-worked = refl
 
 -- a sound state that no list of calls reaches: node 0 shrinks off vertex 0 and frees what node 1 lists; growing node 1 would list 7 of 6 sides
 pub star : State
 star = record {
-  graph = record { end = 0 ∷ 1 ∷ 0 ∷ 2 ∷ 0 ∷ 3 ∷ []; weight = 2 ∷ 4 ∷ 4 ∷ []; at = (0 ∷ 2 ∷ 4 ∷ []) ∷ (1 ∷ []) ∷ (3 ∷ []) ∷ (5 ∷ []) ∷ []; virtual = 0 ∷ 0 ∷ 0 ∷ 0 ∷ [] };
+  graph =
+      record {
+        end = 0 ∷ 1 ∷ 0 ∷ 2 ∷ 0 ∷ 3 ∷ [];
+        weight = 2 ∷ 4 ∷ 4 ∷ [];
+        at = (0 ∷ 2 ∷ 4 ∷ []) ∷ (1 ∷ []) ∷ (3 ∷ []) ∷ (5 ∷ []) ∷ [];
+        virtual = 0 ∷ 0 ∷ 0 ∷ 0 ∷ [];
+      };
   vertices = record { defect = 0 ∷ 0 ∷ 0 ∷ 0 ∷ []; vertexHolder = 1 ∷ 2 ∷ 0 ∷ 0 ∷ []; vertexGrandson = 1 ∷ 2 ∷ 0 ∷ 0 ∷ [] };
   sides = record { growth = 0 ∷ 2 ∷ 0 ∷ 0 ∷ 0 ∷ 0 ∷ []; holder = 2 ∷ 2 ∷ 2 ∷ 2 ∷ 2 ∷ 2 ∷ []; grandson = 2 ∷ 2 ∷ 2 ∷ 2 ∷ 2 ∷ 2 ∷ [] };
   nodes = record {

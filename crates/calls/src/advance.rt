@@ -7,25 +7,30 @@ ghost use lib.Dec.{eqb};
 ghost use Rattle.graph.specs.State.{stay, growStateOf};
 ghost use Rattle.graph.specs.Layout.{stateOf};
 ghost use Rattle.graph.specs.Form.{Formed};
-ghost use Rattle.calls.specs.Reply.{Usable, Replies};
+ghost use Rattle.calls.specs.inner.Reply.{Replies, Usable};
 ghost use Rattle.calls.specs.Calls.{maxUpdateLength, toward, advanceBy, advance};
 use crate::core;
 use crate::refuse;
+use graph::dual_node::DOWN;
+use graph::dual_node::UP;
 use graph::node;
 use graph::rows;
-use length::Answer;
+use update_length::Answer;
 
 // The direction of a node in grow state x.
 pub fn direction(x: usize) -> usize
     ensures { λ r. ⌜ (r ≡ toward x) × (r ≤ 1) ⌝ }
 {
-    if x == 1 { 1 } else { 0 }
+    if x == node::GROW { UP } else { DOWN }
 }
 
 // A node n in grow state x, which is not Stay, grows on a free answer with a limit; any other answer is handed back.
 fn advance_by(b: &mut [i64], t: &mut [i64], n: usize, x: usize) -> Answer
     requires { ⌜ Usable (now b) (now t) ⌝ }
-    ensures { λ r. ⌜ Replies (now (b .entry)) (now (b .exit)) r (advanceBy n x (maxUpdateLength (stateOf (now (b .entry))) n (toward x) true)) × (now (t .exit) ≡ now (t .entry)) ⌝ }
+    ensures { λ r.
+        ⌜ Replies (now (b .entry)) (now (b .exit)) r
+        (advanceBy n x (maxUpdateLength (stateOf (now (b .entry))) n (toward x) true))
+        × (now (t .exit) ≡ now (t .entry)) ⌝ }
 {
     let d = direction(x);
     let answer = core::length_prepared(b, t, n, d);
@@ -55,7 +60,7 @@ pub fn moves(b: &[i64], n: usize) -> bool
     if rows::node_count(b) <= n {
         false
     } else {
-        node::grow_state(b, n) != 0
+        node::grow_state(b, n) != node::STAY
     }
 }
 
@@ -69,7 +74,7 @@ pub fn advance(b: &mut [i64], t: &mut [i64], n: usize) -> Answer
         return Answer::Refused(k);
     }
     let x = node::grow_state(b, n);
-    if x == 0 {
+    if x == node::STAY {
         return Answer::Done;
     }
     advance_by(b, t, n, x)

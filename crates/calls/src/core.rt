@@ -9,22 +9,24 @@ ghost use Rattle.graph.specs.Sound.{sound};
 ghost use Rattle.graph.specs.Layout.{stateOf};
 ghost use Rattle.graph.specs.Form.{Formed};
 ghost use Rattle.graph.specs.Opening.{Cleared};
-ghost use Rattle.calls.specs.Reply.{Usable, Steady, along, Replies};
-ghost use Rattle.growth.specs.Moving.{Prepared};
+ghost use Rattle.calls.specs.inner.Reply.{Replies, along, MemoryPreparable, Usable};
+ghost use Rattle.growth.specs.inner.Moving.{PreparedToMove};
 ghost use Rattle.calls.specs.Calls.{setGrowState, prepareDualNodeGrowth, maxUpdateLength, growPrepared, growToward, growDualNode, clear};
+ghost use Rattle.graph.specs.Word.{wordLimit};
 use crate::refuse;
+use graph::dual_node::UP;
 use graph::node;
 use graph::words;
-use length::Answer;
-use length::scan;
 use store::clear;
+use update_length::Answer;
+use update_length::scan;
 
 // Node n gets the grow state x, and joins the active list where it leaves Stay.
 pub fn set_grow_state(b: &mut [i64], n: usize, x: usize) -> Answer
     requires { ⌜ Formed (now b) × (sound (stateOf (now b)) ≡ true) ⌝ }
     ensures { λ r. ⌜ Replies (now (b .entry)) (now (b .exit)) r (setGrowState (stateOf (now (b .entry))) n x) ⌝ }
 {
-    let k = refuse::node_refusal(b, n, 2 < x, false);
+    let k = refuse::node_refusal(b, n, node::SHRINK < x, false);
     if k != 0 {
         return Answer::Refused(k);
     }
@@ -35,10 +37,10 @@ pub fn set_grow_state(b: &mut [i64], n: usize, x: usize) -> Answer
 
 // Node n is prepared to grow in direction d, in which it can be.
 pub fn prepare_toward(b: &mut [i64], t: &mut [i64], n: usize, d: usize) -> Answer
-    requires { ⌜ Steady (now b) (now t) n d ⌝ }
+    requires { ⌜ MemoryPreparable (now b) (now t) n d ⌝ }
     ensures { λ r. ⌜ Replies (now (b .entry)) (now (b .exit)) r (prepareDualNodeGrowth (stateOf (now (b .entry))) n d) × (now (t .exit) ≡ now (t .entry)) ⌝ }
 {
-    let k = refuse::node_refusal(b, n, 1 < d, true);
+    let k = refuse::node_refusal(b, n, UP < d, true);
     if k != 0 {
         return Answer::Refused(k);
     }
@@ -59,7 +61,7 @@ pub fn length_unprepared(b: &[i64], n: usize, d: usize) -> Answer
     requires { ⌜ Formed (now b) × (sound (stateOf (now b)) ≡ true) ⌝ }
     ensures { λ r. ⌜ Replies (now (b .entry)) (now (b .entry)) r (maxUpdateLength (stateOf (now (b .entry))) n d false) ⌝ }
 {
-    let k = refuse::node_refusal(b, n, 1 < d, false);
+    let k = refuse::node_refusal(b, n, UP < d, false);
     if k != 0 {
         return Answer::Refused(k);
     }
@@ -69,9 +71,11 @@ pub fn length_unprepared(b: &[i64], n: usize, d: usize) -> Answer
 // How far node n may grow in direction d, prepared first. It can be prepared so again.
 pub fn length_prepared(b: &mut [i64], t: &mut [i64], n: usize, d: usize) -> Answer
     requires { ⌜ Usable (now b) (now t) ⌝ }
-    ensures { λ r. ⌜ Replies (now (b .entry)) (now (b .exit)) r (maxUpdateLength (stateOf (now (b .entry))) n d true) × (now (t .exit) ≡ now (t .entry)) × Steady (now (b .exit)) (now (t .exit)) n d ⌝ }
+    ensures { λ r.
+        ⌜ Replies (now (b .entry)) (now (b .exit)) r (maxUpdateLength (stateOf (now (b .entry))) n d true)
+        × (now (t .exit) ≡ now (t .entry)) × MemoryPreparable (now (b .exit)) (now (t .exit)) n d ⌝ }
 {
-    let k = refuse::node_refusal(b, n, 1 < d, true);
+    let k = refuse::node_refusal(b, n, UP < d, true);
     if k != 0 {
         return Answer::Refused(k);
     }
@@ -98,7 +102,7 @@ pub fn compute_maximum_update_length_dual_node(
 
 // A prepared node n grows by l in direction d, or is refused.
 fn grow_prepared(b: &mut [i64], n: usize, d: usize, l: usize) -> Answer
-    requires { ⌜ Formed (now b) × Prepared (stateOf (now b)) n × (l ≤ 9223372036854775808) ⌝ }
+    requires { ⌜ Formed (now b) × PreparedToMove (stateOf (now b)) n × (l ≤ wordLimit) ⌝ }
     ensures { λ r. ⌜ Replies (now (b .entry)) (now (b .exit)) r (growPrepared (stateOf (now (b .entry))) n d l) ⌝ }
 {
     let k = growth::grow_check(b, n, d, l);
@@ -111,7 +115,7 @@ fn grow_prepared(b: &mut [i64], n: usize, d: usize, l: usize) -> Answer
 
 // Node n is prepared and grows by l in direction d, or is refused.
 pub fn grow_toward(b: &mut [i64], t: &mut [i64], n: usize, d: usize, l: usize) -> Answer
-    requires { ⌜ Steady (now b) (now t) n d × (l ≤ 9223372036854775808) ⌝ }
+    requires { ⌜ MemoryPreparable (now b) (now t) n d × (l ≤ wordLimit) ⌝ }
     ensures { λ r. ⌜ Replies (now (b .entry)) (now (b .exit)) r (growToward (stateOf (now (b .entry))) n d l) × (now (t .exit) ≡ now (t .entry)) ⌝ }
 {
     let k = refuse::node_refusal(b, n, false, true);
@@ -136,8 +140,10 @@ pub fn grow_none(b: &[i64], n: usize, d: usize, length: i64) -> Answer
 
 // Node n grows by a length in direction d: below 0, upward turns to downward.
 pub fn grow_along(b: &mut [i64], t: &mut [i64], n: usize, d: usize, length: i64) -> Answer
-    requires { ⌜ Steady (now b) (now t) n d × (d ≤ 1) × (nonNeg length ≡ false → d ≡ 1) ⌝ }
-    ensures { λ r. ⌜ Replies (now (b .entry)) (now (b .exit)) r (growDualNode (stateOf (now (b .entry))) n (along d length)) × (now (t .exit) ≡ now (t .entry)) ⌝ }
+    requires { ⌜ MemoryPreparable (now b) (now t) n d × (d ≤ 1) × (nonNeg length ≡ false → d ≡ 1) ⌝ }
+    ensures { λ r.
+        ⌜ Replies (now (b .entry)) (now (b .exit)) r (growDualNode (stateOf (now (b .entry))) n (along d length))
+        × (now (t .exit) ≡ now (t .entry)) ⌝ }
 {
     let l = words::magnitude(length);
     if l == 0 {
@@ -160,7 +166,9 @@ pub fn grow_dual_node(b: &mut [i64], t: &mut [i64], n: usize, length: i64) -> An
 // Everything but the graph is emptied.
 pub fn clear_all(b: &mut [i64]) -> Answer
     requires { ⌜ Formed (now b) ⌝ }
-    ensures { λ r. ⌜ (r ≡ clear (stateOf (now (b .entry))) .answer) × (stateOf (now (b .exit)) ≡ clear (stateOf (now (b .entry))) .state) × Cleared (now (b .entry)) (now (b .exit)) ⌝ }
+    ensures { λ r.
+        ⌜ (r ≡ clear (stateOf (now (b .entry))) .answer)
+        × (stateOf (now (b .exit)) ≡ clear (stateOf (now (b .entry))) .state) × Cleared (now (b .entry)) (now (b .exit)) ⌝ }
 {
     clear::clear(b);
     Answer::Done

@@ -2,32 +2,35 @@
 
 ghost use mathlib.Core.Path.{_≡_};
 ghost use mathlib.Core.List.{[]};
-ghost use Prim.Native.Nat.{_+_, _*_, _<_};
+ghost use Prim.Native.Nat.{_+_, _<_};
 ghost use lib.ListN.{length};
 ghost use Rattle.graph.specs.Basic.{fold};
 ghost use Rattle.graph.specs.State.{vertexCount, sideCount, sidesAt, withDefect, heldVertex};
 ghost use Rattle.graph.specs.Layout.{stateOf};
-ghost use Rattle.graph.specs.Form.{Formed, Becomes};
-ghost use Rattle.pass.specs.Scratch.{zeroScratch, Holding};
+ghost use Rattle.graph.specs.Form.{Formed};
+ghost use Rattle.graph.specs.inner.Form.{Becomes};
+ghost use Rattle.pass.specs.Scratch.{scratchOf};
+ghost use Rattle.pass.specs.inner.Scratch.{ScratchHolds};
 ghost use Rattle.calls.specs.Insert.{defectRefusal, holdStep, insertDefect};
-ghost use Rattle.calls.specs.Reply.{Usable, RepliesInsert};
+ghost use Rattle.calls.specs.inner.Reply.{RepliesInsert, Usable};
 use crate::occupied;
 use crate::refuse;
+use graph::node;
 use graph::rows;
 use graph::side;
 use graph::sides;
 use graph::vertex;
 use graph::words;
-use length::Answer;
 use pass::scratch;
 use store::insert;
+use update_length::Answer;
 
 // What refuses a defect at vertex v in grow state x: 0 or the number.
 pub fn defect_refusal(b: &[i64], v: usize, x: usize) -> usize
     requires { ⌜ Formed (now b) ⌝ }
     ensures { λ r. ⌜ r ≡ defectRefusal (stateOf (now (b .entry))) v x ⌝ }
 {
-    if (rows::vertex_count(b) <= v) | (2 < x) {
+    if (rows::vertex_count(b) <= v) | (node::SHRINK < x) {
         return 3;
     }
     let looked = occupied::occupied(b, v);
@@ -42,8 +45,12 @@ pub fn defect_refusal(b: &[i64], v: usize, x: usize) -> usize
 
 // The sides at vertex v are held by node n, and written at the front of t; how many they are.
 fn hold_sides(b: &mut [i64], t: &mut [i64], v: usize, n: usize) -> usize
-    requires { ⌜ Formed (now b) × (v < vertexCount (stateOf (now b))) × (n < 1024) × (now t ≡ zeroScratch (3 * sideCount (stateOf (now b)))) ⌝ }
-    ensures { λ r. ⌜ Becomes (now (b .entry)) (now (b .exit)) (fold (holdStep n) (stateOf (now (b .entry))) (sidesAt (stateOf (now (b .entry))) v)) × Holding (now (t .exit)) (sideCount (stateOf (now (b .entry)))) (sidesAt (stateOf (now (b .entry))) v) [] [] × (r ≡ length (sidesAt (stateOf (now (b .entry))) v)) ⌝ }
+    requires { ⌜ Formed (now b) × (v < vertexCount (stateOf (now b))) × (n < 1024) × (now t ≡ scratchOf (stateOf (now b))) ⌝ }
+    ensures { λ r.
+        ⌜ Becomes (now (b .entry)) (now (b .exit))
+        (fold (holdStep n) (stateOf (now (b .entry))) (sidesAt (stateOf (now (b .entry))) v))
+        × ScratchHolds (now (t .exit)) (sideCount (stateOf (now (b .entry)))) (sidesAt (stateOf (now (b .entry))) v) [] []
+        × (r ≡ length (sidesAt (stateOf (now (b .entry))) v)) ⌝ }
 {
     let l = sides::sides_len(b, v);
     let mut i = 0;
@@ -58,8 +65,13 @@ fn hold_sides(b: &mut [i64], t: &mut [i64], v: usize, n: usize) -> usize
 
 // Vertex v becomes a defect that node n holds, with the sides there, which are written at the front of t; how many they are.
 fn hold_defect(b: &mut [i64], t: &mut [i64], v: usize, n: usize) -> usize
-    requires { ⌜ Formed (now b) × (v < vertexCount (stateOf (now b))) × (n < 1024) × (now t ≡ zeroScratch (3 * sideCount (stateOf (now b)))) ⌝ }
-    ensures { λ r. ⌜ Becomes (now (b .entry)) (now (b .exit)) (fold (holdStep n) (heldVertex (withDefect (stateOf (now (b .entry))) v 1) v n (n + 1)) (sidesAt (stateOf (now (b .entry))) v)) × Holding (now (t .exit)) (sideCount (stateOf (now (b .entry)))) (sidesAt (stateOf (now (b .entry))) v) [] [] × (r ≡ length (sidesAt (stateOf (now (b .entry))) v)) ⌝ }
+    requires { ⌜ Formed (now b) × (v < vertexCount (stateOf (now b))) × (n < 1024) × (now t ≡ scratchOf (stateOf (now b))) ⌝ }
+    ensures { λ r.
+        ⌜ Becomes (now (b .entry)) (now (b .exit))
+        (fold (holdStep n) (heldVertex (withDefect (stateOf (now (b .entry))) v 1) v n (n + 1))
+        (sidesAt (stateOf (now (b .entry))) v))
+        × ScratchHolds (now (t .exit)) (sideCount (stateOf (now (b .entry)))) (sidesAt (stateOf (now (b .entry))) v) [] []
+        × (r ≡ length (sidesAt (stateOf (now (b .entry))) v)) ⌝ }
 {
     vertex::set_defect(b, v, 1);
     vertex::hold(b, v, n, n + 1);

@@ -34,7 +34,10 @@ pub fn read_table(b: &[i64], table: &mut [i64])
 // Whether the two growths of edge e sum to its weight.
 fn touches(b: &[i64], e: usize) -> bool
     requires { ⌜ Formed (now b) × (e < edgeCount (stateOf (now b))) ⌝ }
-    ensures { λ r. ⌜ r ≡ eqb (growthAt (stateOf (now (b .entry))) (2 * e) + growthAt (stateOf (now (b .entry))) (2 * e + 1)) (weightAt (stateOf (now (b .entry))) e) ⌝ }
+    ensures { λ r.
+        ⌜ r
+        ≡ eqb (growthAt (stateOf (now (b .entry))) (2 * e) + growthAt (stateOf (now (b .entry))) (2 * e + 1))
+        (weightAt (stateOf (now (b .entry))) e) ⌝ }
 {
     let g = side::growth(b, 2 * e);
     let h = side::growth(b, 2 * e + 1);
@@ -44,7 +47,9 @@ fn touches(b: &[i64], e: usize) -> bool
 // Each edge whose two growths sum to its weight, by rising number, goes to the front of `list`; how many.
 pub fn contacts(b: &[i64], list: &mut [i64]) -> usize
     requires { ⌜ Formed (now b) × (edgeCount (stateOf (now b)) ≤ length (now list)) ⌝ }
-    ensures { λ r. ⌜ (now (list .exit) ≡ placed (contacts (stateOf (now (b .entry)))) (now (list .entry))) × (r ≡ length (contacts (stateOf (now (b .entry))))) ⌝ }
+    ensures { λ r.
+        ⌜ (now (list .exit) ≡ placed (contacts (stateOf (now (b .entry)))) (now (list .entry)))
+        × (r ≡ length (contacts (stateOf (now (b .entry))))) ⌝ }
 {
     let m = rows::edge_count(b);
     let mut e = 0;

@@ -45,7 +45,10 @@ pub fn entries_of(b: &[i64], n: usize) -> usize
 // Whether the store is too small for `used` entries and k times 2 E + V.
 pub fn over_store(b: &[i64], used: usize, k: usize) -> bool
     requires { ⌜ Formed (now b) × (used ≤ 65536) × (k ≤ 1025) ⌝ }
-    ensures { λ r. ⌜ r ≡ ltb (stateOf (now (b .entry)) .storeLimit) (used + k * (sideCount (stateOf (now (b .entry))) + vertexCount (stateOf (now (b .entry))))) ⌝ }
+    ensures { λ r.
+        ⌜ r
+        ≡ ltb (stateOf (now (b .entry)) .storeLimit)
+        (used + k * (sideCount (stateOf (now (b .entry))) + vertexCount (stateOf (now (b .entry))))) ⌝ }
 {
     let m = rows::side_count(b);
     let v = rows::vertex_count(b);

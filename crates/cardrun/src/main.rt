@@ -1,16 +1,16 @@
-// The program: records from standard input, lines to standard output. Each record is the same step as in the exported call (run::turn).
+// The program: records from standard input, lines to standard output. Each record is the same step as in the exported call (record_step::one_record).
 
 ghost use mathlib.Core.Path.{_≡_};
 ghost use Prim.Native.Nat.{_+_, _<_, _≤_};
 ghost use lib.ListN.{length, take};
-ghost use Rattle.records.specs.Lines.{joined};
+ghost use Rattle.records.specs.Lines.{joinedLines};
 ghost use Rattle.records.specs.Run.{ends};
-ghost use Rattle.run.specs.Standing.{memory, Standing, Roomy, RecordTold};
+ghost use Rattle.record_step.specs.Standing.{memory, Standing, MemorySuffices, RecordTold};
+use record_step::one_record;
+use record_step::one_record::After;
+use record_step::one_record::Run;
 use records::bytes;
 use records::lines::Out;
-use run::turn;
-use run::turn::After;
-use run::turn::Run;
 
 // The lines of a record are written; the run after it.
 fn written(t: After, lines: &[u8]) -> Run
@@ -26,9 +26,11 @@ fn written(t: After, lines: &[u8]) -> Run
 // The line of input that ends inside a record.
 fn tell_cut(lines: &mut [u8], r: Run) -> After
     requires { ⌜ (16384 ≤ length (now lines)) × (r .record < 18446744073709551615) ⌝ }
-    ensures { λ x. ⌜ (take (x .out .at) (now (lines .exit)) ≡ joined (ends (r .record + 1) 3 .lines)) × (x .out .at ≤ length (now (lines .exit))) × (x .run .stage ≡ 3) × (x .run .record ≡ r .record + 1) ⌝ }
+    ensures { λ x.
+        ⌜ (take (x .out .at) (now (lines .exit)) ≡ joinedLines (ends (r .record + 1) 3 .lines))
+        × (x .out .at ≤ length (now (lines .exit))) × (x .run .stage ≡ 3) × (x .run .record ≡ r .record + 1) ⌝ }
 {
-    turn::cut(lines, r, Out { at: 0, full: false })
+    one_record::cut(lines, r, Out { at: 0, full: false })
 }
 
 // The lines of the record whose body this is: all that the definition gives.
@@ -41,10 +43,18 @@ fn tell_record(
     edges: &mut [i64],
     virtuals: &mut [i64],
 ) -> After
-    requires { ⌜ (16384 ≤ length (now lines)) × (r .stage < 3) × (r .record < 18446744073709551615) × Standing (memory (r .stage) (r .setup) (now block) (now edges) (now virtuals)) × (length (now body) ≤ 65535) × Roomy (now block) (now scratch) (now edges) (now virtuals) ⌝ }
-    ensures { λ x. ⌜ RecordTold (r .record + 1) (memory (r .stage) (r .setup) (now (block .entry)) (now (edges .entry)) (now (virtuals .entry))) (memory (x .run .stage) (x .run .setup) (now (block .exit)) (now (edges .exit)) (now (virtuals .exit))) (now (body .entry)) (take (x .out .at) (now (lines .exit))) × (x .out .at ≤ length (now (lines .exit))) × (x .run .record ≡ r .record + 1) × (now (scratch .exit) ≡ now (scratch .entry)) ⌝ }
+    requires { ⌜ (16384 ≤ length (now lines)) × (r .stage < 3) × (r .record < 18446744073709551615)
+        × Standing (memory (r .stage) (r .setup) (now block) (now edges) (now virtuals)) × (length (now body) ≤ 65535)
+        × MemorySuffices (now block) (now scratch) (now edges) (now virtuals) ⌝ }
+    ensures { λ x.
+        ⌜ RecordTold (r .record + 1)
+        (memory (r .stage) (r .setup) (now (block .entry)) (now (edges .entry)) (now (virtuals .entry)))
+        (memory (x .run .stage) (x .run .setup) (now (block .exit)) (now (edges .exit)) (now (virtuals .exit)))
+        (now (body .entry)) (take (x .out .at) (now (lines .exit)))
+        × (x .out .at ≤ length (now (lines .exit))) × (x .run .record ≡ r .record + 1)
+        × (now (scratch .exit) ≡ now (scratch .entry)) ⌝ }
 {
-    turn::turn(
+    one_record::step_record(
         lines,
         r,
         Out { at: 0, full: false },
@@ -77,8 +87,13 @@ fn take_record(
     edges: &mut [i64],
     virtuals: &mut [i64],
 ) -> Run
-    requires { ⌜ (r .stage < 3) × (r .record < 18446744073709551615) × (2 ≤ length (now head)) × (65535 ≤ length (now body)) × (16384 ≤ length (now lines)) × Standing (memory (r .stage) (r .setup) (now block) (now edges) (now virtuals)) × Roomy (now block) (now scratch) (now edges) (now virtuals) ⌝ }
-    ensures { λ x. ⌜ (x .record ≡ r .record + 1) × Standing (memory (x .stage) (x .setup) (now (block .exit)) (now (edges .exit)) (now (virtuals .exit))) × (now (scratch .exit) ≡ now (scratch .entry)) ⌝ }
+    requires { ⌜ (r .stage < 3) × (r .record < 18446744073709551615) × (2 ≤ length (now head)) × (65535 ≤ length (now body))
+        × (16384 ≤ length (now lines)) × Standing (memory (r .stage) (r .setup) (now block) (now edges) (now virtuals))
+        × MemorySuffices (now block) (now scratch) (now edges) (now virtuals) ⌝ }
+    ensures { λ x.
+        ⌜ (x .record ≡ r .record + 1)
+        × Standing (memory (x .stage) (x .setup) (now (block .exit)) (now (edges .exit)) (now (virtuals .exit)))
+        × (now (scratch .exit) ≡ now (scratch .entry)) ⌝ }
 {
     if got < 2 {
         return cut(r, lines);
@@ -102,9 +117,10 @@ fn take_records(
     edges: &mut [i64],
     virtuals: &mut [i64],
 )
-    requires { ⌜ (length (now head) ≡ 2) × (65535 ≤ length (now body)) × (16384 ≤ length (now lines)) × Roomy (now block) (now scratch) (now edges) (now virtuals) ⌝ }
+    requires { ⌜ (length (now head) ≡ 2) × (65535 ≤ length (now body)) × (16384 ≤ length (now lines))
+        × MemorySuffices (now block) (now scratch) (now edges) (now virtuals) ⌝ }
 {
-    let mut r = turn::fresh();
+    let mut r = one_record::fresh();
     while (r.stage < 3) & (r.record < 18446744073709551615) {
         let got = io::read_full(0, head);
         if got == 0 {

@@ -6,5 +6,8 @@ use Rattle.distance.specs.Nearest
 use Rattle.distance.specs.Table
 
 unfoldable pub everything : ℕ
-unfolding Graph.opposite Graph.near Graph.across Graph.weight Distance.unreachable Distance.startDistances Distance.relaxSide Distance.relaxSides Distance.relaxUntilStable Distance.distancesFrom Distance.dist Nearest.ifVirtual Nearest.nearestVirtualBelow Nearest.nearestVirtual Table.firstFrom Table.owner Table.share Table.growth Table.growthsBelow Table.tableFromDistances
+unfolding Graph.otherSide Graph.near Graph.across Graph.weight Distance.unreachable Distance.startDistances
+    Distance.relaxSide Distance.relaxSides Distance.relaxUntilStable Distance.distancesFrom Distance.dist Nearest.ifVirtual
+    Nearest.nearestVirtualBelow Nearest.nearestVirtual Table.firstFrom Table.owner Table.share Table.growth
+    Table.growthsBelow Table.tableFromDistances
 everything = 0

@@ -5,7 +5,7 @@ use mathlib.Core.List.{List, [], _∷_, _++_}
 use Prim.Native.Nat.{ℕ, zero, suc, _+_, _-_, _<_, min}
 use lib.Dec.{leb, eqb}
 use lib.ListN.{getD}
-use Rattle.distance.specs.Graph.{Graph, sides, near, across, weight}
+use Rattle.distance.specs.Graph.{WeightedGraph, sides, near, across, weight}
 use Rattle.distance.specs.Distance.{dist}
 
 -- The dual variable y(a) of vertex a: that of the defect there, 0 where there is none.
@@ -13,7 +13,7 @@ abbrev pub dual : List ℕ → ℕ → ℕ
 dual y a = getD y a 0
 
 -- Defect a covers vertex u: y(a) > d(a,u).
-abbrev pub Covers : Graph → List ℕ → ℕ → ℕ → Type 0
+abbrev pub Covers : WeightedGraph → List ℕ → ℕ → ℕ → Type 0
 Covers g y a u = dist g a u < dual y a
 
 -- ---- who covers a vertex
@@ -29,7 +29,7 @@ firstFrom p zero i = none
 firstFrom p (suc k) i = elim (p i) [ true ↦ some i | false ↦ firstFrom p k (suc i) ]
 
 -- "That defect": the first that covers u, none if no defect does. Feasible dual variables leave at most one (`one-defect-covers`).
-unfoldable pub owner : Graph → List ℕ → ℕ → Option ℕ
+unfoldable pub owner : WeightedGraph → List ℕ → ℕ → Option ℕ
 owner g y u = firstFrom (λ a. exceeds (dual y a) (dist g a u)) (g .size) 0
 
 -- ---- growth
@@ -40,21 +40,21 @@ unfoldable pub share : (y n f w : ℕ) → ℕ
 share y n f w = elim (eqb f (n + w)) [ true ↦ min (y - n) w | false ↦ elim (eqb n (f + w)) [ true ↦ 0 | false ↦ y - n ] ]
 
 -- what its owner, if any, gives side s
-abbrev pub growthBy : Graph → List ℕ → ℕ → Option ℕ → ℕ
+abbrev pub growthBy : WeightedGraph → List ℕ → ℕ → Option ℕ → ℕ
 growthBy g y s none = 0
 growthBy g y s (some a) = share (dual y a) (dist g a (near g s)) (dist g a (across g s)) (weight g s)
 
 -- The growth of side s: 0 where no defect covers its vertex, else the share of the one that does.
-unfoldable pub growth : Graph → List ℕ → ℕ → ℕ
+unfoldable pub growth : WeightedGraph → List ℕ → ℕ → ℕ
 growth g y s = growthBy g y s (owner g y (near g s))
 
 -- ---- the table
 
 -- the growths of sides 0 to k - 1
-unfoldable pub growthsBelow : Graph → List ℕ → ℕ → List ℕ
+unfoldable pub growthsBelow : WeightedGraph → List ℕ → ℕ → List ℕ
 growthsBelow g y zero = []
 growthsBelow g y (suc k) = growthsBelow g y k ++ (growth g y k ∷ [])
 
 -- the growth of each side
-unfoldable pub tableFromDistances : Graph → List ℕ → List ℕ
+unfoldable pub tableFromDistances : WeightedGraph → List ℕ → List ℕ
 tableFromDistances g y = growthsBelow g y (sides g)

@@ -5,7 +5,7 @@ use mathlib.Core.List.{List, [], _∷_}
 use Prim.Native.Nat.{ℕ, _+_, _≤_, _<_}
 use native.Mathlib.Omega.{arith}
 use lib.ListN.{set}
-use Rattle.distance.specs.Graph.{Graph, WellFormed, Positive, Virtual, sides, opposite, near, across, weight, Walk, ShortestLength}
+use Rattle.distance.specs.Graph.{WeightedGraph, WellFormed, Positive, Virtual, sides, otherSide, near, across, weight, Walk, ShortestLength}
 use Rattle.distance.specs.Distance.{unreachable, distanceAt, dist, Relaxed, Stable, Predecessor, DistanceCertificate}
 use Rattle.distance.specs.Nearest.{ReachesVirtual, VirtualInReach, nearestVirtual, NearestVirtual}
 use Rattle.distance.specs.Reach.{HasMark, ReachMarks, AllSpread}
@@ -29,7 +29,7 @@ use Rattle.distance.specs.laws.Needed.{zero-reach, zero-same, none-posit
 pub unreachable-above-duals : 1_000_000_000 < unreachable
 unreachable-above-duals = omega (arith, unreachable-is)
 
-module _ (g : Graph) (ok : WellFormed g) (a : ℕ) (in-a : a < g .size) where
+module _ (g : WeightedGraph) (ok : WellFormed g) (a : ℕ) (in-a : a < g .size) where
   -- Where a walk leads from a to u, the distance is the least length of such a walk.
   pub distance-is-shortest : (u n : ℕ) → Walk g a u n → ShortestLength g a u (dist g a u)
   distance-is-shortest u n w = dist-shortest g ok a in-a w
@@ -85,7 +85,7 @@ module _ (g : Graph) (ok : WellFormed g) (a : ℕ) (in-a : a < g .size) where
 
 -- ---- marks of vertices that reach a virtual one
 
-module _ (g : Graph) (ok : WellFormed g) (m : List ℕ) (marks : ReachMarks g m) where
+module _ (g : WeightedGraph) (ok : WellFormed g) (m : List ℕ) (marks : ReachMarks g m) where
   -- A mark may spread along a side, from its vertex to the one across.
   pub mark-spreads : (s : ℕ) → s < sides g → HasMark m (near g s) → ReachMarks g (set m (across g s) 1)
   mark-spreads = spread-mark g ok m marks
@@ -96,7 +96,7 @@ module _ (g : Graph) (ok : WellFormed g) (m : List ℕ) (marks : ReachMarks g m)
 
 -- ---- growth under feasible dual variables
 
-module _ (g : Graph) (ok : WellFormed g) (y : List ℕ) (feasible : Feasible g y) where
+module _ (g : WeightedGraph) (ok : WellFormed g) (y : List ℕ) (feasible : Feasible g y) where
   -- At most one defect covers a vertex, so that "that defect" of the rule (SPECIFICATION 11.2) has a meaning.
   pub one-defect-covers : (a b u : ℕ) → u < g .size → Covers g y a u → Covers g y b u → a ≡ b
   one-defect-covers = one-covers g ok y feasible
@@ -116,14 +116,14 @@ module _ (g : Graph) (ok : WellFormed g) (y : List ℕ) (feasible : Feasible g y
 
   -- The two growths of an edge pass its weight only where one defect covers both its ends.
   pub edge-within-weight : (s : ℕ) → s < sides g → ((a : ℕ) → Covers g y a (near g s) → ¬ Covers g y a (across g s))
-      → growth g y s + growth g y (opposite s) ≤ weight g s
+      → growth g y s + growth g y (otherSide s) ≤ weight g s
   edge-within-weight = edge-fits g ok y feasible
 
 -- ---- the table tells the dual variables
 
 -- Two lists of feasible dual variables have the same table exactly if they are the same: where weights are positive and from every vertex
 -- a walk leads to a virtual one.
-pub table-tells-duals : (g : Graph) → WellFormed g → Positive g → VirtualInReach g
+pub table-tells-duals : (g : WeightedGraph) → WellFormed g → Positive g → VirtualInReach g
     → (y z : List ℕ) → Feasible g y → Feasible g z → (tableFromDistances g y ≡ tableFromDistances g z) ↔ (y ≡ z)
 table-tells-duals = tableFromDistances-equal
 

@@ -1,12 +1,12 @@
 -- A signed parameter z is held as its bits, so a test or a cast of it speaks of `toZ w64 (ofZ w64 z)`, which is z.
 -- These laws take the tests `z < 0` and the cast `z as u64` to the definitions of `specs/Word.antt`. Assumes nothing.
-use Prim.Native.Nat.{ℕ, _<_, _^_}
-use mathlib.Core.Path.{_≡_, refl, sym, subst, _∙_}
+use Prim.Native.Nat.{_<_}
+use mathlib.Core.Path.{_≡_, refl, sym, subst}
 use mathlib.Core.Bool.{Bool, true, false}
 use native.Mathlib.Omega.{arith}
 use borrow.Author.Tests.{ltb-true}
 use lib.IntN.{ℤ, pos, negsuc, natAbs}
-use lib.Dec.{T, ltb}
+use lib.Dec.{T}
 use lib.Signed.{ltZ, nonNeg}
 use mir.Syntax.{w64}
 use mir.Val.{Fits, SFits, toZ, ofZ}

@@ -16,7 +16,8 @@ use Rattle.graph.specs.Layout.{rowsOf, classFrom, stretches, overgrownFr
 abbrev block : List ℤ
 block =
     map pos
-    (2 ∷ 1 ∷ 2 ∷ 4 ∷ 1 ∷ 1 ∷ 0 ∷ 0 ∷ 0 ∷ 0 ∷ 0 ∷ 0 ∷ 0 ∷ 0 ∷ 0 ∷ 0 ∷ 2 ∷ 1 ∷ 1 ∷ 0 ∷ 1 ∷ 0 ∷ 0 ∷ 1 ∷ 0 ∷ 1 ∷ 3 ∷ 0 ∷ 1 ∷ 0 ∷ 1 ∷ 0 ∷ 0 ∷ 1 ∷ 4 ∷ 0 ∷ 0 ∷ 1 ∷ 0 ∷ 0 ∷ 0 ∷ 3 ∷ 0 ∷ 0 ∷ 0 ∷ 1 ∷ 0 ∷ 1 ∷ 0 ∷ 0 ∷ 2048 ∷ 7 ∷ 9 ∷ 0 ∷ 9 ∷ [])
+    (2 ∷ 1 ∷ 2 ∷ 4 ∷ 1 ∷ 1 ∷ 0 ∷ 0 ∷ 0 ∷ 0 ∷ 0 ∷ 0 ∷ 0 ∷ 0 ∷ 0 ∷ 0 ∷ 2 ∷ 1 ∷ 1 ∷ 0 ∷ 1 ∷ 0 ∷ 0 ∷ 1 ∷ 0 ∷ 1 ∷ 3 ∷ 0 ∷ 1
+    ∷ 0 ∷ 1 ∷ 0 ∷ 0 ∷ 1 ∷ 4 ∷ 0 ∷ 0 ∷ 1 ∷ 0 ∷ 0 ∷ 0 ∷ 3 ∷ 0 ∷ 0 ∷ 0 ∷ 1 ∷ 0 ∷ 1 ∷ 0 ∷ 0 ∷ 2048 ∷ 7 ∷ 9 ∷ 0 ∷ 9 ∷ [])
 
 -- the state that they hold
 abbrev state : State
@@ -24,7 +25,15 @@ state = record {
   graph = record { end = 0 ∷ 1 ∷ []; weight = 4 ∷ []; at = (0 ∷ []) ∷ (1 ∷ []) ∷ []; virtual = 0 ∷ 1 ∷ [] };
   vertices = record { defect = 1 ∷ 0 ∷ []; vertexHolder = 1 ∷ 0 ∷ []; vertexGrandson = 1 ∷ 0 ∷ [] };
   sides = record { growth = 3 ∷ 0 ∷ []; holder = 1 ∷ 0 ∷ []; grandson = 1 ∷ 0 ∷ [] };
-  nodes = record { class = defectVertex 0 ∷ []; growState = 1 ∷ []; parent = 0 ∷ []; dual = 3 ∷ []; boundary = (0 ∷ []) ∷ []; overgrown = (record { vertex = 0; amount = 2 } ∷ []) ∷ [] };
+  nodes =
+      record {
+        class = defectVertex 0 ∷ [];
+        growState = 1 ∷ [];
+        parent = 0 ∷ [];
+        dual = 3 ∷ [];
+        boundary = (0 ∷ []) ∷ [];
+        overgrown = (record { vertex = 0; amount = 2 } ∷ []) ∷ [];
+      };
   nodeLimit = 2;
   storeLimit = 4;
   active = 0 ∷ [];
@@ -39,20 +48,36 @@ unfolding sized sizesOk wordAt toNat
 is-sized = refl
 
 pub is-sound : blockSound block ≡ true
-unfolding blockSound packed packedFrom fitsAt risingTo stateOf stateFrom rowsOf rows wordAt toNat classFrom stretches overgrownFrom stackFrom boundaries stacks stateSound soundRemoved nodeLive isRemoved liveOrNone firstLive emptied sound activeSound entries entriesOf nodeSound ownLists overSound parentSound classSound sideSound vertexSound edgeSound storedDefect isDefect nodeOrNone sidesOf Basic.fold Basic.all Basic.any Basic.only Basic.member Basic.below Basic.distinct Basic.same Basic.allBelow Basic.sumBelow
+unfolding blockSound packed packedFrom fitsAt risingTo stateOf stateFrom rowsOf rows wordAt toNat classFrom stretches
+    overgrownFrom stackFrom boundaries stacks stateSound soundRemoved nodeLive isRemoved liveOrNone firstLive emptied sound
+    activeSound entries entriesOf nodeSound ownLists overSound parentSound classSound sideSound vertexSound edgeSound
+    storedDefect isDefect nodeOrNone sidesOf Basic.fold Basic.all Basic.any Basic.only Basic.member Basic.below
+    Basic.distinct Basic.same Basic.allBelow Basic.sumBelow
 is-sound = refl
 
 -- a negative growth is out of range
 pub negative-growth : blockSound (set block 26 (negsuc 0)) ≡ false
-unfolding blockSound packed packedFrom fitsAt risingTo stateOf stateFrom rowsOf rows wordAt toNat classFrom stretches overgrownFrom stackFrom boundaries stacks stateSound soundRemoved nodeLive isRemoved liveOrNone firstLive emptied sound activeSound entries entriesOf nodeSound ownLists overSound parentSound classSound sideSound vertexSound edgeSound storedDefect isDefect nodeOrNone sidesOf Basic.fold Basic.all Basic.any Basic.only Basic.member Basic.below Basic.distinct Basic.same Basic.allBelow Basic.sumBelow
+unfolding blockSound packed packedFrom fitsAt risingTo stateOf stateFrom rowsOf rows wordAt toNat classFrom stretches
+    overgrownFrom stackFrom boundaries stacks stateSound soundRemoved nodeLive isRemoved liveOrNone firstLive emptied sound
+    activeSound entries entriesOf nodeSound ownLists overSound parentSound classSound sideSound vertexSound edgeSound
+    storedDefect isDefect nodeOrNone sidesOf Basic.fold Basic.all Basic.any Basic.only Basic.member Basic.below
+    Basic.distinct Basic.same Basic.allBelow Basic.sumBelow
 negative-growth = refl
 
 -- a side twice in the boundary of an outermost node
 pub side-twice : blockSound (set (set (set block 45 (pos 2)) 47 (pos 0)) 50 (pos 0)) ≡ false
-unfolding blockSound packed packedFrom fitsAt risingTo stateOf stateFrom rowsOf rows wordAt toNat classFrom stretches overgrownFrom stackFrom boundaries stacks stateSound soundRemoved nodeLive isRemoved liveOrNone firstLive emptied sound activeSound entries entriesOf nodeSound ownLists overSound parentSound classSound sideSound vertexSound edgeSound storedDefect isDefect nodeOrNone sidesOf Basic.fold Basic.all Basic.any Basic.only Basic.member Basic.below Basic.distinct Basic.same Basic.allBelow Basic.sumBelow
+unfolding blockSound packed packedFrom fitsAt risingTo stateOf stateFrom rowsOf rows wordAt toNat classFrom stretches
+    overgrownFrom stackFrom boundaries stacks stateSound soundRemoved nodeLive isRemoved liveOrNone firstLive emptied sound
+    activeSound entries entriesOf nodeSound ownLists overSound parentSound classSound sideSound vertexSound edgeSound
+    storedDefect isDefect nodeOrNone sidesOf Basic.fold Basic.all Basic.any Basic.only Basic.member Basic.below
+    Basic.distinct Basic.same Basic.allBelow Basic.sumBelow
 side-twice = refl
 
 -- the node removed, and still holding
 pub removed-holds : blockSound (set block 35 (pos 1026)) ≡ false
-unfolding blockSound packed packedFrom fitsAt risingTo stateOf stateFrom rowsOf rows wordAt toNat classFrom stretches overgrownFrom stackFrom boundaries stacks stateSound soundRemoved nodeLive isRemoved liveOrNone firstLive emptied sound activeSound entries entriesOf nodeSound ownLists overSound parentSound classSound sideSound vertexSound edgeSound storedDefect isDefect nodeOrNone sidesOf Basic.fold Basic.all Basic.any Basic.only Basic.member Basic.below Basic.distinct Basic.same Basic.allBelow Basic.sumBelow
+unfolding blockSound packed packedFrom fitsAt risingTo stateOf stateFrom rowsOf rows wordAt toNat classFrom stretches
+    overgrownFrom stackFrom boundaries stacks stateSound soundRemoved nodeLive isRemoved liveOrNone firstLive emptied sound
+    activeSound entries entriesOf nodeSound ownLists overSound parentSound classSound sideSound vertexSound edgeSound
+    storedDefect isDefect nodeOrNone sidesOf Basic.fold Basic.all Basic.any Basic.only Basic.member Basic.below
+    Basic.distinct Basic.same Basic.allBelow Basic.sumBelow
 removed-holds = refl

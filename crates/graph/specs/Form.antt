@@ -1,16 +1,17 @@
 -- What the functions over a block ask of it and promise of it. Who reads and writes through this crate sees the counts of the state;
 -- what they rest on in the words is shut behind `Laid`, `Listed` and `Wired`.
-use Prim.Native.Nat.{ℕ, zero, suc, _+_, _*_, _≤_}
+use Prim.Native.Nat.{ℕ, _+_, _*_, _≤_}
 use mathlib.Core.Path.{_≡_}
-use mathlib.Core.Bool.{Bool, true}
+use mathlib.Core.Bool.{true}
 use mathlib.Core.List.{List, [], _∷_, map}
 use lib.IntN.{ℤ}
 use lib.Dec.{ltb, leb}
-use lib.ListN.{length, set, getD, take}
+use lib.ListN.{length, getD, take}
 use Rattle.graph.specs.Basic.{all, below}
-use Rattle.graph.specs.State.{State, Overgrown, vertexCount, edgeCount, sideCount, nodeCount, boundaryOf}
+use Rattle.graph.specs.State.{vertexCount, edgeCount, sideCount, nodeCount}
 use Rattle.graph.specs.Open.{weightLimit, sidesOf}
 use Rattle.graph.specs.Layout.{vOf, eOf, nOf, lOf, countOf, activeCountOf, blockLength, rowsOf, row, stretches, risingTo, stateOf}
+use Rattle.graph.specs.Rows.{headerRow, firstRow, endRow, atRow, weightRow, startRow, boundaryLengthRow, overgrownLengthRow}
 
 -- ---- what the words have
 
@@ -64,7 +65,7 @@ pub record Packed (header start blen olen : List ℕ) : Type 0 where
   pub total : totalFrom 0 (take (getD header 4 0) blen) (take (getD header 4 0) olen) ≤ getD header 3 0
 
 abbrev pub PackedRows : List (List ℕ) → Type 0
-PackedRows r = Packed (row r 0) (row r 15) (row r 16) (row r 17)
+PackedRows r = Packed (row r headerRow) (row r startRow) (row r boundaryLengthRow) (row r overgrownLengthRow)
 
 -- the graph, which no call but open changes: its numbers are in range, and the sides at each vertex are those whose end it is
 pub record GraphOk (header first end at weight : List ℕ) : Type 0 where
@@ -74,7 +75,7 @@ pub record GraphOk (header first end at weight : List ℕ) : Type 0 where
   pub weights : all (λ x. leb x weightLimit) weight ≡ true
 
 abbrev pub GraphRows : List (List ℕ) → Type 0
-GraphRows r = GraphOk (row r 0) (row r 4) (row r 5) (row r 9) (row r 10)
+GraphRows r = GraphOk (row r headerRow) (row r firstRow) (row r endRow) (row r atRow) (row r weightRow)
 
 -- the same of a block, shut: what every read of a node's lists asks, and every read of the sides at a vertex
 unfoldable pub Listed : List ℤ → Type 0
@@ -94,29 +95,3 @@ pub record Formed (b : List ℤ) : Type 0 where
   pub laid : Laid b
   pub listed : Listed b
   pub wired : Wired b
-
--- after b₀, the block b is in form, of the same counts, and holds the state c
-pub record Becomes (b₀ b : List ℤ) (c : State) : Type 0 where
-  pub formed : Formed b
-  pub state : stateOf b ≡ c
-  pub vertices : vertexCount (stateOf b) ≡ vertexCount (stateOf b₀)
-  pub edges : edgeCount (stateOf b) ≡ edgeCount (stateOf b₀)
-  pub sides : sideCount (stateOf b) ≡ sideCount (stateOf b₀)
-  pub nodes : nodeCount (stateOf b) ≡ nodeCount (stateOf b₀)
-  pub len : length b ≡ length b₀
-
--- after b₀, the block b has the list w as row k, and all else as it was
-pub record Rowed (k : ℕ) (b₀ b : List ℤ) (w : List ℕ) : Type 0 where
-  pub laid : Laid b
-  pub rows : rowsOf b ≡ set (rowsOf b₀) k w
-  pub vertices : vertexCount (stateOf b) ≡ vertexCount (stateOf b₀)
-  pub edges : edgeCount (stateOf b) ≡ edgeCount (stateOf b₀)
-  pub sides : sideCount (stateOf b) ≡ sideCount (stateOf b₀)
-  pub nodes : nodeCount (stateOf b) ≡ nodeCount (stateOf b₀)
-  pub node-limit : stateOf b .nodeLimit ≡ stateOf b₀ .nodeLimit
-  pub store-limit : stateOf b .storeLimit ≡ stateOf b₀ .storeLimit
-  pub len : length b ≡ length b₀
-
--- the sides in the boundary of node n are sides
-unfoldable pub sidesOk : State → ℕ → Bool
-sidesOk c n = all (λ s. ltb s (sideCount c)) (boundaryOf c n)

@@ -3,18 +3,18 @@
 -- the rest free); over vertices
 -- flags, holder, grandson and first; over sides end, growth, holder, grandson and at; over edges weight; over nodes class, grow state,
 -- parent, dual variable, start, boundary length and overgrown length; the list store; and the active list.
-use Prim.Native.Nat.{ℕ, zero, suc, _+_, _-_, _*_, _/_, _%_}
-use mathlib.Core.Bool.{Bool, true, false, _&&_}
+use Prim.Native.Nat.{ℕ, _+_, _-_, _*_, _/_, _%_}
+use mathlib.Core.Bool.{Bool, true, _&&_}
 use mathlib.Core.List.{List, [], _∷_, map, reverse}
 use lib.IntN.{ℤ}
 use lib.Dec.{ltb, leb, eqb}
 use lib.ListN.{length, getD, take, drop}
-use Rattle.graph.specs.Basic.{if_then_else_, allBelow}
+use Rattle.graph.specs.Basic.{if_then_else_}
 use Rattle.graph.specs.State.{State, Overgrown, NodeClass, defectVertex, blossom, removed, removedPlace}
 use Rattle.graph.specs.Open.{sizesOk}
 use Rattle.graph.specs.Sound.{stateSound}
 use Rattle.graph.specs.Word.{toNat, wordAt}
-use Rattle.graph.specs.Rows.{rows}
+use Rattle.graph.specs.Rows.{rows, headerRow, flagsRow, vertexHolderRow, vertexGrandsonRow, firstRow, endRow, growthRow, holderRow, grandsonRow, atRow, weightRow, classRow, growStateRow, parentRow, dualRow, startRow, boundaryLengthRow, overgrownLengthRow, storeRow, activeRow}
 
 -- ---- sizes, as the header has them
 
@@ -90,22 +90,28 @@ stacks (b ∷ bs) (o ∷ os) l = stackFrom (take o (drop b l)) ∷ stacks bs os 
 -- the state of the arrays; flags are virtual + 2 * defect; of the arrays over nodes only the first `count` words count
 unfoldable pub stateFrom : List (List ℕ) → State
 stateFrom r =
-    let count = getD (row r 0) 4 0 in
+    let count = getD (row r headerRow) 4 0 in
     record {
-      graph = record { end = row r 5; weight = row r 10; at = stretches (row r 4) (row r 9); virtual = map (λ x. x % 2) (row r 1) };
-      vertices = record { defect = map (λ x. x / 2) (row r 1); vertexHolder = row r 2; vertexGrandson = row r 3 };
-      sides = record { growth = row r 6; holder = row r 7; grandson = row r 8 };
+      graph =
+          record {
+            end = row r endRow;
+            weight = row r weightRow;
+            at = stretches (row r firstRow) (row r atRow);
+            virtual = map (λ x. x % 2) (row r flagsRow);
+          };
+      vertices = record { defect = map (λ x. x / 2) (row r flagsRow); vertexHolder = row r vertexHolderRow; vertexGrandson = row r vertexGrandsonRow };
+      sides = record { growth = row r growthRow; holder = row r holderRow; grandson = row r grandsonRow };
       nodes = record {
-        class = map (classFrom (getD (row r 0) 0 0)) (take count (row r 11));
-        growState = take count (row r 12);
-        parent = take count (row r 13);
-        dual = take count (row r 14);
-        boundary = boundaries (take count (row r 16)) (take count (row r 17)) (row r 18);
-        overgrown = stacks (take count (row r 16)) (take count (row r 17)) (row r 18);
+        class = map (classFrom (getD (row r headerRow) 0 0)) (take count (row r classRow));
+        growState = take count (row r growStateRow);
+        parent = take count (row r parentRow);
+        dual = take count (row r dualRow);
+        boundary = boundaries (take count (row r boundaryLengthRow)) (take count (row r overgrownLengthRow)) (row r storeRow);
+        overgrown = stacks (take count (row r boundaryLengthRow)) (take count (row r overgrownLengthRow)) (row r storeRow);
       };
-      nodeLimit = getD (row r 0) 2 0;
-      storeLimit = getD (row r 0) 3 0;
-      active = take (getD (row r 0) 5 0) (row r 19);
+      nodeLimit = getD (row r headerRow) 2 0;
+      storeLimit = getD (row r headerRow) 3 0;
+      active = take (getD (row r headerRow) 5 0) (row r activeRow);
     }
 
 unfoldable pub stateOf : List ℤ → State
@@ -136,12 +142,13 @@ packedFrom l a (s ∷ ss) (b ∷ bs) (o ∷ os) = fitsAt a l s b o && packedFrom
 -- the starts and lengths of the nodes' lists fit the store
 unfoldable pub packed : List ℤ → Bool
 packed b =
-    packedFrom (lOf b) 0 (take (countOf b) (row (rowsOf b) 15)) (take (countOf b) (row (rowsOf b) 16)) (take (countOf b) (row (rowsOf b) 17))
+    packedFrom (lOf b) 0 (take (countOf b) (row (rowsOf b) startRow))
+    (take (countOf b) (row (rowsOf b) boundaryLengthRow)) (take (countOf b) (row (rowsOf b) overgrownLengthRow))
 
 -- 2 unless: no more nodes and active nodes than N, the stretches of the lists in order, and the state that they give sound
 unfoldable pub blockSound : List ℤ → Bool
 blockSound b =
-    leb (countOf b) (nOf b) && leb (activeCountOf b) (nOf b) && packed b && risingTo (row (rowsOf b) 4) (2 * eOf b)
+    leb (countOf b) (nOf b) && leb (activeCountOf b) (nOf b) && packed b && risingTo (row (rowsOf b) firstRow) (2 * eOf b)
     && stateSound (stateOf b)
 
 -- ---- what every call but open asks of lent memory

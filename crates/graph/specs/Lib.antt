@@ -3,6 +3,7 @@ pub mod Basic
 pub mod State
 pub mod Open
 pub mod Sound
+pub mod Shape
 pub mod Active
 pub mod Word
 pub mod Rows
@@ -10,13 +11,10 @@ pub mod Layout
 pub mod Free
 pub mod Node
 pub mod Form
-pub mod Readable
-pub mod Replace
 pub mod Opening
-pub mod Insert
-pub mod Scans
 pub mod Budget
 pub mod Example
 pub mod OpenExample
 pub mod Opens
+pub mod inner
 pub mod laws

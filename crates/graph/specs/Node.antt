@@ -28,7 +28,14 @@ newNode class x = record { class = class; state = x; parent = 0; dual = 0; overg
 -- the node with its dual variable and its top amount moved
 unfoldable pub grownNode : ℕ → ℕ → DualNode → DualNode
 grownNode d l x =
-    record { class = x .class; state = x .state; parent = x .parent; dual = moved d l (x .dual); overgrown = x .overgrown; top = movedTop d l (x .overgrown) (x .top) }
+    record {
+      class = x .class;
+      state = x .state;
+      parent = x .parent;
+      dual = moved d l (x .dual);
+      overgrown = x .overgrown;
+      top = movedTop d l (x .overgrown) (x .top);
+    }
 
 -- what a node stands for, as a class word
 unfoldable pub classNumber : ℕ → NodeClass → ℕ

@@ -1,14 +1,13 @@
 -- A graph of 3 vertices and 3 edges, opened: its words and its refusals, computed, so that the definitions are seen to mean what they say.
 use Prim.Native.Nat.{ℕ}
 use mathlib.Core.Path.{_≡_, refl}
-use mathlib.Core.Bool.{Bool, true, false}
 use mathlib.Core.List.{List, [], _∷_, map}
 use lib.IntN.{ℤ, pos, negsuc}
 use lib.ListN.{set, take, replicate}
 use Rattle.graph.specs.Basic
 use Rattle.graph.specs.Open.{sizesOk, endsOf, sidesOf, flagIn, edgeOk, openRefusal}
 use Rattle.graph.specs.Word.{toNat}
-use Rattle.graph.specs.Opening.{givenAt, edgeAt, edgesFrom, virtualsFrom, fits, joined, firstOf, openedRows, openedWords, openedBlock}
+use Rattle.graph.specs.Opening.{givenAt, edgeAt, edgesFrom, virtualsFrom, fits, flattened, firstOf, openedRows, openedWords, openedBlock}
 
 -- a triangle: 0 - 1 of weight 5, 2 - 1 of weight 6, 0 - 2 of weight 7; vertex 2 is virtual, and given twice
 abbrev triangle : List ℤ
@@ -35,13 +34,17 @@ leaves edges virtuals = openedBlock 3 3 2 4 (edgesFrom edges) (virtualsFrom virt
 pub every-word :
     leaves triangle twice
     ≡ map pos
-    (3 ∷ 3 ∷ 2 ∷ 4 ∷ 0 ∷ 0 ∷ 0 ∷ 0 ∷ 0 ∷ 0 ∷ 0 ∷ 0 ∷ 0 ∷ 0 ∷ 0 ∷ 0 ∷ 0 ∷ 0 ∷ 1 ∷ 0 ∷ 0 ∷ 0 ∷ 0 ∷ 0 ∷ 0 ∷ 0 ∷ 2 ∷ 4 ∷ 0 ∷ 1 ∷ 2 ∷ 1 ∷ 0 ∷ 2 ∷ 0 ∷ 0 ∷ 0 ∷ 0 ∷ 0 ∷ 0 ∷ 0 ∷ 0 ∷ 0 ∷ 0 ∷ 0 ∷ 0 ∷ 0 ∷ 0 ∷ 0 ∷ 0 ∷ 0 ∷ 0 ∷ 0 ∷ 4 ∷ 1 ∷ 3 ∷ 2 ∷ 5 ∷ 5 ∷ 6 ∷ 7 ∷ 0 ∷ 0 ∷ 0 ∷ 0 ∷ 0 ∷ 0 ∷ 0 ∷ 0 ∷ 0 ∷ 0 ∷ 0 ∷ 0 ∷ 0 ∷ 0 ∷ 0 ∷ 0 ∷ 0 ∷ 0 ∷ 0 ∷ 0 ∷ [])
-unfolding openedBlock openedWords openedRows joined firstOf openRefusal fits edgesFrom edgeAt givenAt virtualsFrom sizesOk endsOf sidesOf flagIn edgeOk toNat Basic.all Basic.any Basic.only Basic.member Basic.below Basic.sumBelow
+    (3 ∷ 3 ∷ 2 ∷ 4 ∷ 0 ∷ 0 ∷ 0 ∷ 0 ∷ 0 ∷ 0 ∷ 0 ∷ 0 ∷ 0 ∷ 0 ∷ 0 ∷ 0 ∷ 0 ∷ 0 ∷ 1 ∷ 0 ∷ 0 ∷ 0 ∷ 0 ∷ 0 ∷ 0 ∷ 0 ∷ 2 ∷ 4 ∷ 0
+    ∷ 1 ∷ 2 ∷ 1 ∷ 0 ∷ 2 ∷ 0 ∷ 0 ∷ 0 ∷ 0 ∷ 0 ∷ 0 ∷ 0 ∷ 0 ∷ 0 ∷ 0 ∷ 0 ∷ 0 ∷ 0 ∷ 0 ∷ 0 ∷ 0 ∷ 0 ∷ 0 ∷ 0 ∷ 4 ∷ 1 ∷ 3 ∷ 2 ∷ 5
+    ∷ 5 ∷ 6 ∷ 7 ∷ 0 ∷ 0 ∷ 0 ∷ 0 ∷ 0 ∷ 0 ∷ 0 ∷ 0 ∷ 0 ∷ 0 ∷ 0 ∷ 0 ∷ 0 ∷ 0 ∷ 0 ∷ 0 ∷ 0 ∷ 0 ∷ 0 ∷ 0 ∷ [])
+unfolding openedBlock openedWords openedRows flattened firstOf openRefusal fits edgesFrom edgeAt givenAt virtualsFrom
+    sizesOk endsOf sidesOf flagIn edgeOk toNat Basic.all Basic.any Basic.only Basic.member Basic.below Basic.sumBelow
 every-word = refl
 
 -- accepted; a block that is too short, before a virtual vertex out of range; that one; a negative end; a weight that is missing; an edge too few, before all
 pub refusals :
-    answers room triangle twice ∷ answers (take 80 room) triangle (pos 3 ∷ []) ∷ answers room (set triangle 0 (negsuc 0)) (pos 3 ∷ []) ∷ answers room (set triangle 0 (negsuc 0)) twice
+    answers room triangle twice ∷ answers (take 80 room) triangle (pos 3 ∷ [])
+    ∷ answers room (set triangle 0 (negsuc 0)) (pos 3 ∷ []) ∷ answers room (set triangle 0 (negsuc 0)) twice
     ∷ answers room (take 8 triangle) twice ∷ answers (take 80 room) (take 6 triangle) (pos 3 ∷ []) ∷ []
     ≡ 0 ∷ 1 ∷ 3 ∷ 4 ∷ 4 ∷ 4 ∷ []
 unfolding openRefusal fits edgesFrom edgeAt givenAt virtualsFrom sizesOk edgeOk toNat Basic.all Basic.below

@@ -11,7 +11,8 @@ use Rattle.graph.specs.Word.{toNat}
 use Rattle.graph.specs.State.{vertexCount, edgeCount, sideCount, nodeCount}
 use Rattle.graph.specs.Open.{Edge, endsOf, sidesOf, flagIn, cleared, openRefusal}
 use Rattle.graph.specs.Layout.{blockLength, scratchLength, rowsOf, row, stateOf}
-use Rattle.graph.specs.Form.{Laid, Formed}
+use Rattle.graph.specs.Form.{Formed}
+use Rattle.graph.specs.Rows.{headerRow, flagsRow, vertexHolderRow, vertexGrandsonRow, firstRow, endRow, growthRow, holderRow, grandsonRow, atRow, weightRow, classRow, growStateRow, parentRow, dualRow, startRow, boundaryLengthRow, overgrownLengthRow, storeRow, activeRow}
 
 -- ---- what the host gives
 
@@ -40,10 +41,10 @@ fits b t v e n l = eqb (length b) (blockLength v e n l) && eqb (length t) (scrat
 
 -- ---- the opened block
 
--- lists one behind another
-unfoldable pub joined : {A : Type 0} → List (List A) → List A
-joined [] = []
-joined (l ∷ ls) = l ++ joined ls
+-- lists one behind another: the library's flatten
+unfoldable pub flattened : {A : Type 0} → List (List A) → List A
+flattened [] = []
+flattened (l ∷ ls) = l ++ flattened ls
 
 abbrev pub zeros : ℕ → List ℕ
 zeros n = replicate n 0
@@ -57,13 +58,13 @@ unfoldable pub openedRows : ℕ → ℕ → ℕ → ℕ → List Edge → List �
 openedRows v e n l edges virtuals =
     (v ∷ e ∷ n ∷ l ∷ zeros 12)
     ∷ map (flagIn virtuals) (below v) ∷ zeros v ∷ zeros v ∷ map (firstOf (endsOf edges)) (below v)
-    ∷ endsOf edges ∷ zeros (2 * e) ∷ zeros (2 * e) ∷ zeros (2 * e) ∷ joined (map (sidesOf (endsOf edges)) (below v))
+    ∷ endsOf edges ∷ zeros (2 * e) ∷ zeros (2 * e) ∷ zeros (2 * e) ∷ flattened (map (sidesOf (endsOf edges)) (below v))
     ∷ map (λ (x : Edge). x .weight) edges
     ∷ zeros n ∷ zeros n ∷ zeros n ∷ zeros n ∷ zeros n ∷ zeros n ∷ zeros n
     ∷ zeros l ∷ zeros n ∷ []
 
 unfoldable pub openedWords : ℕ → ℕ → ℕ → ℕ → List Edge → List ℕ → List ℕ
-openedWords v e n l edges virtuals = joined (openedRows v e n l edges virtuals)
+openedWords v e n l edges virtuals = flattened (openedRows v e n l edges virtuals)
 
 -- the block after a call: every word of it where the opening is accepted, and the block as it was where it is refused
 unfoldable pub openedBlock : ℕ → ℕ → ℕ → ℕ → List Edge → List ℕ → Bool → List ℤ → List ℤ
@@ -80,12 +81,12 @@ OpenCalled b t v e n l edges virtuals b' k =
 -- of the arrays: no node; of the flags the virtual ones; nothing held and nothing grown; all else as it was
 unfoldable pub clearedRows : List (List ℕ) → List (List ℕ)
 clearedRows r =
-    set (set (row r 0) 4 0) 5 0
-    ∷ map (λ x. x % 2) (row r 1) ∷ zeros (length (row r 2)) ∷ zeros (length (row r 3)) ∷ row r 4
-    ∷ row r 5 ∷ zeros (length (row r 6)) ∷ zeros (length (row r 7)) ∷ zeros (length (row r 8)) ∷ row r 9
-    ∷ row r 10
-    ∷ row r 11 ∷ row r 12 ∷ row r 13 ∷ row r 14 ∷ row r 15 ∷ row r 16 ∷ row r 17
-    ∷ row r 18 ∷ row r 19 ∷ []
+    set (set (row r headerRow) 4 0) 5 0
+    ∷ map (λ x. x % 2) (row r flagsRow) ∷ zeros (length (row r vertexHolderRow)) ∷ zeros (length (row r vertexGrandsonRow)) ∷ row r firstRow
+    ∷ row r endRow ∷ zeros (length (row r growthRow)) ∷ zeros (length (row r holderRow)) ∷ zeros (length (row r grandsonRow)) ∷ row r atRow
+    ∷ row r weightRow
+    ∷ row r classRow ∷ row r growStateRow ∷ row r parentRow ∷ row r dualRow ∷ row r startRow ∷ row r boundaryLengthRow ∷ row r overgrownLengthRow
+    ∷ row r storeRow ∷ row r activeRow ∷ []
 
 -- after b₀, the block b is in form and holds the cleared state, in the rows of b₀ cleared
 pub record Cleared (b₀ b : List ℤ) : Type 0 where
@@ -99,27 +100,3 @@ pub record Cleared (b₀ b : List ℤ) : Type 0 where
   pub len : length b ≡ length b₀
 
 -- ---- the number of nodes
-
--- after b₀, the block b has x nodes, and all else as it was
-pub record Recounted (b₀ b : List ℤ) (x : ℕ) : Type 0 where
-  pub laid : Laid b
-  pub rows : rowsOf b ≡ set (rowsOf b₀) 0 (set (row (rowsOf b₀) 0) 4 x)
-  pub vertices : vertexCount (stateOf b) ≡ vertexCount (stateOf b₀)
-  pub edges : edgeCount (stateOf b) ≡ edgeCount (stateOf b₀)
-  pub sides : sideCount (stateOf b) ≡ sideCount (stateOf b₀)
-  pub nodes : nodeCount (stateOf b) ≡ x
-  pub node-limit : stateOf b .nodeLimit ≡ stateOf b₀ .nodeLimit
-  pub store-limit : stateOf b .storeLimit ≡ stateOf b₀ .storeLimit
-  pub len : length b ≡ length b₀
-
--- after b₀, the active list of the block b ends behind x nodes, and all else is as it was
-pub record ActiveRecounted (b₀ b : List ℤ) (x : ℕ) : Type 0 where
-  pub laid : Laid b
-  pub rows : rowsOf b ≡ set (rowsOf b₀) 0 (set (row (rowsOf b₀) 0) 5 x)
-  pub vertices : vertexCount (stateOf b) ≡ vertexCount (stateOf b₀)
-  pub edges : edgeCount (stateOf b) ≡ edgeCount (stateOf b₀)
-  pub sides : sideCount (stateOf b) ≡ sideCount (stateOf b₀)
-  pub nodes : nodeCount (stateOf b) ≡ nodeCount (stateOf b₀)
-  pub node-limit : stateOf b .nodeLimit ≡ stateOf b₀ .nodeLimit
-  pub store-limit : stateOf b .storeLimit ≡ stateOf b₀ .storeLimit
-  pub len : length b ≡ length b₀

@@ -17,3 +17,7 @@ wordAt b i = toNat (getD b i (pos 0))
 -- the n words from place p on, as numbers
 unfoldable pub numbersAt : List ℤ → ℕ → ℕ → List ℕ
 numbersAt b p n = map toNat (take n (drop p b))
+
+-- the numbers of words are below this: 2 to the power 63
+abbrev pub wordLimit : ℕ
+wordLimit = 9223372036854775808

@@ -3,6 +3,11 @@
 ghost use mathlib.Core.Path.{_≡_};
 ghost use Rattle.graph.specs.Node.{moved, movedTop, Movable, TopMovable, NodeMovable, emptyNode, grownNode};
 
+// Directions.
+pub const DOWN: usize = 0;
+
+pub const UP: usize = 1;
+
 pub struct DualNode {
     pub class: usize, // a defect's vertex, or V + the first member of a blossom
     pub state: usize, // 0 Stay, 1 Grow, 2 Shrink
@@ -46,7 +51,7 @@ pub fn move_number(direction: usize, by: usize, x: usize) -> usize
     requires { ⌜ Movable direction by x ⌝ }
     ensures { λ r. ⌜ r ≡ moved direction by x ⌝ }
 {
-    if direction == 1 { x + by } else { x - by }
+    if direction == UP { x + by } else { x - by }
 }
 
 // The top amount moved, if there is one.

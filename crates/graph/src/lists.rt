@@ -7,10 +7,11 @@ ghost use Prim.Native.Nat.{_<_, _≤_};
 ghost use lib.ListN.{length, getD};
 ghost use Rattle.graph.specs.State.{sideCount, nodeCount, boundaryOf, overgrownOf};
 ghost use Rattle.graph.specs.Sound.{entries};
-ghost use Rattle.graph.specs.Word.{toNat};
+ghost use Rattle.graph.specs.Word.{toNat, wordLimit};
 ghost use Rattle.graph.specs.Layout.{overgrownFrom, stateOf};
-ghost use Rattle.graph.specs.Form.{Laid, Listed, sidesOk};
-ghost use Rattle.graph.specs.laws.List.{startWord};
+ghost use Rattle.graph.specs.Form.{Laid, Listed};
+ghost use Rattle.graph.specs.inner.Form.{sidesOk};
+ghost use Rattle.graph.specs.inner.Lists.{startWord};
 use crate::rows;
 
 // Where the lists of node n begin in the store.
@@ -18,7 +19,7 @@ pub fn start(b: &[i64], n: usize) -> usize
     requires { ⌜ Laid (now b) × Listed (now b) × (n < nodeCount (stateOf (now b))) ⌝ }
     ensures { λ r. ⌜ (r ≡ startWord (now (b .entry)) n) × (r ≤ 65536) ⌝ }
 {
-    rows::node_word(b, 4, n)
+    rows::node_word(b, rows::START, n)
 }
 
 // ---- the boundary
@@ -28,13 +29,13 @@ pub fn boundary_len(b: &[i64], n: usize) -> usize
     requires { ⌜ Laid (now b) × Listed (now b) × (n < nodeCount (stateOf (now b))) ⌝ }
     ensures { λ r. ⌜ (r ≡ length (boundaryOf (stateOf (now (b .entry))) n)) × (r ≤ 65536) ⌝ }
 {
-    rows::node_word(b, 5, n)
+    rows::node_word(b, rows::BOUNDARY_LENGTH, n)
 }
 
 // Number i of the boundary of node n.
 pub fn boundary_word(b: &[i64], n: usize, i: usize) -> usize
     requires { ⌜ Laid (now b) × Listed (now b) × (n < nodeCount (stateOf (now b))) × (i < length (boundaryOf (stateOf (now b)) n)) ⌝ }
-    ensures { λ r. ⌜ (r ≡ getD (boundaryOf (stateOf (now (b .entry))) n) i 0) × (r < 9223372036854775808) ⌝ }
+    ensures { λ r. ⌜ (r ≡ getD (boundaryOf (stateOf (now (b .entry))) n) i 0) × (r < wordLimit) ⌝ }
 {
     let a = start(b, n);
     rows::store_word(b, a + i)
@@ -42,7 +43,8 @@ pub fn boundary_word(b: &[i64], n: usize, i: usize) -> usize
 
 // The same where the boundary is known to hold sides.
 pub fn boundary_side(b: &[i64], n: usize, i: usize) -> usize
-    requires { ⌜ Laid (now b) × Listed (now b) × (n < nodeCount (stateOf (now b))) × (sidesOk (stateOf (now b)) n ≡ true) × (i < length (boundaryOf (stateOf (now b)) n)) ⌝ }
+    requires { ⌜ Laid (now b) × Listed (now b) × (n < nodeCount (stateOf (now b))) × (sidesOk (stateOf (now b)) n ≡ true)
+        × (i < length (boundaryOf (stateOf (now b)) n)) ⌝ }
     ensures { λ r. ⌜ (r ≡ getD (boundaryOf (stateOf (now (b .entry))) n) i 0) × (r < sideCount (stateOf (now (b .entry)))) ⌝ }
 {
     boundary_word(b, n, i)
@@ -65,13 +67,13 @@ pub fn overgrown_len(b: &[i64], n: usize) -> usize
     requires { ⌜ Laid (now b) × Listed (now b) × (n < nodeCount (stateOf (now b))) ⌝ }
     ensures { λ r. ⌜ (r ≡ length (overgrownOf (stateOf (now (b .entry))) n)) × (r ≤ 65536) ⌝ }
 {
-    rows::node_word(b, 6, n)
+    rows::node_word(b, rows::OVERGROWN_LENGTH, n)
 }
 
 // Entry i from the top of the overgrown stack of node n, as its word.
 pub fn overgrown_word(b: &[i64], n: usize, i: usize) -> usize
     requires { ⌜ Laid (now b) × Listed (now b) × (n < nodeCount (stateOf (now b))) × (i < length (overgrownOf (stateOf (now b)) n)) ⌝ }
-    ensures { λ r. ⌜ (overgrownFrom r ≡ getD (overgrownOf (stateOf (now (b .entry))) n) i (overgrownFrom 0)) × (r < 9223372036854775808) ⌝ }
+    ensures { λ r. ⌜ (overgrownFrom r ≡ getD (overgrownOf (stateOf (now (b .entry))) n) i (overgrownFrom 0)) × (r < wordLimit) ⌝ }
 {
     let a = start(b, n);
     let k = boundary_len(b, n);

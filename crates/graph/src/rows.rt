@@ -5,9 +5,49 @@ ghost use Prim.Native.Nat.{_+_, _<_, _≤_};
 ghost use lib.ListN.{length, getD, set};
 ghost use Rattle.graph.specs.State.{vertexCount, edgeCount, sideCount, nodeCount};
 ghost use Rattle.graph.specs.Layout.{rowsOf, row, stateOf};
-ghost use Rattle.graph.specs.Form.{Laid, Rowed};
-ghost use Rattle.graph.specs.laws.Row.{Found};
+ghost use Rattle.graph.specs.Form.{Laid};
+ghost use Rattle.graph.specs.inner.Form.{Rowed};
+ghost use Rattle.graph.specs.inner.Found.{Found};
+ghost use Rattle.graph.specs.Rows.{flagsRow, endRow, weightRow, classRow, storeRow, activeRow};
+ghost use Rattle.graph.specs.Word.{wordLimit};
 use crate::words;
+
+// ---- the rows by what they hold
+
+// Over vertices, from the first of these rows on.
+pub const FLAGS: usize = 0; // virtual + 2 * defect
+
+pub const VERTEX_HOLDER: usize = 1;
+
+pub const VERTEX_GRANDSON: usize = 2;
+
+pub const FIRST: usize = 3; // where the sides at a vertex begin
+
+// Over sides.
+pub const END: usize = 0; // the vertex of a side
+
+pub const GROWTH: usize = 1;
+
+pub const HOLDER: usize = 2;
+
+pub const GRANDSON: usize = 3;
+
+pub const AT: usize = 4; // the sides at each vertex, one after another
+
+// Over nodes.
+pub const CLASS: usize = 0;
+
+pub const GROW_STATE: usize = 1;
+
+pub const PARENT: usize = 2;
+
+pub const DUAL: usize = 3;
+
+pub const START: usize = 4; // where the lists of a node begin
+
+pub const BOUNDARY_LENGTH: usize = 5;
+
+pub const OVERGROWN_LENGTH: usize = 6;
 
 // ---- counts
 
@@ -66,7 +106,7 @@ pub fn active_count(b: &[i64]) -> usize
 // Over vertices: flags, holder, grandson, first.
 fn vertex_place(b: &[i64], k: usize, v: usize) -> usize
     requires { ⌜ Laid (now b) × (k < 4) × (v < vertexCount (stateOf (now b))) ⌝ }
-    ensures { λ r. ⌜ Found (now (b .entry)) (1 + k) v r ⌝ }
+    ensures { λ r. ⌜ Found (now (b .entry)) (flagsRow + k) v r ⌝ }
 {
     let m = words::word(b, 0);
     16 + k * m + v
@@ -75,7 +115,7 @@ fn vertex_place(b: &[i64], k: usize, v: usize) -> usize
 // Over sides: end, growth, holder, grandson, at.
 fn side_place(b: &[i64], k: usize, s: usize) -> usize
     requires { ⌜ Laid (now b) × (k < 5) × (s < sideCount (stateOf (now b))) ⌝ }
-    ensures { λ r. ⌜ Found (now (b .entry)) (5 + k) s r ⌝ }
+    ensures { λ r. ⌜ Found (now (b .entry)) (endRow + k) s r ⌝ }
 {
     let m = words::word(b, 0);
     let e = words::word(b, 1);
@@ -85,7 +125,7 @@ fn side_place(b: &[i64], k: usize, s: usize) -> usize
 // Over edges: weight.
 fn edge_place(b: &[i64], i: usize) -> usize
     requires { ⌜ Laid (now b) × (i < edgeCount (stateOf (now b))) ⌝ }
-    ensures { λ r. ⌜ Found (now (b .entry)) 10 i r ⌝ }
+    ensures { λ r. ⌜ Found (now (b .entry)) weightRow i r ⌝ }
 {
     let m = words::word(b, 0);
     let e = words::word(b, 1);
@@ -95,7 +135,7 @@ fn edge_place(b: &[i64], i: usize) -> usize
 // Over nodes: class, grow state, parent, dual variable, start, boundary length, overgrown length.
 fn node_place(b: &[i64], k: usize, n: usize) -> usize
     requires { ⌜ Laid (now b) × (k < 7) × (n < stateOf (now b) .nodeLimit) ⌝ }
-    ensures { λ r. ⌜ Found (now (b .entry)) (11 + k) n r ⌝ }
+    ensures { λ r. ⌜ Found (now (b .entry)) (classRow + k) n r ⌝ }
 {
     let m = words::word(b, 0);
     let e = words::word(b, 1);
@@ -106,7 +146,7 @@ fn node_place(b: &[i64], k: usize, n: usize) -> usize
 // The list store.
 fn store_place(b: &[i64], i: usize) -> usize
     requires { ⌜ Laid (now b) × (i < stateOf (now b) .storeLimit) ⌝ }
-    ensures { λ r. ⌜ Found (now (b .entry)) 18 i r ⌝ }
+    ensures { λ r. ⌜ Found (now (b .entry)) storeRow i r ⌝ }
 {
     let m = words::word(b, 0);
     let e = words::word(b, 1);
@@ -117,7 +157,7 @@ fn store_place(b: &[i64], i: usize) -> usize
 // The active list.
 fn active_place(b: &[i64], i: usize) -> usize
     requires { ⌜ Laid (now b) × (i < stateOf (now b) .nodeLimit) ⌝ }
-    ensures { λ r. ⌜ Found (now (b .entry)) 19 i r ⌝ }
+    ensures { λ r. ⌜ Found (now (b .entry)) activeRow i r ⌝ }
 {
     let m = words::word(b, 0);
     let e = words::word(b, 1);
@@ -130,14 +170,14 @@ fn active_place(b: &[i64], i: usize) -> usize
 
 pub fn vertex_word(b: &[i64], k: usize, v: usize) -> usize
     requires { ⌜ Laid (now b) × (k < 4) × (v < vertexCount (stateOf (now b))) ⌝ }
-    ensures { λ r. ⌜ (r ≡ getD (row (rowsOf (now (b .entry))) (1 + k)) v 0) × (r < 9223372036854775808) ⌝ }
+    ensures { λ r. ⌜ (r ≡ getD (row (rowsOf (now (b .entry))) (flagsRow + k)) v 0) × (r < wordLimit) ⌝ }
 {
     words::word(b, vertex_place(b, k, v))
 }
 
 pub fn put_vertex(b: &mut [i64], k: usize, v: usize, x: usize)
-    requires { ⌜ Laid (now b) × (k < 4) × (v < vertexCount (stateOf (now b))) × (x < 9223372036854775808) ⌝ }
-    ensures { λ r. ⌜ Rowed (1 + k) (now (b .entry)) (now (b .exit)) (set (row (rowsOf (now (b .entry))) (1 + k)) v x) ⌝ }
+    requires { ⌜ Laid (now b) × (k < 4) × (v < vertexCount (stateOf (now b))) × (x < wordLimit) ⌝ }
+    ensures { λ r. ⌜ Rowed (flagsRow + k) (now (b .entry)) (now (b .exit)) (set (row (rowsOf (now (b .entry))) (flagsRow + k)) v x) ⌝ }
 {
     let p = vertex_place(b, k, v);
     words::put(b, p, x);
@@ -145,14 +185,14 @@ pub fn put_vertex(b: &mut [i64], k: usize, v: usize, x: usize)
 
 pub fn side_word(b: &[i64], k: usize, s: usize) -> usize
     requires { ⌜ Laid (now b) × (k < 5) × (s < sideCount (stateOf (now b))) ⌝ }
-    ensures { λ r. ⌜ (r ≡ getD (row (rowsOf (now (b .entry))) (5 + k)) s 0) × (r < 9223372036854775808) ⌝ }
+    ensures { λ r. ⌜ (r ≡ getD (row (rowsOf (now (b .entry))) (endRow + k)) s 0) × (r < wordLimit) ⌝ }
 {
     words::word(b, side_place(b, k, s))
 }
 
 pub fn put_side(b: &mut [i64], k: usize, s: usize, x: usize)
-    requires { ⌜ Laid (now b) × (k < 5) × (s < sideCount (stateOf (now b))) × (x < 9223372036854775808) ⌝ }
-    ensures { λ r. ⌜ Rowed (5 + k) (now (b .entry)) (now (b .exit)) (set (row (rowsOf (now (b .entry))) (5 + k)) s x) ⌝ }
+    requires { ⌜ Laid (now b) × (k < 5) × (s < sideCount (stateOf (now b))) × (x < wordLimit) ⌝ }
+    ensures { λ r. ⌜ Rowed (endRow + k) (now (b .entry)) (now (b .exit)) (set (row (rowsOf (now (b .entry))) (endRow + k)) s x) ⌝ }
 {
     let p = side_place(b, k, s);
     words::put(b, p, x);
@@ -160,14 +200,14 @@ pub fn put_side(b: &mut [i64], k: usize, s: usize, x: usize)
 
 pub fn edge_word(b: &[i64], i: usize) -> usize
     requires { ⌜ Laid (now b) × (i < edgeCount (stateOf (now b))) ⌝ }
-    ensures { λ r. ⌜ (r ≡ getD (row (rowsOf (now (b .entry))) 10) i 0) × (r < 9223372036854775808) ⌝ }
+    ensures { λ r. ⌜ (r ≡ getD (row (rowsOf (now (b .entry))) weightRow) i 0) × (r < wordLimit) ⌝ }
 {
     words::word(b, edge_place(b, i))
 }
 
 pub fn put_edge(b: &mut [i64], i: usize, x: usize)
-    requires { ⌜ Laid (now b) × (i < edgeCount (stateOf (now b))) × (x < 9223372036854775808) ⌝ }
-    ensures { λ r. ⌜ Rowed 10 (now (b .entry)) (now (b .exit)) (set (row (rowsOf (now (b .entry))) 10) i x) ⌝ }
+    requires { ⌜ Laid (now b) × (i < edgeCount (stateOf (now b))) × (x < wordLimit) ⌝ }
+    ensures { λ r. ⌜ Rowed weightRow (now (b .entry)) (now (b .exit)) (set (row (rowsOf (now (b .entry))) weightRow) i x) ⌝ }
 {
     let p = edge_place(b, i);
     words::put(b, p, x);
@@ -175,14 +215,14 @@ pub fn put_edge(b: &mut [i64], i: usize, x: usize)
 
 pub fn node_word(b: &[i64], k: usize, n: usize) -> usize
     requires { ⌜ Laid (now b) × (k < 7) × (n < stateOf (now b) .nodeLimit) ⌝ }
-    ensures { λ r. ⌜ (r ≡ getD (row (rowsOf (now (b .entry))) (11 + k)) n 0) × (r < 9223372036854775808) ⌝ }
+    ensures { λ r. ⌜ (r ≡ getD (row (rowsOf (now (b .entry))) (classRow + k)) n 0) × (r < wordLimit) ⌝ }
 {
     words::word(b, node_place(b, k, n))
 }
 
 pub fn put_node(b: &mut [i64], k: usize, n: usize, x: usize)
-    requires { ⌜ Laid (now b) × (k < 7) × (n < stateOf (now b) .nodeLimit) × (x < 9223372036854775808) ⌝ }
-    ensures { λ r. ⌜ Rowed (11 + k) (now (b .entry)) (now (b .exit)) (set (row (rowsOf (now (b .entry))) (11 + k)) n x) ⌝ }
+    requires { ⌜ Laid (now b) × (k < 7) × (n < stateOf (now b) .nodeLimit) × (x < wordLimit) ⌝ }
+    ensures { λ r. ⌜ Rowed (classRow + k) (now (b .entry)) (now (b .exit)) (set (row (rowsOf (now (b .entry))) (classRow + k)) n x) ⌝ }
 {
     let p = node_place(b, k, n);
     words::put(b, p, x);
@@ -190,14 +230,14 @@ pub fn put_node(b: &mut [i64], k: usize, n: usize, x: usize)
 
 pub fn store_word(b: &[i64], i: usize) -> usize
     requires { ⌜ Laid (now b) × (i < stateOf (now b) .storeLimit) ⌝ }
-    ensures { λ r. ⌜ (r ≡ getD (row (rowsOf (now (b .entry))) 18) i 0) × (r < 9223372036854775808) ⌝ }
+    ensures { λ r. ⌜ (r ≡ getD (row (rowsOf (now (b .entry))) storeRow) i 0) × (r < wordLimit) ⌝ }
 {
     words::word(b, store_place(b, i))
 }
 
 pub fn put_store(b: &mut [i64], i: usize, x: usize)
-    requires { ⌜ Laid (now b) × (i < stateOf (now b) .storeLimit) × (x < 9223372036854775808) ⌝ }
-    ensures { λ r. ⌜ Rowed 18 (now (b .entry)) (now (b .exit)) (set (row (rowsOf (now (b .entry))) 18) i x) ⌝ }
+    requires { ⌜ Laid (now b) × (i < stateOf (now b) .storeLimit) × (x < wordLimit) ⌝ }
+    ensures { λ r. ⌜ Rowed storeRow (now (b .entry)) (now (b .exit)) (set (row (rowsOf (now (b .entry))) storeRow) i x) ⌝ }
 {
     let p = store_place(b, i);
     words::put(b, p, x);
@@ -206,14 +246,14 @@ pub fn put_store(b: &mut [i64], i: usize, x: usize)
 // Node i of the active list.
 pub fn active_node(b: &[i64], i: usize) -> usize
     requires { ⌜ Laid (now b) × (i < length (stateOf (now b) .active)) ⌝ }
-    ensures { λ r. ⌜ (r ≡ getD (stateOf (now (b .entry)) .active) i 0) × (r < 9223372036854775808) ⌝ }
+    ensures { λ r. ⌜ (r ≡ getD (stateOf (now (b .entry)) .active) i 0) × (r < wordLimit) ⌝ }
 {
     words::word(b, active_place(b, i))
 }
 
 pub fn put_active(b: &mut [i64], i: usize, x: usize)
-    requires { ⌜ Laid (now b) × (i < stateOf (now b) .nodeLimit) × (x < 9223372036854775808) ⌝ }
-    ensures { λ r. ⌜ Rowed 19 (now (b .entry)) (now (b .exit)) (set (row (rowsOf (now (b .entry))) 19) i x) ⌝ }
+    requires { ⌜ Laid (now b) × (i < stateOf (now b) .nodeLimit) × (x < wordLimit) ⌝ }
+    ensures { λ r. ⌜ Rowed activeRow (now (b .entry)) (now (b .exit)) (set (row (rowsOf (now (b .entry))) activeRow) i x) ⌝ }
 {
     let p = active_place(b, i);
     words::put(b, p, x);

@@ -2,9 +2,11 @@
 
 ghost use mathlib.Core.Path.{_≡_};
 ghost use Prim.Native.Nat.{_/_, _<_};
-ghost use Rattle.graph.specs.State.{opposite, heldSide, freeSide, vertexCount, sideCount, nodeCount, endAt, growthAt, holderAt, grandsonAt, withGrowth, withHolder, withGrandson};
+ghost use Rattle.graph.specs.State.{opposite, heldSide, freeSide, vertexCount, sideCount, endAt, growthAt, holderAt, grandsonAt, withGrowth, withHolder, withGrandson};
 ghost use Rattle.graph.specs.Layout.{stateOf};
-ghost use Rattle.graph.specs.Form.{Formed, Becomes};
+ghost use Rattle.graph.specs.Form.{Formed};
+ghost use Rattle.graph.specs.inner.Form.{Becomes};
+ghost use Rattle.graph.specs.Word.{wordLimit};
 use crate::rows;
 
 // The side across.
@@ -20,57 +22,57 @@ pub fn end(b: &[i64], s: usize) -> usize
     requires { ⌜ Formed (now b) × (s < sideCount (stateOf (now b))) ⌝ }
     ensures { λ r. ⌜ (r ≡ endAt (stateOf (now (b .entry))) s) × (r < vertexCount (stateOf (now (b .entry)))) ⌝ }
 {
-    rows::side_word(b, 0, s)
+    rows::side_word(b, rows::END, s)
 }
 
 // The growth of side s.
 pub fn growth(b: &[i64], s: usize) -> usize
     requires { ⌜ Formed (now b) × (s < sideCount (stateOf (now b))) ⌝ }
-    ensures { λ r. ⌜ (r ≡ growthAt (stateOf (now (b .entry))) s) × (r < 9223372036854775808) ⌝ }
+    ensures { λ r. ⌜ (r ≡ growthAt (stateOf (now (b .entry))) s) × (r < wordLimit) ⌝ }
 {
-    rows::side_word(b, 1, s)
+    rows::side_word(b, rows::GROWTH, s)
 }
 
 pub fn set_growth(b: &mut [i64], s: usize, x: usize)
-    requires { ⌜ Formed (now b) × (s < sideCount (stateOf (now b))) × (x < 9223372036854775808) ⌝ }
+    requires { ⌜ Formed (now b) × (s < sideCount (stateOf (now b))) × (x < wordLimit) ⌝ }
     ensures { λ r. ⌜ Becomes (now (b .entry)) (now (b .exit)) (withGrowth (stateOf (now (b .entry))) s x) ⌝ }
 {
-    rows::put_side(b, 1, s, x);
+    rows::put_side(b, rows::GROWTH, s, x);
 }
 
 // The node that holds side s, or none.
 pub fn holder(b: &[i64], s: usize) -> usize
     requires { ⌜ Formed (now b) × (s < sideCount (stateOf (now b))) ⌝ }
-    ensures { λ r. ⌜ (r ≡ holderAt (stateOf (now (b .entry))) s) × (r < 9223372036854775808) ⌝ }
+    ensures { λ r. ⌜ (r ≡ holderAt (stateOf (now (b .entry))) s) × (r < wordLimit) ⌝ }
 {
-    rows::side_word(b, 2, s)
+    rows::side_word(b, rows::HOLDER, s)
 }
 
 pub fn set_holder(b: &mut [i64], s: usize, x: usize)
-    requires { ⌜ Formed (now b) × (s < sideCount (stateOf (now b))) × (x < 9223372036854775808) ⌝ }
+    requires { ⌜ Formed (now b) × (s < sideCount (stateOf (now b))) × (x < wordLimit) ⌝ }
     ensures { λ r. ⌜ Becomes (now (b .entry)) (now (b .exit)) (withHolder (stateOf (now (b .entry))) s x) ⌝ }
 {
-    rows::put_side(b, 2, s, x);
+    rows::put_side(b, rows::HOLDER, s, x);
 }
 
 // The defect node that the growth of side s came from, or none.
 pub fn grandson(b: &[i64], s: usize) -> usize
     requires { ⌜ Formed (now b) × (s < sideCount (stateOf (now b))) ⌝ }
-    ensures { λ r. ⌜ (r ≡ grandsonAt (stateOf (now (b .entry))) s) × (r < 9223372036854775808) ⌝ }
+    ensures { λ r. ⌜ (r ≡ grandsonAt (stateOf (now (b .entry))) s) × (r < wordLimit) ⌝ }
 {
-    rows::side_word(b, 3, s)
+    rows::side_word(b, rows::GRANDSON, s)
 }
 
 fn set_grandson(b: &mut [i64], s: usize, x: usize)
-    requires { ⌜ Formed (now b) × (s < sideCount (stateOf (now b))) × (x < 9223372036854775808) ⌝ }
+    requires { ⌜ Formed (now b) × (s < sideCount (stateOf (now b))) × (x < wordLimit) ⌝ }
     ensures { λ r. ⌜ Becomes (now (b .entry)) (now (b .exit)) (withGrandson (stateOf (now (b .entry))) s x) ⌝ }
 {
-    rows::put_side(b, 3, s, x);
+    rows::put_side(b, rows::GRANDSON, s, x);
 }
 
 // Side s is held by node n for the defect node stored as g.
 pub fn hold(b: &mut [i64], s: usize, n: usize, g: usize)
-    requires { ⌜ Formed (now b) × (s < sideCount (stateOf (now b))) × (n < 1024) × (g < 9223372036854775808) ⌝ }
+    requires { ⌜ Formed (now b) × (s < sideCount (stateOf (now b))) × (n < 1024) × (g < wordLimit) ⌝ }
     ensures { λ r. ⌜ Becomes (now (b .entry)) (now (b .exit)) (heldSide (stateOf (now (b .entry))) s n g) ⌝ }
 {
     set_holder(b, s, n + 1);

@@ -6,7 +6,8 @@ ghost use lib.ListN.{length, getD};
 ghost use Rattle.graph.specs.State.{vertexCount, sideCount, sidesAt};
 ghost use Rattle.graph.specs.Layout.{stateOf};
 ghost use Rattle.graph.specs.Form.{Laid, Formed};
-ghost use Rattle.graph.specs.laws.SidesAt.{Rising, firstWord, lastWord};
+ghost use Rattle.graph.specs.inner.SidesAt.{lastWord, firstWord, Rising};
+ghost use Rattle.graph.specs.Word.{wordLimit};
 use crate::rows;
 
 // ---- of a block that is not yet known to be sound
@@ -14,15 +15,15 @@ use crate::rows;
 // Where the sides at vertex v begin in `at`.
 pub fn first(b: &[i64], v: usize) -> usize
     requires { ⌜ Laid (now b) × (v < vertexCount (stateOf (now b))) ⌝ }
-    ensures { λ r. ⌜ (r ≡ firstWord (now (b .entry)) v) × (r < 9223372036854775808) ⌝ }
+    ensures { λ r. ⌜ (r ≡ firstWord (now (b .entry)) v) × (r < wordLimit) ⌝ }
 {
-    rows::vertex_word(b, 3, v)
+    rows::vertex_word(b, rows::FIRST, v)
 }
 
 // Where they end.
 pub fn last(b: &[i64], v: usize) -> usize
     requires { ⌜ Laid (now b) × (v < vertexCount (stateOf (now b))) ⌝ }
-    ensures { λ r. ⌜ (r ≡ lastWord (now (b .entry)) v) × (r < 9223372036854775808) ⌝ }
+    ensures { λ r. ⌜ (r ≡ lastWord (now (b .entry)) v) × (r < wordLimit) ⌝ }
 {
     let m = rows::vertex_count(b);
     if v + 1 < m {
@@ -45,10 +46,10 @@ pub fn stretch_len(b: &[i64], v: usize) -> usize
 // Number i of them.
 pub fn stretch_side(b: &[i64], v: usize, i: usize) -> usize
     requires { ⌜ Laid (now b) × Rising (now b) × (v < vertexCount (stateOf (now b))) × (i < length (sidesAt (stateOf (now b)) v)) ⌝ }
-    ensures { λ r. ⌜ (r ≡ getD (sidesAt (stateOf (now (b .entry))) v) i 0) × (r < 9223372036854775808) ⌝ }
+    ensures { λ r. ⌜ (r ≡ getD (sidesAt (stateOf (now (b .entry))) v) i 0) × (r < wordLimit) ⌝ }
 {
     let a = first(b, v);
-    rows::side_word(b, 4, a + i)
+    rows::side_word(b, rows::AT, a + i)
 }
 
 // ---- of a block in form

@@ -1,11 +1,12 @@
 // The top of a node's overgrown stack, and a node as a value.
 
 ghost use mathlib.Core.Path.{_≡_};
-ghost use Prim.Native.Nat.{_<_, _≤_};
+ghost use Prim.Native.Nat.{_<_};
 ghost use lib.ListN.{length};
 ghost use Rattle.graph.specs.State.{nodeCount, overgrownOf, withOvergrown};
 ghost use Rattle.graph.specs.Layout.{stateOf};
-ghost use Rattle.graph.specs.Form.{Formed, Becomes};
+ghost use Rattle.graph.specs.Form.{Formed};
+ghost use Rattle.graph.specs.inner.Form.{Becomes};
 ghost use Rattle.graph.specs.Node.{withTop, topAmount, nodeAt};
 use crate::dual_node::DualNode;
 use crate::lists;
@@ -15,7 +16,9 @@ use crate::rows;
 // The top amount of node n becomes x.
 pub fn set_amount(b: &mut [i64], n: usize, x: usize)
     requires { ⌜ Formed (now b) × (n < nodeCount (stateOf (now b))) × (0 < length (overgrownOf (stateOf (now b)) n)) × (x < 9007199254740992) ⌝ }
-    ensures { λ r. ⌜ Becomes (now (b .entry)) (now (b .exit)) (withOvergrown (stateOf (now (b .entry))) n (withTop x (overgrownOf (stateOf (now (b .entry))) n))) ⌝ }
+    ensures { λ r.
+        ⌜ Becomes (now (b .entry)) (now (b .exit))
+        (withOvergrown (stateOf (now (b .entry))) n (withTop x (overgrownOf (stateOf (now (b .entry))) n))) ⌝ }
 {
     let a = lists::start(b, n);
     let k = lists::boundary_len(b, n);

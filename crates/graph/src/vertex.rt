@@ -4,7 +4,9 @@ ghost use mathlib.Core.Path.{_≡_};
 ghost use Prim.Native.Nat.{_<_, _≤_};
 ghost use Rattle.graph.specs.State.{heldVertex, freeVertex, vertexCount, virtualAt, defectAt, vertexHolderAt, vertexGrandsonAt, withDefect, withVertexHolder, withVertexGrandson};
 ghost use Rattle.graph.specs.Layout.{stateOf};
-ghost use Rattle.graph.specs.Form.{Formed, Becomes};
+ghost use Rattle.graph.specs.Form.{Formed};
+ghost use Rattle.graph.specs.inner.Form.{Becomes};
+ghost use Rattle.graph.specs.Word.{wordLimit};
 use crate::rows;
 
 // 1 if vertex v is virtual, 0 else.
@@ -12,15 +14,15 @@ pub fn virtual_flag(b: &[i64], v: usize) -> usize
     requires { ⌜ Formed (now b) × (v < vertexCount (stateOf (now b))) ⌝ }
     ensures { λ r. ⌜ (r ≡ virtualAt (stateOf (now (b .entry))) v) × (r ≤ 1) ⌝ }
 {
-    rows::vertex_word(b, 0, v) % 2
+    rows::vertex_word(b, rows::FLAGS, v) % 2
 }
 
 // 1 if vertex v is a defect, 0 else.
 pub fn defect_flag(b: &[i64], v: usize) -> usize
     requires { ⌜ Formed (now b) × (v < vertexCount (stateOf (now b))) ⌝ }
-    ensures { λ r. ⌜ (r ≡ defectAt (stateOf (now (b .entry))) v) × (r < 9223372036854775808) ⌝ }
+    ensures { λ r. ⌜ (r ≡ defectAt (stateOf (now (b .entry))) v) × (r < wordLimit) ⌝ }
 {
-    rows::vertex_word(b, 0, v) / 2
+    rows::vertex_word(b, rows::FLAGS, v) / 2
 }
 
 // Vertex v is a defect if x is 1, none if x is 0.
@@ -28,43 +30,43 @@ pub fn set_defect(b: &mut [i64], v: usize, x: usize)
     requires { ⌜ Formed (now b) × (v < vertexCount (stateOf (now b))) × (x ≤ 1) ⌝ }
     ensures { λ r. ⌜ Becomes (now (b .entry)) (now (b .exit)) (withDefect (stateOf (now (b .entry))) v x) ⌝ }
 {
-    let f = rows::vertex_word(b, 0, v);
-    rows::put_vertex(b, 0, v, f % 2 + 2 * x);
+    let f = rows::vertex_word(b, rows::FLAGS, v);
+    rows::put_vertex(b, rows::FLAGS, v, f % 2 + 2 * x);
 }
 
 // The node that holds vertex v, or none.
 pub fn holder(b: &[i64], v: usize) -> usize
     requires { ⌜ Formed (now b) × (v < vertexCount (stateOf (now b))) ⌝ }
-    ensures { λ r. ⌜ (r ≡ vertexHolderAt (stateOf (now (b .entry))) v) × (r < 9223372036854775808) ⌝ }
+    ensures { λ r. ⌜ (r ≡ vertexHolderAt (stateOf (now (b .entry))) v) × (r < wordLimit) ⌝ }
 {
-    rows::vertex_word(b, 1, v)
+    rows::vertex_word(b, rows::VERTEX_HOLDER, v)
 }
 
 fn set_holder(b: &mut [i64], v: usize, x: usize)
-    requires { ⌜ Formed (now b) × (v < vertexCount (stateOf (now b))) × (x < 9223372036854775808) ⌝ }
+    requires { ⌜ Formed (now b) × (v < vertexCount (stateOf (now b))) × (x < wordLimit) ⌝ }
     ensures { λ r. ⌜ Becomes (now (b .entry)) (now (b .exit)) (withVertexHolder (stateOf (now (b .entry))) v x) ⌝ }
 {
-    rows::put_vertex(b, 1, v, x);
+    rows::put_vertex(b, rows::VERTEX_HOLDER, v, x);
 }
 
 // The defect node from which vertex v was reached, or none.
 pub fn grandson(b: &[i64], v: usize) -> usize
     requires { ⌜ Formed (now b) × (v < vertexCount (stateOf (now b))) ⌝ }
-    ensures { λ r. ⌜ (r ≡ vertexGrandsonAt (stateOf (now (b .entry))) v) × (r < 9223372036854775808) ⌝ }
+    ensures { λ r. ⌜ (r ≡ vertexGrandsonAt (stateOf (now (b .entry))) v) × (r < wordLimit) ⌝ }
 {
-    rows::vertex_word(b, 2, v)
+    rows::vertex_word(b, rows::VERTEX_GRANDSON, v)
 }
 
 fn set_grandson(b: &mut [i64], v: usize, x: usize)
-    requires { ⌜ Formed (now b) × (v < vertexCount (stateOf (now b))) × (x < 9223372036854775808) ⌝ }
+    requires { ⌜ Formed (now b) × (v < vertexCount (stateOf (now b))) × (x < wordLimit) ⌝ }
     ensures { λ r. ⌜ Becomes (now (b .entry)) (now (b .exit)) (withVertexGrandson (stateOf (now (b .entry))) v x) ⌝ }
 {
-    rows::put_vertex(b, 2, v, x);
+    rows::put_vertex(b, rows::VERTEX_GRANDSON, v, x);
 }
 
 // Vertex v is held by node n for the defect node stored as g.
 pub fn hold(b: &mut [i64], v: usize, n: usize, g: usize)
-    requires { ⌜ Formed (now b) × (v < vertexCount (stateOf (now b))) × (n < 1024) × (g < 9223372036854775808) ⌝ }
+    requires { ⌜ Formed (now b) × (v < vertexCount (stateOf (now b))) × (n < 1024) × (g < wordLimit) ⌝ }
     ensures { λ r. ⌜ Becomes (now (b .entry)) (now (b .exit)) (heldVertex (stateOf (now (b .entry))) v n g) ⌝ }
 {
     set_holder(b, v, n + 1);

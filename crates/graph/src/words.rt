@@ -5,11 +5,11 @@ ghost use Prim.Native.Nat.{_<_, _≤_};
 ghost use lib.ListN.{length, set};
 ghost use lib.IntN.{pos, natAbs};
 ghost use lib.Signed.{nonNeg};
-ghost use Rattle.graph.specs.Word.{toNat, wordAt};
+ghost use Rattle.graph.specs.Word.{toNat, wordAt, wordLimit};
 
 // The number that a word stands for; the greatest word for a negative one.
 pub fn to_nat(x: i64) -> usize
-    ensures { λ r. ⌜ (r ≡ toNat x) × (r < 9223372036854775808) ⌝ }
+    ensures { λ r. ⌜ (r ≡ toNat x) × (r < wordLimit) ⌝ }
 {
     if x < 0 {
         9223372036854775807
@@ -20,7 +20,7 @@ pub fn to_nat(x: i64) -> usize
 
 // A number as a word.
 pub fn to_word(x: usize) -> i64
-    requires { ⌜ x < 9223372036854775808 ⌝ }
+    requires { ⌜ x < wordLimit ⌝ }
     ensures { λ r. ⌜ r ≡ pos x ⌝ }
 {
     x as i64
@@ -29,14 +29,14 @@ pub fn to_word(x: usize) -> i64
 // The number at place i.
 pub fn word(b: &[i64], i: usize) -> usize
     requires { ⌜ i < length (now b) ⌝ }
-    ensures { λ r. ⌜ (r ≡ wordAt (now (b .entry)) i) × (r < 9223372036854775808) ⌝ }
+    ensures { λ r. ⌜ (r ≡ wordAt (now (b .entry)) i) × (r < wordLimit) ⌝ }
 {
     to_nat(b[i])
 }
 
 // The number x is put at place i.
 pub fn put(b: &mut [i64], i: usize, x: usize)
-    requires { ⌜ (i < length (now b)) × (x < 9223372036854775808) ⌝ }
+    requires { ⌜ (i < length (now b)) × (x < wordLimit) ⌝ }
     ensures { λ r. ⌜ now (b .exit) ≡ set (now (b .entry)) i (pos x) ⌝ }
 {
     b[i] = to_word(x);
@@ -51,7 +51,7 @@ pub fn non_negative(x: i64) -> bool
 
 // How far a signed number is from zero.
 pub fn magnitude(x: i64) -> usize
-    ensures { λ r. ⌜ (r ≡ natAbs x) × (r ≤ 9223372036854775808) ⌝ }
+    ensures { λ r. ⌜ (r ≡ natAbs x) × (r ≤ wordLimit) ⌝ }
 {
     if x < 0 {
         (-1 - x) as usize + 1

@@ -1,3 +1,3 @@
 -- What the contracts of `grow_pass` cite beside the definitions in `pass`; its laws are in laws/.
-pub mod Growing
+pub mod inner
 pub mod laws

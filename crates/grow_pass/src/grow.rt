@@ -8,12 +8,13 @@ ghost use Rattle.graph.specs.Basic.{any};
 ghost use Rattle.graph.specs.State.{opposite, sideCount, nodeCount, grandsonAt, boundaryOf, overgrownOf, heldSide};
 ghost use Rattle.graph.specs.Sound.{entries, entriesOf};
 ghost use Rattle.graph.specs.Layout.{stateOf};
-ghost use Rattle.graph.specs.Form.{Formed, Becomes, sidesOk};
+ghost use Rattle.graph.specs.Form.{Formed};
+ghost use Rattle.graph.specs.inner.Form.{Becomes, sidesOk};
 ghost use Rattle.pass.specs.Work.{finishPass};
 ghost use Rattle.pass.specs.Grow.{reaches, growStep, growScanned, growPass};
 ghost use Rattle.pass.specs.Scratch.{zeroScratch};
-ghost use Rattle.pass.specs.Ready.{Ready, Growable, AfterPass};
-ghost use Rattle.grow_pass.specs.Growing.{workIn, Working, Worked};
+ghost use Rattle.pass.specs.inner.Ready.{Ready, Growable, AfterPass};
+ghost use Rattle.grow_pass.specs.inner.Growing.{growWorkIn, GrowWorking, GrowWorked};
 use crate::take;
 use crate::take::GrowProgress;
 use pass::scratch;
@@ -68,8 +69,8 @@ fn grow_step(
     s: usize,
     p: GrowProgress,
 ) -> GrowProgress
-    requires { ⌜ Working (now b) (now t) n m p × (s < m) × (p .kept + p .noted < m) ⌝ }
-    ensures { λ r. ⌜ Worked (now (b .entry)) (now (b .exit)) (now (t .exit)) n m r (growStep n (workIn (now (b .entry)) (now (t .entry)) n m p) s) ⌝ }
+    requires { ⌜ GrowWorking (now b) (now t) n m p × (s < m) × (p .kept + p .noted < m) ⌝ }
+    ensures { λ r. ⌜ GrowWorked (now (b .entry)) (now (b .exit)) (now (t .exit)) n m r (growStep n (growWorkIn (now (b .entry)) (now (t .entry)) n m p) s) ⌝ }
 {
     if reaches(b, s) {
         hold_far(b, n, s);
@@ -93,8 +94,10 @@ fn grow_step(
 
 // The boundary of node n, side by side.
 fn grow_scan(b: &mut [i64], t: &mut [i64], n: usize, m: usize) -> GrowProgress
-    requires { ⌜ Formed (now b) × (n < nodeCount (stateOf (now b))) × (sideCount (stateOf (now b)) ≡ m) × (now t ≡ zeroScratch (3 * m)) × (sidesOk (stateOf (now b)) n ≡ true) × (length (boundaryOf (stateOf (now b)) n) ≤ m) ⌝ }
-    ensures { λ r. ⌜ Worked (now (b .entry)) (now (b .exit)) (now (t .exit)) n m r (growScanned (stateOf (now (b .entry))) n) ⌝ }
+    requires { ⌜ Formed (now b) × (n < nodeCount (stateOf (now b))) × (sideCount (stateOf (now b)) ≡ m)
+        × (now t ≡ zeroScratch (3 * m)) × (sidesOk (stateOf (now b)) n ≡ true)
+        × (length (boundaryOf (stateOf (now b)) n) ≤ m) ⌝ }
+    ensures { λ r. ⌜ GrowWorked (now (b .entry)) (now (b .exit)) (now (t .exit)) n m r (growScanned (stateOf (now (b .entry))) n) ⌝ }
 {
     let l = graph::lists::boundary_len(b, n);
     let mut i = 0;
@@ -115,7 +118,7 @@ fn grow_scan(b: &mut [i64], t: &mut [i64], n: usize, m: usize) -> GrowProgress
 // The pass up to its end: over the boundary, then over what was noted.
 fn grow_work(b: &mut [i64], t: &mut [i64], n: usize, m: usize) -> GrowProgress
     requires { ⌜ Ready (now b) (now t) n × Growable (stateOf (now b)) n × (sideCount (stateOf (now b)) ≡ m) ⌝ }
-    ensures { λ r. ⌜ Worked (now (b .entry)) (now (b .exit)) (now (t .exit)) n m r (growPass (stateOf (now (b .entry))) n) ⌝ }
+    ensures { λ r. ⌜ GrowWorked (now (b .entry)) (now (b .exit)) (now (t .exit)) n m r (growPass (stateOf (now (b .entry))) n) ⌝ }
 {
     let p = grow_scan(b, t, n, m);
     take::take_noted(b, t, n, m, p)
@@ -123,8 +126,13 @@ fn grow_work(b: &mut [i64], t: &mut [i64], n: usize, m: usize) -> GrowProgress
 
 // The end of the pass: the lists of node n are written, and the scratch is cleared.
 fn finish(b: &mut [i64], t: &mut [i64], n: usize, m: usize, p: GrowProgress)
-    requires { ⌜ Working (now b) (now t) n m p × (entries (stateOf (now b)) + (p .kept + length (overgrownOf (stateOf (now b)) n) + p .pushed) ≤ stateOf (now b) .storeLimit + entriesOf (stateOf (now b)) n) ⌝ }
-    ensures { λ r. ⌜ Becomes (now (b .entry)) (now (b .exit)) (finishPass (workIn (now (b .entry)) (now (t .entry)) n m p) n) × (now (t .exit) ≡ zeroScratch (3 * m)) ⌝ }
+    requires { ⌜ GrowWorking (now b) (now t) n m p
+        ×
+        (entries (stateOf (now b)) + (p .kept + length (overgrownOf (stateOf (now b)) n) + p .pushed)
+        ≤ stateOf (now b) .storeLimit + entriesOf (stateOf (now b)) n) ⌝ }
+    ensures { λ r.
+        ⌜ Becomes (now (b .entry)) (now (b .exit)) (finishPass (growWorkIn (now (b .entry)) (now (t .entry)) n m p) n)
+        × (now (t .exit) ≡ zeroScratch (3 * m)) ⌝ }
 {
     let o = graph::lists::overgrown_len(b, n);
     store::replace::replace_lists(b, n, t, p.kept, o, 2 * m, p.pushed);

@@ -6,10 +6,10 @@ ghost use Prim.Native.Nat.{_<_};
 ghost use lib.Dec.{ltb};
 ghost use Rattle.graph.specs.Basic.{fold, all};
 ghost use Rattle.graph.specs.State.{vertexCount, sidesAt};
-ghost use Rattle.graph.specs.Word.{numbersAt};
+ghost use Rattle.graph.specs.Word.{numbersAt, wordLimit};
 ghost use Rattle.graph.specs.Layout.{stateOf};
 ghost use Rattle.pass.specs.Grow.{takeSide, takeVertex, takeStep};
-ghost use Rattle.grow_pass.specs.Growing.{workIn, Working, Worked, OwnKept};
+ghost use Rattle.grow_pass.specs.inner.Growing.{growWorkIn, GrowWorking, GrowWorked, OwnKept};
 
 // How far a growing pass has come: how many entries each section of its scratch has.
 pub struct GrowProgress {
@@ -29,8 +29,8 @@ fn take_side(
     s: usize,
     p: GrowProgress,
 ) -> GrowProgress
-    requires { ⌜ Working (now b) (now t) n m p × OwnKept (now b) (now t) n m p × (s < m) × (g < 9223372036854775808) ⌝ }
-    ensures { λ r. ⌜ Worked (now (b .entry)) (now (b .exit)) (now (t .exit)) n m r (takeSide n g (workIn (now (b .entry)) (now (t .entry)) n m p) s) ⌝ }
+    requires { ⌜ GrowWorking (now b) (now t) n m p × OwnKept (now b) (now t) n m p × (s < m) × (g < wordLimit) ⌝ }
+    ensures { λ r. ⌜ GrowWorked (now (b .entry)) (now (b .exit)) (now (t .exit)) n m r (takeSide n g (growWorkIn (now (b .entry)) (now (t .entry)) n m p) s) ⌝ }
 {
     if graph::side::holder(b, s) == 0 {
         let w = graph::edge::weight(b, s / 2);
@@ -57,8 +57,11 @@ fn take_sides(
     v: usize,
     p: GrowProgress,
 ) -> GrowProgress
-    requires { ⌜ Working (now b) (now t) n m p × OwnKept (now b) (now t) n m p × (v < vertexCount (stateOf (now b))) × (g < 9223372036854775808) ⌝ }
-    ensures { λ r. ⌜ Worked (now (b .entry)) (now (b .exit)) (now (t .exit)) n m r (fold (takeSide n g) (workIn (now (b .entry)) (now (t .entry)) n m p) (sidesAt (stateOf (now (b .entry))) v)) ⌝ }
+    requires { ⌜ GrowWorking (now b) (now t) n m p × OwnKept (now b) (now t) n m p × (v < vertexCount (stateOf (now b))) × (g < wordLimit) ⌝ }
+    ensures { λ r.
+        ⌜ GrowWorked (now (b .entry)) (now (b .exit)) (now (t .exit)) n m r
+        (fold (takeSide n g) (growWorkIn (now (b .entry)) (now (t .entry)) n m p)
+        (sidesAt (stateOf (now (b .entry))) v)) ⌝ }
 {
     let l = graph::sides::sides_len(b, v);
     let mut i = 0;
@@ -81,8 +84,11 @@ fn take_vertex(
     v: usize,
     p: GrowProgress,
 ) -> GrowProgress
-    requires { ⌜ Working (now b) (now t) n m p × OwnKept (now b) (now t) n m p × (v < vertexCount (stateOf (now b))) × (g < 9223372036854775808) × (p .pushed < m) ⌝ }
-    ensures { λ r. ⌜ Worked (now (b .entry)) (now (b .exit)) (now (t .exit)) n m r (takeVertex n g (workIn (now (b .entry)) (now (t .entry)) n m p) v) ⌝ }
+    requires { ⌜ GrowWorking (now b) (now t) n m p × OwnKept (now b) (now t) n m p × (v < vertexCount (stateOf (now b)))
+        × (g < wordLimit) × (p .pushed < m) ⌝ }
+    ensures { λ r.
+        ⌜ GrowWorked (now (b .entry)) (now (b .exit)) (now (t .exit)) n m r
+        (takeVertex n g (growWorkIn (now (b .entry)) (now (t .entry)) n m p) v) ⌝ }
 {
     let before = p.kept;
     graph::vertex::hold(b, v, n, g);
@@ -109,8 +115,8 @@ fn take_step(
     s: usize,
     p: GrowProgress,
 ) -> GrowProgress
-    requires { ⌜ Working (now b) (now t) n m p × OwnKept (now b) (now t) n m p × (s < m) × (p .pushed < m) ⌝ }
-    ensures { λ r. ⌜ Worked (now (b .entry)) (now (b .exit)) (now (t .exit)) n m r (takeStep n (workIn (now (b .entry)) (now (t .entry)) n m p) s) ⌝ }
+    requires { ⌜ GrowWorking (now b) (now t) n m p × OwnKept (now b) (now t) n m p × (s < m) × (p .pushed < m) ⌝ }
+    ensures { λ r. ⌜ GrowWorked (now (b .entry)) (now (b .exit)) (now (t .exit)) n m r (takeStep n (growWorkIn (now (b .entry)) (now (t .entry)) n m p) s) ⌝ }
 {
     let o = graph::side::opposite(s);
     let v = graph::side::end(b, o);
@@ -124,8 +130,12 @@ fn take_step(
 
 // All noted sides, in order.
 pub fn take_noted(b: &mut [i64], t: &mut [i64], n: usize, m: usize, p: GrowProgress) -> GrowProgress
-    requires { ⌜ Working (now b) (now t) n m p × OwnKept (now b) (now t) n m p × (all (λ s. ltb s m) (numbersAt (now t) m (p .noted)) ≡ true) × (p .pushed ≡ 0) ⌝ }
-    ensures { λ r. ⌜ Worked (now (b .entry)) (now (b .exit)) (now (t .exit)) n m r (fold (takeStep n) (workIn (now (b .entry)) (now (t .entry)) n m p) (numbersAt (now (t .entry)) m (p .noted))) ⌝ }
+    requires { ⌜ GrowWorking (now b) (now t) n m p × OwnKept (now b) (now t) n m p
+        × (all (λ s. ltb s m) (numbersAt (now t) m (p .noted)) ≡ true) × (p .pushed ≡ 0) ⌝ }
+    ensures { λ r.
+        ⌜ GrowWorked (now (b .entry)) (now (b .exit)) (now (t .exit)) n m r
+        (fold (takeStep n) (growWorkIn (now (b .entry)) (now (t .entry)) n m p)
+        (numbersAt (now (t .entry)) m (p .noted))) ⌝ }
 {
     let l = p.noted;
     let mut i = 0;

@@ -1,8 +1,8 @@
 -- Growth of a prepared node by a length l above 0, up or down: what refuses it, and the state that it leaves.
-use Prim.Native.Nat.{ℕ, zero, suc, _+_, _-_}
-use mathlib.Core.Bool.{Bool, true, false, _&&_, _||_, not}
+use Prim.Native.Nat.{ℕ, _+_}
+use mathlib.Core.Bool.{Bool, false, _&&_, _||_, not}
 use mathlib.Core.List.{List, [], _∷_}
-use lib.Dec.{leb, ltb, eqb}
+use lib.Dec.{ltb, eqb}
 use Rattle.graph.specs.Basic.{if_then_else_, fold, any}
 use Rattle.graph.specs.State.{State, Overgrown, opposite, growthAt, holderAt, dualOf, boundaryOf, overgrownOf, grownOver, weightOver, withGrowth, withDual, withOvergrown, up}
 use Rattle.graph.specs.Node.{moved}
@@ -19,7 +19,9 @@ passesWeight c n l s = not (eqb (holderAt c (opposite s)) (n + 1)) && ltb (weigh
 
 -- 12: the dual variable, the top amount or a side's growth would pass its limit
 unfoldable pub passesLimit : State → ℕ → ℕ → Bool
-passesLimit c n l = ltb dualLimit (dualOf c n + l) || topIs (λ a. ltb dualLimit (a + l)) (overgrownOf c n) || any (λ s. ltb growthLimit (growthAt c s + l)) (boundaryOf c n)
+passesLimit c n l =
+    ltb dualLimit (dualOf c n + l) || topIs (λ a. ltb dualLimit (a + l)) (overgrownOf c n)
+    || any (λ s. ltb growthLimit (growthAt c s + l)) (boundaryOf c n)
 
 -- 11: the dual variable, the top amount or a boundary side's growth is under l
 unfoldable pub fallsShort : State → ℕ → ℕ → Bool

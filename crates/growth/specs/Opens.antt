@@ -3,5 +3,6 @@ use Prim.Native.Nat.{ℕ}
 use Rattle.growth.specs.Growth
 
 unfoldable pub everything : ℕ
-unfolding Growth.topIs Growth.passesWeight Growth.passesLimit Growth.fallsShort Growth.growCheck Growth.movedStack Growth.moveSide Growth.growApply
+unfolding Growth.topIs Growth.passesWeight Growth.passesLimit Growth.fallsShort Growth.growCheck Growth.movedStack
+    Growth.moveSide Growth.growApply
 everything = 0

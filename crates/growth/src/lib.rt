@@ -4,18 +4,20 @@ ghost use mathlib.Core.Path.{_≡_};
 ghost use mathlib.Core.Bool.{true};
 ghost use mathlib.Core.List.{map};
 ghost use lib.Dec.{ltb};
-ghost use Rattle.graph.specs.Word.{toNat};
+ghost use Rattle.graph.specs.Word.{toNat, wordLimit};
 ghost use Prim.Native.Nat.{_<_, _≤_};
 ghost use Rattle.graph.specs.Basic.{all, any, fold};
 ghost use Rattle.graph.specs.State.{sideCount, nodeCount, boundaryOf, overgrownOf, growthAt, withOvergrown};
 ghost use Rattle.graph.specs.Node.{Movable, moved, withTop};
 ghost use Rattle.graph.specs.Layout.{stateOf};
-ghost use Rattle.graph.specs.Form.{Formed, Becomes, sidesOk};
-ghost use Rattle.graph.specs.Readable.{Readable};
+ghost use Rattle.graph.specs.Form.{Formed};
+ghost use Rattle.graph.specs.inner.Form.{Becomes, sidesOk};
+ghost use Rattle.graph.specs.inner.Readable.{Readable};
 ghost use Rattle.growth.specs.Growth.{passesWeight, growCheck, moveSide, growApply};
-ghost use Rattle.growth.specs.Moving.{numberRefuses, nodeRefuses, sideRefuses, refuses, moveNode, SidesMovable, TopPut, Growing};
+ghost use Rattle.growth.specs.inner.Moving.{numberRefuses, nodeRefuses, sideRefuses, refuses, moveNode, SidesMovable, TopPut, Growing};
 use graph::dual_node;
 use graph::dual_node::DualNode;
+use graph::dual_node::UP;
 use graph::edge;
 use graph::lists;
 use graph::node;
@@ -27,7 +29,8 @@ use graph::words;
 
 // Whether growing side s by l passes the weight of its edge, which node n does not hold on both sides.
 fn passes_weight(b: &[i64], n: usize, l: usize, s: usize) -> bool
-    requires { ⌜ Formed (now b) × Readable (stateOf (now b)) × (n < nodeCount (stateOf (now b))) × (l ≤ 9223372036854775808) × (s < sideCount (stateOf (now b))) ⌝ }
+    requires { ⌜ Formed (now b) × Readable (stateOf (now b)) × (n < nodeCount (stateOf (now b))) × (l ≤ wordLimit)
+        × (s < sideCount (stateOf (now b))) ⌝ }
     ensures { λ r. ⌜ r ≡ passesWeight (stateOf (now (b .entry))) n l s ⌝ }
 {
     let o = side::opposite(s);
@@ -37,7 +40,8 @@ fn passes_weight(b: &[i64], n: usize, l: usize, s: usize) -> bool
 
 // Whether side s calls for refusal k: 10, 12, or else 11.
 fn side_refuses(b: &[i64], n: usize, l: usize, k: usize, s: usize) -> bool
-    requires { ⌜ Formed (now b) × Readable (stateOf (now b)) × (n < nodeCount (stateOf (now b))) × (l ≤ 9223372036854775808) × (s < sideCount (stateOf (now b))) ⌝ }
+    requires { ⌜ Formed (now b) × Readable (stateOf (now b)) × (n < nodeCount (stateOf (now b))) × (l ≤ wordLimit)
+        × (s < sideCount (stateOf (now b))) ⌝ }
     ensures { λ r. ⌜ r ≡ sideRefuses (stateOf (now (b .entry))) n l k s ⌝ }
 {
     if k == 10 {
@@ -51,7 +55,8 @@ fn side_refuses(b: &[i64], n: usize, l: usize, k: usize, s: usize) -> bool
 
 // Whether some side of a boundary, handed on as its stretch of the list store, calls for refusal k.
 fn some_side_refuses(b: &[i64], boundary: &[i64], n: usize, l: usize, k: usize) -> bool
-    requires { ⌜ Formed (now b) × Readable (stateOf (now b)) × (n < nodeCount (stateOf (now b))) × (l ≤ 9223372036854775808) × (all (λ s. ltb s (sideCount (stateOf (now b)))) (map toNat (now boundary)) ≡ true) ⌝ }
+    requires { ⌜ Formed (now b) × Readable (stateOf (now b)) × (n < nodeCount (stateOf (now b))) × (l ≤ wordLimit)
+        × (all (λ s. ltb s (sideCount (stateOf (now b)))) (map toNat (now boundary)) ≡ true) ⌝ }
     ensures { λ r. ⌜ r ≡ any (sideRefuses (stateOf (now (b .entry))) n l k) (map toNat (now (boundary .entry))) ⌝ }
 {
     let mut i = 0;
@@ -68,7 +73,8 @@ fn some_side_refuses(b: &[i64], boundary: &[i64], n: usize, l: usize, k: usize) 
 
 // Whether some side of the boundary of node n calls for refusal k.
 fn boundary_refuses(b: &[i64], n: usize, l: usize, k: usize) -> bool
-    requires { ⌜ Formed (now b) × Readable (stateOf (now b)) × (n < nodeCount (stateOf (now b))) × (l ≤ 9223372036854775808) × (sidesOk (stateOf (now b)) n ≡ true) ⌝ }
+    requires { ⌜ Formed (now b) × Readable (stateOf (now b)) × (n < nodeCount (stateOf (now b))) × (l ≤ wordLimit)
+        × (sidesOk (stateOf (now b)) n ≡ true) ⌝ }
     ensures { λ r. ⌜ r ≡ any (sideRefuses (stateOf (now (b .entry))) n l k) (boundaryOf (stateOf (now (b .entry))) n) ⌝ }
 {
     let boundary = lists::boundary(b, n);
@@ -77,7 +83,7 @@ fn boundary_refuses(b: &[i64], n: usize, l: usize, k: usize) -> bool
 
 // Whether a dual variable or an amount calls for refusal k: 12, or else 11.
 fn number_refuses(l: usize, k: usize, x: usize) -> bool
-    requires { ⌜ (l ≤ 9223372036854775808) × (x < 9223372036854775808) ⌝ }
+    requires { ⌜ (l ≤ wordLimit) × (x < wordLimit) ⌝ }
     ensures { λ r. ⌜ r ≡ numberRefuses l k x ⌝ }
 {
     if k == 12 {
@@ -89,7 +95,7 @@ fn number_refuses(l: usize, k: usize, x: usize) -> bool
 
 // Whether the dual variable or the top amount of node n calls for refusal k.
 fn node_refuses(b: &[i64], n: usize, l: usize, k: usize) -> bool
-    requires { ⌜ Formed (now b) × (n < nodeCount (stateOf (now b))) × (l ≤ 9223372036854775808) ⌝ }
+    requires { ⌜ Formed (now b) × (n < nodeCount (stateOf (now b))) × (l ≤ wordLimit) ⌝ }
     ensures { λ r. ⌜ r ≡ nodeRefuses (stateOf (now (b .entry))) n l k ⌝ }
 {
     let y = node::dual(b, n);
@@ -105,7 +111,8 @@ fn node_refuses(b: &[i64], n: usize, l: usize, k: usize) -> bool
 
 // Whether node n or some side of its boundary calls for refusal k.
 fn refuses(b: &[i64], n: usize, l: usize, k: usize) -> bool
-    requires { ⌜ Formed (now b) × Readable (stateOf (now b)) × (n < nodeCount (stateOf (now b))) × (l ≤ 9223372036854775808) × (sidesOk (stateOf (now b)) n ≡ true) ⌝ }
+    requires { ⌜ Formed (now b) × Readable (stateOf (now b)) × (n < nodeCount (stateOf (now b))) × (l ≤ wordLimit)
+        × (sidesOk (stateOf (now b)) n ≡ true) ⌝ }
     ensures { λ r. ⌜ r ≡ refuses (stateOf (now (b .entry))) n l k ⌝ }
 {
     if node_refuses(b, n, l, k) {
@@ -117,10 +124,11 @@ fn refuses(b: &[i64], n: usize, l: usize, k: usize) -> bool
 
 // 0, or what refuses the growth of node n by l in direction d.
 pub fn grow_check(b: &[i64], n: usize, d: usize, l: usize) -> usize
-    requires { ⌜ Formed (now b) × Readable (stateOf (now b)) × (n < nodeCount (stateOf (now b))) × (l ≤ 9223372036854775808) × (sidesOk (stateOf (now b)) n ≡ true) ⌝ }
+    requires { ⌜ Formed (now b) × Readable (stateOf (now b)) × (n < nodeCount (stateOf (now b))) × (l ≤ wordLimit)
+        × (sidesOk (stateOf (now b)) n ≡ true) ⌝ }
     ensures { λ r. ⌜ r ≡ growCheck (stateOf (now (b .entry))) n d l ⌝ }
 {
-    if d == 1 {
+    if d == UP {
         if boundary_refuses(b, n, l, 10) {
             10
         } else if refuses(b, n, l, 12) {
@@ -140,7 +148,9 @@ pub fn grow_check(b: &[i64], n: usize, d: usize, l: usize) -> usize
 // The top amount of a record is written back to node n, if there is one.
 fn put_top(b: &mut [i64], n: usize, x: DualNode)
     requires { ⌜ Formed (now b) × (n < nodeCount (stateOf (now b))) × TopPut (stateOf (now b)) n x ⌝ }
-    ensures { λ r. ⌜ Becomes (now (b .entry)) (now (b .exit)) (withOvergrown (stateOf (now (b .entry))) n (withTop (x .top) (overgrownOf (stateOf (now (b .entry))) n))) ⌝ }
+    ensures { λ r.
+        ⌜ Becomes (now (b .entry)) (now (b .exit))
+        (withOvergrown (stateOf (now (b .entry))) n (withTop (x .top) (overgrownOf (stateOf (now (b .entry))) n))) ⌝ }
 {
     if x.overgrown != 0 {
         top::set_amount(b, n, x.top);
@@ -159,7 +169,8 @@ fn move_node(b: &mut [i64], n: usize, d: usize, l: usize)
 
 // Side s is moved.
 fn move_side(b: &mut [i64], d: usize, l: usize, s: usize)
-    requires { ⌜ Formed (now b) × (s < sideCount (stateOf (now b))) × Movable d l (growthAt (stateOf (now b)) s) × (moved d l (growthAt (stateOf (now b)) s) < 9223372036854775808) ⌝ }
+    requires { ⌜ Formed (now b) × (s < sideCount (stateOf (now b))) × Movable d l (growthAt (stateOf (now b)) s)
+        × (moved d l (growthAt (stateOf (now b)) s) < wordLimit) ⌝ }
     ensures { λ r. ⌜ Becomes (now (b .entry)) (now (b .exit)) (moveSide d l (stateOf (now (b .entry))) s) ⌝ }
 {
     let x = side::growth(b, s);

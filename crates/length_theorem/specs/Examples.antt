@@ -1,23 +1,21 @@
 -- The theorems on graph P, by computing; and the smallest graph on which a tight node gets a free length because a Shrink node stands between.
-use Prim.Native.Nat.{ℕ, suc, _+_, _<_}
+use Prim.Native.Nat.{ℕ, _+_}
 use native.Mathlib.Omega.{arith}
 use mathlib.Core.Path.{_≡_, refl}
-use mathlib.Core.Logic.{_⊎_, inl, inr}
 use mathlib.Core.Bool.{true, false}
 use mathlib.Core.List.{List, [], _∷_}
 use lib.IntN.{pos}
 use Rattle.graph.specs.Open.{Edge, opened, openRefusal}
-use Rattle.graph.specs.State.{growStateOf, growing}
-use Rattle.length.specs.declared.Answer.the-variants.{NonZeroGrow, Unlimited, Conflicting, TouchingVirtual}
+use Rattle.update_length.specs.declared.Answer.the-variants.{Unlimited, Conflicting}
 use Rattle.calls.specs.Calls.{Call, InsertDefect, Grow}
 use Rattle.calls.specs.Examples.{edge}
 use Rattle.distance.specs.Distance.{dist}
 use Rattle.opened_graph.specs.OpenedGraph.{PositiveWeights}
-use Rattle.table.specs.History.{noBlossoms}
-use Rattle.table.specs.Runs.{Run, end}
-use Rattle.table.specs.Opens.{everything}
-use Rattle.length_theorem.specs.Meaning.{runGraph, dualIs, growingLength, DefectAt, ConflictMeans, VirtualMeans, Tight, with-node}
-use Rattle.length_theorem.specs.Theorems.{conflict-is-tight, virtual-is-tight}
+use Rattle.table_theorem.specs.History.{noBlossoms}
+use Rattle.table_theorem.specs.Runs.{Run}
+use Rattle.table_theorem.specs.Opens.{everything}
+use Rattle.length_theorem.specs.Meaning.{runGraph, dualIs, growingLength, DefectAt, ConflictMeans, Tight, with-node}
+use Rattle.length_theorem.specs.Theorems.{conflict-is-tight}
 
 -- ---- graph P with a middle edge of weight w; N 4, L 40
 

@@ -9,13 +9,13 @@ use mathlib.Core.List.{List}
 use lib.IntN.{ℤ, pos}
 use Rattle.graph.specs.State.{defectVertex, nodeCount, classOf, growStateOf, dualOf, growing, shrinking, up}
 use Rattle.graph.specs.Open.{Edge}
-use Rattle.length.specs.declared.Answer.{Answer}
-use Rattle.length.specs.declared.Answer.the-variants.{Conflicting, TouchingVirtual}
+use Rattle.update_length.specs.declared.Answer.{Answer}
+use Rattle.update_length.specs.declared.Answer.the-variants.{Conflicting, TouchingVirtual}
 use Rattle.calls.specs.Calls.{maxUpdateLength}
-use Rattle.distance.specs.Graph.{Graph, Virtual, Walk}
+use Rattle.distance.specs.Graph.{WeightedGraph, Virtual, Walk}
 use Rattle.distance.specs.Distance.{dist}
 use Rattle.opened_graph.specs.OpenedGraph.{openedGraph}
-use Rattle.table.specs.Runs.{Run, end}
+use Rattle.table_theorem.specs.Runs.{Run, end}
 
 -- the answers that name an obstacle of node n: a conflict with a peer, or a virtual vertex
 pub data Obstacle (n : ℕ) : Answer → Type 0 where
@@ -23,7 +23,7 @@ pub data Obstacle (n : ℕ) : Answer → Type 0 where
   touches : (k u : ℕ) → Obstacle n (TouchingVirtual n k u)
 
 module _ {v : ℕ} {edges : List Edge} {virtuals : List ℕ} (r : Run v edges virtuals) where
-  abbrev pub runGraph : Graph
+  abbrev pub runGraph : WeightedGraph
   runGraph = openedGraph v edges virtuals
 
   -- the dual variable of node n after the calls

@@ -6,9 +6,9 @@ use mathlib.Core.Bool.{Bool}
 use mathlib.Core.List.{List}
 use lib.IntN.{ℤ}
 use Rattle.graph.specs.Open.{Edge}
-use Rattle.length.specs.declared.Answer.the-variants.{NonZeroGrow, Unlimited, Conflicting, TouchingVirtual, Refused}
+use Rattle.update_length.specs.declared.Answer.the-variants.{NonZeroGrow, Unlimited, Conflicting, TouchingVirtual, Refused}
 use Rattle.opened_graph.specs.OpenedGraph.{PositiveWeights}
-use Rattle.table.specs.Runs.{Run}
+use Rattle.table_theorem.specs.Runs.{Run}
 use Rattle.length_theorem.specs.Meaning.{Obstacle, growingLength, DefectAt, NoneShrinks, Tight, ConflictMeans, VirtualMeans, Keeps, FreeBy}
 use Rattle.length_theorem.specs.laws.Meaning.{conflict-means, virtual-means, free-keeps, unlimited-keeps, tight-meets}
 

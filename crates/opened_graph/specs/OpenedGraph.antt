@@ -6,10 +6,10 @@ use mathlib.Core.List.{List, map}
 use lib.Dec.{ltb}
 use Rattle.graph.specs.Basic.{all, member, below}
 use Rattle.graph.specs.Open.{Edge, endsOf, flagIn}
-use Rattle.distance.specs.Graph.{Graph}
+use Rattle.distance.specs.Graph.{WeightedGraph}
 
 -- V vertices, the edges in order with their weights, and the virtual vertices, as distances are defined on them
-unfoldable pub openedGraph : ℕ → List Edge → List ℕ → Graph
+unfoldable pub openedGraph : ℕ → List Edge → List ℕ → WeightedGraph
 openedGraph v edges virtuals = record {
   size = v;
   ends = endsOf edges;

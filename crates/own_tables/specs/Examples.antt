@@ -18,7 +18,7 @@ use Rattle.table_check.specs.declared.Verdict.the-variants.{Yes, No, Refused}
 unfoldable pub everything : ℕ
 unfolding
     Graph.everything Word.toNat Opening.givenAt Opening.edgeAt Opening.edgesFrom Opening.virtualsFrom Distance.everything
-    OpenedGraph.openedGraph Handed.distanceOf Handed.distanceIn Handed.handed Verdict.dualOf Verdict.dualsByVertex Verdict.positive
+    OpenedGraph.openedGraph Handed.distanceOf Handed.distanceIn Handed.handed Verdict.givenDualOf Verdict.dualsByVertex Verdict.positive
     Verdict.inReach Verdict.shortest Verdict.pairsFeasible Verdict.virtualsFeasible Verdict.tableAfresh Verdict.right Verdict.sizesRight
     Verdict.lengthsRight Verdict.graphInRange Verdict.defectsInRange Verdict.distancesInRange Verdict.numbersRight Verdict.tableRefusal
     Verdict.verdictBy Verdict.tableVerdict

@@ -12,8 +12,8 @@ use Rattle.graph.specs.Opening.{edgesFrom, virtualsFrom}
 use Rattle.calls.specs.Calls.{growthTable}
 use Rattle.distance.specs.Distance.{unreachable, dist}
 use Rattle.opened_graph.specs.OpenedGraph.{openedGraph}
-use Rattle.table.specs.History.{Entry, entryAt}
-use Rattle.table.specs.Runs.{Run, end, history}
+use Rattle.table_theorem.specs.History.{Entry, entryAt}
+use Rattle.table_theorem.specs.Runs.{Run, end, history}
 
 -- the word of a distance: -1 where there is no way
 unfoldable pub distanceWord : ℕ → ℤ

@@ -6,7 +6,7 @@ use lib.IntN.{ℤ}
 use Rattle.graph.specs.Open.{Edge}
 use Rattle.distance.specs.Nearest.{ReachesVirtual}
 use Rattle.opened_graph.specs.OpenedGraph.{openedGraph, PositiveWeights}
-use Rattle.table.specs.Runs.{Run}
+use Rattle.table_theorem.specs.Runs.{Run}
 use Rattle.table_check.specs.declared.Verdict.the-variants.{Yes}
 use Rattle.table_check.specs.Verdict.{tableVerdict}
 use Rattle.own_tables.specs.Own.{Own}

@@ -1,12 +1,11 @@
 -- One growing pass over node n: it takes the free vertices behind full boundary edges.
-use Prim.Native.Nat.{ℕ, _+_}
-use mathlib.Core.Bool.{Bool, true, false, _&&_, not}
-use mathlib.Core.List.{List, [], _∷_, _++_}
+use Prim.Native.Nat.{ℕ}
+use mathlib.Core.Bool.{Bool, _&&_}
 use lib.Dec.{eqb}
 use lib.ListN.{length}
 use Rattle.graph.specs.Basic.{if_then_else_, fold}
 use Rattle.graph.specs.State.{State, opposite, endAt, holderAt, grandsonAt, sidesAt, passable, vertexHolderAt, boundaryOf, overgrownOf, grownOver, weightOver, heldSide, heldVertex}
-use Rattle.pass.specs.Work.{Work, onState, keep, note, push, callAnother, startPass, finishPass}
+use Rattle.pass.specs.Work.{Work, onState, keep, note, push, callAnother, startPass}
 
 -- the edge of side s is full, its far side is free, and growth goes on at the far vertex
 unfoldable pub reaches : State → ℕ → Bool

@@ -1,7 +1,7 @@
 -- One shrinking pass over node n: it releases overgrown vertices of amount 0, then the vertices behind boundary sides of growth 0.
 use Prim.Native.Nat.{ℕ, _+_}
-use mathlib.Core.Bool.{Bool, true, false, _&&_, not}
-use mathlib.Core.List.{List, [], _∷_, _++_}
+use mathlib.Core.Bool.{Bool, _&&_}
+use mathlib.Core.List.{List, [], _∷_}
 use lib.Dec.{eqb, leb}
 use Rattle.graph.specs.Basic.{if_then_else_, fold}
 use Rattle.graph.specs.State.{State, Overgrown, opposite, endAt, growthAt, holderAt, sidesAt, defectAt, vertexHolderAt, boundaryOf, overgrownOf, grownOver, weightOver, freeSide, freeVertex}

@@ -1,9 +1,9 @@
 -- What a pass holds while it runs, and the small changes that its loops make.
 use Prim.Native.Nat.{ℕ}
-use mathlib.Core.Bool.{Bool, true, false, _||_}
+use mathlib.Core.Bool.{Bool, false, _||_}
 use mathlib.Core.List.{List, [], _∷_, _++_}
 use Rattle.graph.specs.Basic.{if_then_else_, member}
-use Rattle.graph.specs.State.{State, Overgrown, boundaryOf, overgrownOf, withBoundary, withOvergrown}
+use Rattle.graph.specs.State.{State, Overgrown, withBoundary, withOvergrown}
 
 pub record Work : Type 0 where
   pub state : State  -- vertices and sides as changed so far; the node's lists as they were

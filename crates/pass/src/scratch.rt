@@ -3,7 +3,7 @@
 ghost use mathlib.Core.Path.{_≡_};
 ghost use Prim.Native.Nat.{_+_, _≤_};
 ghost use lib.ListN.{length};
-ghost use Rattle.pass.specs.Scratch.{wiped};
+ghost use Rattle.pass.specs.inner.Scratch.{wiped};
 
 // The n words of t from p on are set to zero.
 pub fn wipe(t: &mut [i64], p: usize, n: usize)

@@ -12,23 +12,41 @@ use Rattle.reachable.specs.Reachable.{after, Reachable}
 use Rattle.reachable.specs.Theorems.{reachable-sound}
 
 -- V 5, E 5, N 8, L 200: a ring of four vertices and one beside it
-pub edges : List Edge
-edges = record { left = 0; right = 1; weight = 0 } ∷ record { left = 1; right = 2; weight = 2 } ∷ record { left = 2; right = 3; weight = 2 } ∷ record { left = 3; right = 0; weight = 0 } ∷ record { left = 3; right = 4; weight = 2 } ∷ []
+pub ringEdges : List Edge
+ringEdges =
+    record { left = 0; right = 1; weight = 0 } ∷ record { left = 1; right = 2; weight = 2 }
+    ∷ record { left = 2; right = 3; weight = 2 } ∷ record { left = 3; right = 0; weight = 0 }
+    ∷ record { left = 3; right = 4; weight = 2 } ∷ []
 
 -- node 3 is the blossom; there is no node 9, and vertex 2 is a defect already
 pub calls : List Call
-calls = InsertDefect 0 1 ∷ InsertDefect 2 1 ∷ InsertDefect 4 1 ∷ Grow 0 (pos 1) ∷ Advance 1 ∷ Grow 2 (pos 1) ∷ InsertBlossom 1 (0 ∷ 1 ∷ 2 ∷ []) ∷ Grow 3 (pos 2) ∷ MaxUpdateLength 3 0 true ∷ Grow 3 (negsuc 0) ∷ Prepare 3 0 ∷ SetGrowState 9 1 ∷ InsertDefect 2 1 ∷ []
+calls =
+    InsertDefect 0 1 ∷ InsertDefect 2 1 ∷ InsertDefect 4 1 ∷ Grow 0 (pos 1) ∷ Advance 1 ∷ Grow 2 (pos 1)
+    ∷ InsertBlossom 1 (0 ∷ 1 ∷ 2 ∷ []) ∷ Grow 3 (pos 2) ∷ MaxUpdateLength 3 0 true ∷ Grow 3 (negsuc 0) ∷ Prepare 3 0
+    ∷ SetGrowState 9 1 ∷ InsertDefect 2 1 ∷ []
 
 pub reached : State
-reached = after (opened 5 8 200 edges []) calls
+reached = after (opened 5 8 200 ringEdges []) calls
 
-accepted : openRefusal 5 5 8 200 edges [] true ≡ 0
-unfolding everything edges
+accepted : openRefusal 5 5 8 200 ringEdges [] true ≡ 0
+unfolding everything ringEdges
 accepted = refl
 
 is-reached : Reachable reached
 unfolding reached
-is-reached = record { vertices = 5; edgeNumber = 5; nodes = 8; store = 200; edges = edges; virtuals = []; fits = true; accepted-opening = accepted; calls = calls; is = refl }
+is-reached =
+    record {
+      vertices = 5;
+      edgeNumber = 5;
+      nodes = 8;
+      store = 200;
+      edges = ringEdges;
+      virtuals = [];
+      fits = true;
+      accepted-opening = accepted;
+      calls = calls;
+      is = refl;
+    }
 
 -- the theorem at work
 pub example-sound : stateSound reached ≡ true
@@ -36,10 +54,10 @@ example-sound = reachable-sound reached is-reached
 
 -- the blossom was accepted as node 3, grew by 2 and shrank by 1
 pub example-blossom : (nodeCount reached ≡ 4) × (classOf reached 3 ≡ blossom 0) × (dualOf reached 3 ≡ 1)
-unfolding everything reached after edges calls
+unfolding everything reached after ringEdges calls
 example-blossom = (refl, refl, refl)
 
 -- and by computation
 pub example-computed : stateSound reached ≡ true
-unfolding everything reached after edges calls
+unfolding everything reached after ringEdges calls
 example-computed = refl

@@ -10,12 +10,13 @@ use Rattle.graph.specs.Basic.{member, distinct}
 use Rattle.graph.specs.State.{State, removed, opposite, vertexCount, sideCount, nodeCount, endAt, sidesAt, growthAt, holderAt, vertexHolderAt, defectAt, virtualAt, parentOf, classOf, growStateOf, dualOf, boundaryOf, overgrownOf, grownOver, weightOver, stay, down}
 use Rattle.graph.specs.Open.{Edge, opened, openRefusal}
 use Rattle.graph.specs.Sound.{entries, sound, stateSound}
-use Rattle.graph.specs.laws.Shape.{Shape, sound-entries, sound-active}
+use Rattle.graph.specs.laws.Shape.{sound-entries, sound-active}
+use Rattle.graph.specs.Shape.{Shape}
 use Rattle.graph.specs.laws.Active.{active-once}
 use Rattle.pass.specs.Prepare.{prepareNode}
-use Rattle.length.specs.declared.Answer.the-variants.{Done, Refused}
-use Rattle.length.specs.Answer.{says}
-use Rattle.length.specs.laws.Long.{longAs}
+use Rattle.update_length.specs.declared.Answer.the-variants.{Done, Refused}
+use Rattle.update_length.specs.Answer.{says}
+use Rattle.update_length.specs.laws.Long.{longAs}
 use Rattle.calls.specs.Insert.{occupied, defectRefusal}
 use Rattle.calls.specs.Occupied.{vertexDecides, sidesRead}
 use Rattle.calls.specs.Theorems.{none-read, all-read}
@@ -128,7 +129,8 @@ module _ (c : State) (r : Reachable c) where
   free-side-zero = reachable-invariant c r .clusters .global .free
 
   -- a side is free just where its vertex is
-  pub side-free-with-vertex : (s : ℕ) → s < sideCount c → (holderAt c s ≡ 0 → vertexHolderAt c (endAt c s) ≡ 0) × (vertexHolderAt c (endAt c s) ≡ 0 → holderAt c s ≡ 0)
+  pub side-free-with-vertex : (s : ℕ) → s < sideCount c
+      → (holderAt c s ≡ 0 → vertexHolderAt c (endAt c s) ≡ 0) × (vertexHolderAt c (endAt c s) ≡ 0 → holderAt c s ≡ 0)
   side-free-with-vertex = free-together c (reachable-invariant c r)
 
   -- a virtual vertex is never held
@@ -136,7 +138,8 @@ module _ (c : State) (r : Reachable c) where
   virtual-free = reachable-invariant c r .clusters .defect-nodes .virtuals
 
   -- listed sides at one vertex have the same growth
-  pub listed-same-growth : (n : ℕ) → n < nodeCount c → parentOf c n ≡ 0 → (s t : ℕ) → member s (boundaryOf c n) ≡ true → member t (boundaryOf c n) ≡ true → endAt c s ≡ endAt c t → growthAt c s ≡ growthAt c t
+  pub listed-same-growth : (n : ℕ) → n < nodeCount c → parentOf c n ≡ 0 → (s t : ℕ) → member s (boundaryOf c n) ≡ true
+      → member t (boundaryOf c n) ≡ true → endAt c s ≡ endAt c t → growthAt c s ≡ growthAt c t
   listed-same-growth = same-growth c (reachable-invariant c r)
 
   -- ---- after preparation
@@ -146,7 +149,9 @@ module _ (c : State) (r : Reachable c) where
   prepared-boundary-held = prepared-held c (reachable-invariant c r)
 
   -- and after preparation for shrinking a listed side of growth 0 stands at a defect
-  pub prepared-zero-at-defect : (n : ℕ) → n < nodeCount c → parentOf c n ≡ 0 → (s : ℕ) → member s (boundaryOf (prepareNode c n down .state) n) ≡ true → growthAt (prepareNode c n down .state) s ≡ 0 → defectAt (prepareNode c n down .state) (endAt (prepareNode c n down .state) s) ≢ 0
+  pub prepared-zero-at-defect : (n : ℕ) → n < nodeCount c → parentOf c n ≡ 0 → (s : ℕ)
+      → member s (boundaryOf (prepareNode c n down .state) n) ≡ true → growthAt (prepareNode c n down .state) s ≡ 0
+      → defectAt (prepareNode c n down .state) (endAt (prepareNode c n down .state) s) ≢ 0
   prepared-zero-at-defect = prepared-grown c (reachable-invariant c r)
 
   -- ---- refusal 5
@@ -197,5 +202,6 @@ module _ (c : State) (r : Reachable c) where
   group-length-above-0 = group-positive c (reachable-invariant c r)
 
   -- a round by it, on the state that the group leaves, is refused 9 or 12 only
-  pub round-by-group-refused-only-9-or-12 : (z : ℤ) (e : Bool) → groupLength c .group ≡ groupFree z e → (k : ℕ) → round (groupLength c .state) z .answer ≡ Refused k → member k (9 ∷ 12 ∷ []) ≡ true
+  pub round-by-group-refused-only-9-or-12 : (z : ℤ) (e : Bool) → groupLength c .group ≡ groupFree z e → (k : ℕ)
+      → round (groupLength c .state) z .answer ≡ Refused k → member k (9 ∷ 12 ∷ []) ≡ true
   round-by-group-refused-only-9-or-12 = by-group-refused c (reachable-invariant c r)

@@ -1,14 +1,12 @@
 -- The lines of an outcome, as bytes. Each has the record's number in front and a line feed behind.
-use Prim.Native.Nat.{ℕ, zero, suc, _+_, _-_}
-use mathlib.Core.Bool.{Bool, true, false}
+use Prim.Native.Nat.{ℕ, _+_, _-_}
 use mathlib.Core.List.{List, [], _∷_, _++_, map}
-use lib.IntN.{ℤ}
 use lib.Dec.{leb}
 use lib.ListN.{length, drop}
 use Rattle.graph.specs.Basic.{if_then_else_}
-use Rattle.length.specs.declared.Answer.{Answer}
-use Rattle.length.specs.declared.Answer.the-variants.{NonZeroGrow, Unlimited, Conflicting, TouchingVirtual, BlossomNeedExpand, VertexShrinkStop, VertexShrinkStopPeer, Done, Node, Prepared, Refused, Vertex}
-use Rattle.length.specs.Answer.{flag}
+use Rattle.update_length.specs.declared.Answer.{Answer}
+use Rattle.update_length.specs.declared.Answer.the-variants.{NonZeroGrow, Unlimited, Conflicting, TouchingVirtual, BlossomNeedExpand, VertexShrinkStop, VertexShrinkStopPeer, Done, Node, Prepared, Refused, Vertex}
+use Rattle.update_length.specs.Answer.{flag}
 use Rattle.calls.specs.Calls.{Outcome, answered, growths, touching, grouped}
 use Rattle.records.specs.Text.{ascii, decimal, signedText, spaced}
 
@@ -48,9 +46,9 @@ linesFor k (touching es) = map (contactLine k) es
 linesFor k (grouped g xs) = []
 
 -- all lines, one behind the other
-unfoldable pub joined : List (List ℕ) → List ℕ
-joined [] = []
-joined (l ∷ ls) = l ++ joined ls
+unfoldable pub joinedLines : List (List ℕ) → List ℕ
+joinedLines [] = []
+joinedLines (l ∷ ls) = l ++ joinedLines ls
 
 -- the lines up to the first that does not fit into `space` bytes
 unfoldable pub fitting : ℕ → List (List ℕ) → List ℕ

@@ -2,12 +2,12 @@
 -- A field is read as a number without sign. A negative one reads as 2^31 or more, which is above every limit, so it is
 -- refused just as the negative number is. Only the length of a growth is given its sign.
 use Prim.Native.Nat.{ℕ, zero, suc, _+_, _-_, _*_, _/_, _%_}
-use mathlib.Core.Bool.{Bool, true, false, _&&_, _||_, not}
-use mathlib.Core.List.{List, [], _∷_, tail}
+use mathlib.Core.Bool.{Bool, _&&_, _||_}
+use mathlib.Core.List.{List, [], _∷_}
 use lib.IntN.{ℤ, pos, negsuc}
 use lib.Dec.{leb, ltb, eqb}
 use lib.ListN.{length, getD, take, drop}
-use Rattle.graph.specs.Basic.{if_then_else_, member}
+use Rattle.graph.specs.Basic.{if_then_else_}
 use Rattle.graph.specs.Open.{Edge}
 use Rattle.calls.specs.Calls.{Call, InsertDefect, InsertBlossom, SetGrowState, Prepare, MaxUpdateLength, Grow, ReadTable, Advance, Contacts, Clear}
 

@@ -1,18 +1,17 @@
 -- A run: records in, lines out.
 use Prim.Native.Nat.{ℕ, zero, suc, _+_}
 use mathlib.Core.Path.{_≡_}
-use mathlib.Core.Bool.{Bool, true, false, _&&_, _||_, not}
+use mathlib.Core.Bool.{Bool, true, _||_}
 use mathlib.Core.List.{List, [], _∷_, _++_}
-use lib.Dec.{leb, ltb, eqb}
+use lib.Dec.{ltb, eqb}
 use lib.ListN.{length}
 use Rattle.graph.specs.Basic.{if_then_else_}
 use Rattle.graph.specs.State.{State}
 use Rattle.graph.specs.Open.{Edge, opened, openRefusal}
-use Rattle.length.specs.declared.Answer.{Answer}
-use Rattle.length.specs.declared.Answer.the-variants.{Refused}
-use Rattle.calls.specs.Calls.{Call, Outcome, answered, Response, respond}
-use Rattle.records.specs.Record.{Record, sizes, anEdge, aVirtual, ask, illFormed, Next, nothing, next, nextRecord}
-use Rattle.records.specs.Lines.{linesFor, joined, fitting, over}
+use Rattle.update_length.specs.declared.Answer.the-variants.{Refused}
+use Rattle.calls.specs.Calls.{Call, answered, Response, respond}
+use Rattle.records.specs.Record.{Record, sizes, anEdge, aVirtual, ask, illFormed, nothing, next, nextRecord}
+use Rattle.records.specs.Lines.{linesFor, joinedLines, fitting, over}
 
 -- what has been read before the opening
 pub record Gathered : Type 0 where
@@ -31,12 +30,12 @@ pub data Stage : Type 0 where
   ended : Stage
 
 -- after a record: where the run stands, and the lines of the record
-pub record Turn : Type 0 where
+pub record StepResult : Type 0 where
   pub stage : Stage
   pub lines : List (List ℕ)
 
 -- record k ends the run with a refusal
-unfoldable pub ends : ℕ → ℕ → Turn
+unfoldable pub ends : ℕ → ℕ → StepResult
 ends k code = record { stage = ended; lines = linesFor k (answered (Refused code)) }
 
 unfoldable pub withEdge : Gathered → Edge → Gathered
@@ -58,38 +57,44 @@ runRefusal g = if tooLarge g then 4 else openRefusal (g .v) (g .e) (g .n) (g .l)
 -- ---- a record
 
 -- a call on an opened state
-unfoldable pub toldTurn : ℕ → Response → Turn
-toldTurn k x = record { stage = running (x .state); lines = linesFor k (x .outcome) }
+unfoldable pub callStep : ℕ → Response → StepResult
+callStep k x = record { stage = running (x .state); lines = linesFor k (x .outcome) }
 
 -- the first call, which opens the graph
-unfoldable pub openTurn : ℕ → Gathered → Call → Turn
-openTurn k g a = if eqb (runRefusal g) 0 then toldTurn k (respond (opened (g .v) (g .n) (g .l) (g .edges) (g .virtuals)) a) else ends k (runRefusal g)
+unfoldable pub openStep : ℕ → Gathered → Call → StepResult
+openStep k g a = if eqb (runRefusal g) 0 then callStep k (respond (opened (g .v) (g .n) (g .l) (g .edges) (g .virtuals)) a) else ends k (runRefusal g)
 
 -- record k at a stage
-unfoldable pub turn : ℕ → Stage → Record → Turn
-turn k ended r = record { stage = ended; lines = [] }
-turn k fresh (sizes v e n l) = record { stage = gathering (record { v = v; e = e; n = n; l = l; edges = []; virtuals = [] }); lines = [] }
-turn k fresh (anEdge x) = ends k 3
-turn k fresh (aVirtual x) = ends k 3
-turn k fresh (ask a) = ends k 3
-turn k fresh illFormed = ends k 3
-turn k (gathering g) (sizes v e n l) = ends k 3
-turn k (gathering g) (anEdge x) = record { stage = gathering (withEdge g x); lines = [] }
-turn k (gathering g) (aVirtual x) = record { stage = gathering (withVirtual g x); lines = [] }
-turn k (gathering g) (ask a) = openTurn k g a
-turn k (gathering g) illFormed = ends k 3
-turn k (running c) (sizes v e n l) = ends k 3
-turn k (running c) (anEdge x) = ends k 3
-turn k (running c) (aVirtual x) = ends k 3
-turn k (running c) (ask a) = toldTurn k (respond c a)
-turn k (running c) illFormed = ends k 3
+unfoldable pub recordStep : ℕ → Stage → Record → StepResult
+recordStep k ended r = record { stage = ended; lines = [] }
+recordStep k fresh (sizes v e n l) = record { stage = gathering (record { v = v; e = e; n = n; l = l; edges = []; virtuals = [] }); lines = [] }
+recordStep k fresh (anEdge x) = ends k 3
+recordStep k fresh (aVirtual x) = ends k 3
+recordStep k fresh (ask a) = ends k 3
+recordStep k fresh illFormed = ends k 3
+recordStep k (gathering g) (sizes v e n l) = ends k 3
+recordStep k (gathering g) (anEdge x) = record { stage = gathering (withEdge g x); lines = [] }
+recordStep k (gathering g) (aVirtual x) = record { stage = gathering (withVirtual g x); lines = [] }
+recordStep k (gathering g) (ask a) = openStep k g a
+recordStep k (gathering g) illFormed = ends k 3
+recordStep k (running c) (sizes v e n l) = ends k 3
+recordStep k (running c) (anEdge x) = ends k 3
+recordStep k (running c) (aVirtual x) = ends k 3
+recordStep k (running c) (ask a) = callStep k (respond c a)
+recordStep k (running c) illFormed = ends k 3
 
 -- ---- the run
 
 -- the lines of all records from record k on; at most `fuel` records
 unfoldable pub runFrom : ℕ → ℕ → Stage → List ℕ → List (List ℕ)
 runFrom zero k s b = []
-runFrom (suc fuel) k s b = elim (nextRecord b) [ nothing ↦ [] | next r rest ↦ let t : Turn = turn k s r in t .lines ++ runFrom fuel (k + 1) (t .stage) rest ]
+runFrom (suc fuel) k s b =
+    elim
+    (nextRecord b) [
+      | nothing ↦ []
+      | next r rest ↦ let t : StepResult = recordStep k s r in
+          t .lines ++ runFrom fuel (k + 1) (t .stage) rest
+    ]
 
 -- a record takes at least a byte, so there are no more records than bytes
 unfoldable pub linesIn : List ℕ → List (List ℕ)
@@ -97,7 +102,7 @@ linesIn b = runFrom (length b) 1 fresh b
 
 -- all that the program writes
 unfoldable pub linesOf : List ℕ → List ℕ
-linesOf b = joined (linesIn b)
+linesOf b = joinedLines (linesIn b)
 
 -- what the exported call writes into `space` bytes, and the bytes that it leaves there
 unfoldable pub fittedLines : List ℕ → ℕ → List ℕ

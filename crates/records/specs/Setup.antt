@@ -51,8 +51,9 @@ storedOf s words = virtualsFrom (take (s .virtuals) words)
 unfoldable pub noEdge : Edge
 noEdge = record { left = 0; right = 0; weight = 0 }
 
--- struct and words hold what was gathered: the sizes, the count of the edges and the first 128 of them, the distinct virtual vertices below 64, and whether one was out of range
-pub record Holding (s : Setup) (edges virtuals : List ℤ) (g : Gathered) : Type 0 where
+-- struct and words hold what was gathered: the sizes, the count of the edges and the first 128 of them, the distinct
+-- virtual vertices below 64, and whether one was out of range
+pub record SetupHolds (s : Setup) (edges virtuals : List ℤ) (g : Gathered) : Type 0 where
   pub vertices : s .v ≡ g .v
   pub edge-size : s .e ≡ g .e
   pub node-limit : s .n ≡ g .n

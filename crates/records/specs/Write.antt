@@ -38,7 +38,7 @@ unfoldable pub shortLines : List (List ℕ) → Bool
 shortLines ls = all (λ l. leb (length l) 128) ls
 
 -- from b, n, full to c, m, stopped: the lines ls were put, which are short, and no more was written than there is room
-pub record Told (b : List ℕ) (n : ℕ) (full : Bool) (c : List ℕ) (m : ℕ) (stopped : Bool) (ls : List (List ℕ)) : Type 0 where
+pub record LinesPut (b : List ℕ) (n : ℕ) (full : Bool) (c : List ℕ) (m : ℕ) (stopped : Bool) (ls : List (List ℕ)) : Type 0 where
   pub page-is : page c m stopped ≡ putLines (page b n full) ls
   pub short : shortLines ls ≡ true
   pub room : m ≤ length c

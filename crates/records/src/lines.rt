@@ -5,7 +5,7 @@ ghost use Prim.Native.Nat.{_+_, _≤_};
 ghost use lib.ListN.{length};
 ghost use Rattle.records.specs.Text.{decimal, spaced};
 ghost use Rattle.records.specs.Lines.{line};
-ghost use Rattle.records.specs.Write.{Written, Told};
+ghost use Rattle.records.specs.Write.{Written, LinesPut};
 use crate::text;
 
 // How many bytes are written, and whether a line did not fit.
@@ -17,7 +17,7 @@ pub struct Out {
 // The line goes behind the others, if it fits and all before it did.
 fn put_line(lines: &mut [u8], o: Out, l: &[u8]) -> Out
     requires { ⌜ (o .at ≤ length (now lines)) × (length (now l) ≤ 128) ⌝ }
-    ensures { λ r. ⌜ Told (now (lines .entry)) (o .at) (o .full) (now (lines .exit)) (r .at) (r .full) (now (l .entry) ∷ []) ⌝ }
+    ensures { λ r. ⌜ LinesPut (now (lines .entry)) (o .at) (o .full) (now (lines .exit)) (r .at) (r .full) (now (l .entry) ∷ []) ⌝ }
 {
     if o.full {
         return o;
@@ -55,7 +55,9 @@ fn write_line(t: &mut [u8], k: usize, w: &[u8], ns: &[usize]) -> usize
 // The line of record k with a word and numbers goes behind the others.
 pub fn tell(lines: &mut [u8], o: Out, k: usize, w: &[u8], ns: &[usize]) -> Out
     requires { ⌜ (o .at ≤ length (now lines)) × (length (now w) + length (spaced (now ns)) ≤ 106) ⌝ }
-    ensures { λ r. ⌜ Told (now (lines .entry)) (o .at) (o .full) (now (lines .exit)) (r .at) (r .full) (line k (now (w .entry) ++ spaced (now (ns .entry))) ∷ []) ⌝ }
+    ensures { λ r.
+        ⌜ LinesPut (now (lines .entry)) (o .at) (o .full) (now (lines .exit)) (r .at) (r .full)
+        (line k (now (w .entry) ++ spaced (now (ns .entry))) ∷ []) ⌝ }
 {
     let mut t = [0u8; 128];
     let n = write_line(&mut t, k, w, ns);
@@ -65,7 +67,7 @@ pub fn tell(lines: &mut [u8], o: Out, k: usize, w: &[u8], ns: &[usize]) -> Out
 // The line of record k with a word and a number.
 pub fn tell_one(lines: &mut [u8], o: Out, k: usize, w: &[u8], x: usize) -> Out
     requires { ⌜ (o .at ≤ length (now lines)) × (length (now w) ≤ 8) ⌝ }
-    ensures { λ r. ⌜ Told (now (lines .entry)) (o .at) (o .full) (now (lines .exit)) (r .at) (r .full) (line k (now (w .entry) ++ spaced (x ∷ [])) ∷ []) ⌝ }
+    ensures { λ r. ⌜ LinesPut (now (lines .entry)) (o .at) (o .full) (now (lines .exit)) (r .at) (r .full) (line k (now (w .entry) ++ spaced (x ∷ [])) ∷ []) ⌝ }
 {
     tell(lines, o, k, w, &[x])
 }
@@ -73,7 +75,9 @@ pub fn tell_one(lines: &mut [u8], o: Out, k: usize, w: &[u8], x: usize) -> Out
 // The same with three numbers.
 pub fn tell_three(lines: &mut [u8], o: Out, k: usize, w: &[u8], x: usize, y: usize, z: usize) -> Out
     requires { ⌜ (o .at ≤ length (now lines)) × (length (now w) ≤ 8) ⌝ }
-    ensures { λ r. ⌜ Told (now (lines .entry)) (o .at) (o .full) (now (lines .exit)) (r .at) (r .full) (line k (now (w .entry) ++ spaced (x ∷ y ∷ z ∷ [])) ∷ []) ⌝ }
+    ensures { λ r.
+        ⌜ LinesPut (now (lines .entry)) (o .at) (o .full) (now (lines .exit)) (r .at) (r .full)
+        (line k (now (w .entry) ++ spaced (x ∷ y ∷ z ∷ [])) ∷ []) ⌝ }
 {
     tell(lines, o, k, w, &[x, y, z])
 }
@@ -90,7 +94,9 @@ pub fn tell_four(
     u: usize,
 ) -> Out
     requires { ⌜ (o .at ≤ length (now lines)) × (length (now w) ≤ 8) ⌝ }
-    ensures { λ r. ⌜ Told (now (lines .entry)) (o .at) (o .full) (now (lines .exit)) (r .at) (r .full) (line k (now (w .entry) ++ spaced (x ∷ y ∷ z ∷ u ∷ [])) ∷ []) ⌝ }
+    ensures { λ r.
+        ⌜ LinesPut (now (lines .entry)) (o .at) (o .full) (now (lines .exit)) (r .at) (r .full)
+        (line k (now (w .entry) ++ spaced (x ∷ y ∷ z ∷ u ∷ [])) ∷ []) ⌝ }
 {
     tell(lines, o, k, w, &[x, y, z, u])
 }

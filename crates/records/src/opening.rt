@@ -7,7 +7,7 @@ ghost use lib.ListN.{length};
 ghost use Rattle.records.specs.Opening.{largeSizes, complete, openCode, openBlock, openInto, blockOpened};
 use crate::setup::Setup;
 use graph::sizes;
-use memory::open;
+use open_graph::open;
 
 // Whether the sizes are above the program's.
 fn large_sizes(s: Setup) -> bool
@@ -25,8 +25,11 @@ fn complete(s: Setup) -> bool
 
 // The graph is opened at the start of the block; 0, or the refusal of the edges.
 fn open_into(s: Setup, block: &mut [i64], scratch: &[i64], edges: &[i64], virtuals: &[i64]) -> usize
-    requires { ⌜ (4096 ≤ length (now block)) × (768 ≤ length (now scratch)) × (384 ≤ length (now edges)) × (s .virtuals ≤ length (now virtuals)) × (largeSizes s ≡ false) × (complete s ≡ true) ⌝ }
-    ensures { λ r. ⌜ (r ≡ openInto s (now (edges .entry)) (now (virtuals .entry))) × (now (block .exit) ≡ blockOpened s (now (edges .entry)) (now (virtuals .entry)) (now (block .entry))) ⌝ }
+    requires { ⌜ (4096 ≤ length (now block)) × (768 ≤ length (now scratch)) × (384 ≤ length (now edges))
+        × (s .virtuals ≤ length (now virtuals)) × (largeSizes s ≡ false) × (complete s ≡ true) ⌝ }
+    ensures { λ r.
+        ⌜ (r ≡ openInto s (now (edges .entry)) (now (virtuals .entry)))
+        × (now (block .exit) ≡ blockOpened s (now (edges .entry)) (now (virtuals .entry)) (now (block .entry))) ⌝ }
 {
     let m = sizes::block_length(s.v, s.e, s.n, s.l);
     let q = 6 * s.e;
@@ -47,7 +50,9 @@ fn open_into(s: Setup, block: &mut [i64], scratch: &[i64], edges: &[i64], virtua
 // The graph is opened at the start of the block; 0, or the refusal of the opening, which leaves the block as it was.
 pub fn open(s: Setup, block: &mut [i64], scratch: &[i64], edges: &[i64], virtuals: &[i64]) -> usize
     requires { ⌜ (4096 ≤ length (now block)) × (768 ≤ length (now scratch)) × (384 ≤ length (now edges)) × (s .virtuals ≤ length (now virtuals)) ⌝ }
-    ensures { λ r. ⌜ (r ≡ openCode s (now (edges .entry)) (now (virtuals .entry))) × (now (block .exit) ≡ openBlock s (now (edges .entry)) (now (virtuals .entry)) (now (block .entry))) ⌝ }
+    ensures { λ r.
+        ⌜ (r ≡ openCode s (now (edges .entry)) (now (virtuals .entry)))
+        × (now (block .exit) ≡ openBlock s (now (edges .entry)) (now (virtuals .entry)) (now (block .entry))) ⌝ }
 {
     if large_sizes(s) {
         return 4;

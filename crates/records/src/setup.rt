@@ -59,7 +59,12 @@ fn store_edge(edges: &mut [i64], i: usize, x: usize, y: usize, w: usize)
 // The record of an edge.
 pub fn add_edge(s: Setup, edges: &mut [i64], body: &[u8]) -> Setup
     requires { ⌜ (384 ≤ length (now edges)) × (13 < length (now body)) ⌝ }
-    ensures { λ r. ⌜ (r ≡ edgeAdded s) × (now (edges .exit) ≡ storedEdge (now (edges .entry)) (s .edges) (field (now (body .entry)) 0) (field (now (body .entry)) 1) (field (now (body .entry)) 2)) ⌝ }
+    ensures { λ r.
+        ⌜ (r ≡ edgeAdded s)
+        ×
+        (now (edges .exit)
+        ≡ storedEdge (now (edges .entry)) (s .edges) (field (now (body .entry)) 0) (field (now (body .entry)) 1)
+        (field (now (body .entry)) 2)) ⌝ }
 {
     let x = bytes::field(body, 0);
     let y = bytes::field(body, 1);
@@ -101,7 +106,9 @@ fn new_virtual(virtuals: &[i64], n: usize, x: usize) -> bool
 // The record of a virtual vertex. One given twice is virtual once.
 pub fn add_virtual(s: Setup, virtuals: &mut [i64], body: &[u8]) -> Setup
     requires { ⌜ (s .virtuals < length (now virtuals)) × (5 < length (now body)) ⌝ }
-    ensures { λ r. ⌜ (r ≡ virtualAdded s (now (virtuals .entry)) (field (now (body .entry)) 0)) × (now (virtuals .exit) ≡ storedVirtual s (now (virtuals .entry)) (field (now (body .entry)) 0)) ⌝ }
+    ensures { λ r.
+        ⌜ (r ≡ virtualAdded s (now (virtuals .entry)) (field (now (body .entry)) 0))
+        × (now (virtuals .exit) ≡ storedVirtual s (now (virtuals .entry)) (field (now (body .entry)) 0)) ⌝ }
 {
     let x = bytes::field(body, 0);
     if s.v <= x {

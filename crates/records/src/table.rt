@@ -9,8 +9,8 @@ ghost use Rattle.graph.specs.Layout.{stateOf};
 ghost use Rattle.graph.specs.State.{edgeCount};
 ghost use Rattle.calls.specs.Calls.{growths, touching, growthTable, contacts};
 ghost use Rattle.records.specs.Lines.{linesFor};
-ghost use Rattle.records.specs.Table.{edgeLine, touches, linesAt};
-ghost use Rattle.records.specs.Write.{Told};
+ghost use Rattle.records.specs.inner.Table.{edgeLine, touches, linesAt};
+ghost use Rattle.records.specs.Write.{LinesPut};
 use crate::lines;
 use crate::lines::Out;
 use graph::edge;
@@ -20,7 +20,7 @@ use graph::side;
 // The line of edge e goes behind the others.
 fn edge_line(lines: &mut [u8], o: Out, k: usize, b: &[i64], e: usize) -> Out
     requires { ⌜ (o .at ≤ length (now lines)) × Formed (now b) × (e < edgeCount (stateOf (now b))) ⌝ }
-    ensures { λ r. ⌜ Told (now (lines .entry)) (o .at) (o .full) (now (lines .exit)) (r .at) (r .full) (edgeLine k (stateOf (now (b .entry))) e ∷ []) ⌝ }
+    ensures { λ r. ⌜ LinesPut (now (lines .entry)) (o .at) (o .full) (now (lines .exit)) (r .at) (r .full) (edgeLine k (stateOf (now (b .entry))) e ∷ []) ⌝ }
 {
     let x = side::growth(b, 2 * e);
     let y = side::growth(b, 2 * e + 1);
@@ -30,7 +30,9 @@ fn edge_line(lines: &mut [u8], o: Out, k: usize, b: &[i64], e: usize) -> Out
 // The growths of every edge, a line each.
 pub fn table(lines: &mut [u8], o: Out, k: usize, b: &[i64]) -> Out
     requires { ⌜ (o .at ≤ length (now lines)) × Formed (now b) ⌝ }
-    ensures { λ r. ⌜ Told (now (lines .entry)) (o .at) (o .full) (now (lines .exit)) (r .at) (r .full) (linesFor k (growths (growthTable (stateOf (now (b .entry)))))) ⌝ }
+    ensures { λ r.
+        ⌜ LinesPut (now (lines .entry)) (o .at) (o .full) (now (lines .exit)) (r .at) (r .full)
+        (linesFor k (growths (growthTable (stateOf (now (b .entry)))))) ⌝ }
 {
     let n = rows::edge_count(b);
     let mut out = o;
@@ -53,7 +55,7 @@ fn touches(b: &[i64], e: usize) -> bool
 // A line for edge e if its growths sum to its weight.
 fn contact_line(lines: &mut [u8], o: Out, k: usize, b: &[i64], e: usize) -> Out
     requires { ⌜ (o .at ≤ length (now lines)) × Formed (now b) × (e < edgeCount (stateOf (now b))) ⌝ }
-    ensures { λ r. ⌜ Told (now (lines .entry)) (o .at) (o .full) (now (lines .exit)) (r .at) (r .full) (linesAt k (stateOf (now (b .entry))) e) ⌝ }
+    ensures { λ r. ⌜ LinesPut (now (lines .entry)) (o .at) (o .full) (now (lines .exit)) (r .at) (r .full) (linesAt k (stateOf (now (b .entry))) e) ⌝ }
 {
     if touches(b, e) {
         lines::tell_one(lines, o, k, b"contact", e)
@@ -65,7 +67,9 @@ fn contact_line(lines: &mut [u8], o: Out, k: usize, b: &[i64], e: usize) -> Out
 // Each edge whose growths sum to its weight, a line each.
 pub fn contacts(lines: &mut [u8], o: Out, k: usize, b: &[i64]) -> Out
     requires { ⌜ (o .at ≤ length (now lines)) × Formed (now b) ⌝ }
-    ensures { λ r. ⌜ Told (now (lines .entry)) (o .at) (o .full) (now (lines .exit)) (r .at) (r .full) (linesFor k (touching (contacts (stateOf (now (b .entry)))))) ⌝ }
+    ensures { λ r.
+        ⌜ LinesPut (now (lines .entry)) (o .at) (o .full) (now (lines .exit)) (r .at) (r .full)
+        (linesFor k (touching (contacts (stateOf (now (b .entry)))))) ⌝ }
 {
     let n = rows::edge_count(b);
     let mut out = o;

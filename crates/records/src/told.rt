@@ -4,15 +4,15 @@ ghost use mathlib.Core.Path.{_≡_};
 ghost use mathlib.Core.List.{[], _∷_};
 ghost use Prim.Native.Nat.{_≤_};
 ghost use lib.ListN.{length};
-ghost use Rattle.length.specs.Answer.{flag};
-ghost use Rattle.length.specs.declared.Answer.the-variants.{NonZeroGrow};
+ghost use Rattle.update_length.specs.Answer.{flag};
+ghost use Rattle.update_length.specs.declared.Answer.the-variants.{NonZeroGrow};
 ghost use Rattle.records.specs.Lines.{line, wordsOf};
-ghost use Rattle.records.specs.Write.{Told};
+ghost use Rattle.records.specs.Write.{LinesPut};
 use crate::lines;
 use crate::lines::Out;
 use crate::signed_text;
 use crate::text;
-use length::Answer;
+use update_length::Answer;
 
 // 1 or 0.
 fn flag(e: bool) -> usize
@@ -24,7 +24,7 @@ fn flag(e: bool) -> usize
 // The line of an answer that a node may grow by x.
 fn free(lines: &mut [u8], o: Out, k: usize, x: i64, e: bool) -> Out
     requires { ⌜ o .at ≤ length (now lines) ⌝ }
-    ensures { λ r. ⌜ Told (now (lines .entry)) (o .at) (o .full) (now (lines .exit)) (r .at) (r .full) (line k (wordsOf (NonZeroGrow x e)) ∷ []) ⌝ }
+    ensures { λ r. ⌜ LinesPut (now (lines .entry)) (o .at) (o .full) (now (lines .exit)) (r .at) (r .full) (line k (wordsOf (NonZeroGrow x e)) ∷ []) ⌝ }
 {
     let mut w = [0u8; 32];
     let m = text::word(&mut w, 0, b"free ");
@@ -36,7 +36,7 @@ fn free(lines: &mut [u8], o: Out, k: usize, x: i64, e: bool) -> Out
 // The line of an answer to record k goes behind the others.
 pub fn answer(lines: &mut [u8], o: Out, k: usize, a: Answer) -> Out
     requires { ⌜ o .at ≤ length (now lines) ⌝ }
-    ensures { λ r. ⌜ Told (now (lines .entry)) (o .at) (o .full) (now (lines .exit)) (r .at) (r .full) (line k (wordsOf a) ∷ []) ⌝ }
+    ensures { λ r. ⌜ LinesPut (now (lines .entry)) (o .at) (o .full) (now (lines .exit)) (r .at) (r .full) (line k (wordsOf a) ∷ []) ⌝ }
 {
     match a {
         Answer::NonZeroGrow(x, e) => free(lines, o, k, x, e),

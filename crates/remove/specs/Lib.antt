@@ -1,4 +1,3 @@
 -- What the contracts inside `remove` cite. The call itself is defined in crate `calls` (specs/Remove).
-pub mod Stops
-pub mod Opened
+pub mod inner
 pub mod laws

@@ -1,15 +1,16 @@
 // The opened state: the blossom's sides lose their holder, the members hold theirs again and lie in nothing, and the
 // blossom stands for nothing.
 
-ghost use mathlib.Core.Path.{_≡_};
 ghost use Prim.Native.Nat.{_<_};
 ghost use Rattle.graph.specs.Basic.{if_then_else_, fold};
 ghost use Rattle.graph.specs.State.{nodeCount, boundaryOf};
 ghost use Rattle.graph.specs.Layout.{stateOf};
-ghost use Rattle.graph.specs.Form.{Formed, Becomes};
+ghost use Rattle.graph.specs.Form.{Formed};
+ghost use Rattle.graph.specs.inner.Form.{Becomes};
 ghost use Rattle.calls.specs.Remove.{membersOf, memberStep, removedNode, openedBlossom};
-ghost use Rattle.remove.specs.Stops.{SidesIn, isMember};
-ghost use Rattle.remove.specs.Opened.{setHolder};
+ghost use Rattle.remove.specs.inner.Stops.{SidesIn, isMember};
+ghost use Rattle.remove.specs.inner.Opened.{setHolder};
+ghost use Rattle.graph.specs.Word.{wordLimit};
 use graph::lists;
 use graph::node;
 use graph::rows;
@@ -18,7 +19,7 @@ use store::replace;
 
 // Every side in the boundary of node n gets the holder x.
 fn set_holders(b: &mut [i64], n: usize, x: usize)
-    requires { ⌜ Formed (now b) × SidesIn (stateOf (now b)) × (n < nodeCount (stateOf (now b))) × (x < 9223372036854775808) ⌝ }
+    requires { ⌜ Formed (now b) × SidesIn (stateOf (now b)) × (n < nodeCount (stateOf (now b))) × (x < wordLimit) ⌝ }
     ensures { λ r. ⌜ Becomes (now (b .entry)) (now (b .exit)) (fold (setHolder x) (stateOf (now (b .entry))) (boundaryOf (stateOf (now (b .entry))) n)) ⌝ }
 {
     let l = lists::boundary_len(b, n);
@@ -42,7 +43,10 @@ fn return_member(b: &mut [i64], m: usize)
 // The same of node m, where it lies in n.
 fn return_node(b: &mut [i64], n: usize, m: usize)
     requires { ⌜ Formed (now b) × SidesIn (stateOf (now b)) × (m < nodeCount (stateOf (now b))) × (n < 1024) ⌝ }
-    ensures { λ r. ⌜ Becomes (now (b .entry)) (now (b .exit)) (if isMember (stateOf (now (b .entry))) n m then memberStep (stateOf (now (b .entry))) m else stateOf (now (b .entry))) ⌝ }
+    ensures { λ r.
+        ⌜ Becomes (now (b .entry)) (now (b .exit))
+        (if isMember (stateOf (now (b .entry))) n m then memberStep (stateOf (now (b .entry))) m
+        else stateOf (now (b .entry))) ⌝ }
 {
     if node::parent(b, m) == n + 1 {
         return_member(b, m);
@@ -68,7 +72,7 @@ fn remove_node(b: &mut [i64], t: &[i64], n: usize)
     ensures { λ r. ⌜ Becomes (now (b .entry)) (now (b .exit)) (removedNode (stateOf (now (b .entry))) n) ⌝ }
 {
     node::set_removed(b, n);
-    node::set_grow_state(b, n, 0);
+    node::set_grow_state(b, n, node::STAY);
     replace::replace_lists(b, n, t, 0, 0, 0, 0);
 }
 

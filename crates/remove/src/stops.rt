@@ -11,9 +11,9 @@ ghost use Rattle.graph.specs.Basic.{all};
 ghost use Rattle.graph.specs.State.{sideCount, nodeCount, boundaryOf};
 ghost use Rattle.graph.specs.Layout.{stateOf};
 ghost use Rattle.graph.specs.Form.{Formed};
-ghost use Rattle.graph.specs.Scans.{onceAll, Carry};
+ghost use Rattle.graph.specs.inner.Scans.{onceAll, Carry};
 ghost use Rattle.calls.specs.Remove.{stopsOpening};
-ghost use Rattle.remove.specs.Stops.{SidesIn, isHeld, freeBy, isMember, memberLists, entriesBefore, Met};
+ghost use Rattle.remove.specs.inner.Stops.{SidesIn, hasHolder, freeBy, isMember, memberLists, entriesBefore, Met};
 use graph::lists;
 use graph::node;
 use graph::rows;
@@ -21,8 +21,9 @@ use graph::side;
 
 // Whether every side in the boundary of node n is held; they are marked 1 then.
 fn mark_held(b: &[i64], n: usize, own: &mut [usize]) -> bool
-    requires { ⌜ Formed (now b) × SidesIn (stateOf (now b)) × (n < nodeCount (stateOf (now b))) × (sideCount (stateOf (now b)) ≤ length (now own)) × Carry 1 (boundaryOf (stateOf (now b)) n) 0 (now own) ⌝ }
-    ensures { λ r. ⌜ (r ≡ all (isHeld (stateOf (now (b .entry)))) (boundaryOf (stateOf (now (b .entry))) n))
+    requires { ⌜ Formed (now b) × SidesIn (stateOf (now b)) × (n < nodeCount (stateOf (now b)))
+        × (sideCount (stateOf (now b)) ≤ length (now own)) × Carry 1 (boundaryOf (stateOf (now b)) n) 0 (now own) ⌝ }
+    ensures { λ r. ⌜ (r ≡ all (hasHolder (stateOf (now (b .entry)))) (boundaryOf (stateOf (now (b .entry))) n))
         × (r ≡ true → Carry 1 (boundaryOf (stateOf (now (b .entry))) n) (length (boundaryOf (stateOf (now (b .entry))) n)) (now (own .exit))) ⌝ }
 {
     let l = lists::boundary_len(b, n);

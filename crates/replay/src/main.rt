@@ -10,7 +10,7 @@ use records::bytes;
 
 // The records of a frame give lines, which are compared: 1 if they are equal, 2 else.
 fn replay(records: &[u8], wanted: &[u8], lines: &mut [u8]) -> usize {
-    let k = stream::cardrun_lines(records, lines);
+    let k = lines_export::cardrun_lines(records, lines);
     if check::same(&lines[0..k], wanted) {
         1
     } else {

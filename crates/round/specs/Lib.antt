@@ -1,5 +1,4 @@
 -- What the contracts of `round` cite, and its laws.
-pub mod Turn
 pub mod Asked
-pub mod Group
+pub mod inner
 pub mod laws

@@ -1,5 +1,5 @@
 -- Laws of the trial and of the group.
-pub mod Turn
+pub mod Step
 pub mod Trying
 pub mod InTurn
 pub mod Answers

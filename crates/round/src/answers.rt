@@ -6,17 +6,17 @@ ghost use Prim.Native.Nat.{_<_};
 ghost use lib.ListN.{length, getD};
 ghost use Rattle.graph.specs.Basic.{all, fold, member};
 ghost use Rattle.graph.specs.Layout.{stateOf};
-ghost use Rattle.length.specs.Scan.{lesser};
+ghost use Rattle.update_length.specs.Scan.{lesser};
 ghost use Rattle.calls.specs.Round.{answersOf, firstRefusal, isFree, joinLength, joinUnlimited, joinFree};
 ghost use Rattle.calls.specs.declared.group.GroupMaxUpdateLength.the-variants.{Unlimited as groupUnlimited};
-ghost use Rattle.round.specs.Asked.{answerOf, Askable};
-use crate::turn;
+ghost use Rattle.round.specs.inner.Asked.{Askable, answerOf};
+use crate::trial;
 use calls::advance;
 use calls::group::GroupMaxUpdateLength;
 use graph::node;
 use graph::rows;
-use length::Answer;
-use length::scan;
+use update_length::Answer;
+use update_length::scan;
 
 // The answer of an active node n.
 pub fn answer_of(b: &[i64], n: usize) -> Answer
@@ -44,7 +44,7 @@ pub fn first_refusal(b: &[i64]) -> usize
     let k = rows::active_count(b);
     let mut i = 0;
     while i < k {
-        let r = turn::refusal_of(answer_at(b, i));
+        let r = trial::refusal_of(answer_at(b, i));
         if r != 0 {
             return r;
         } else {

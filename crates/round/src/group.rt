@@ -4,13 +4,13 @@ ghost use mathlib.Core.Path.{_≡_};
 ghost use Prim.Native.Nat.{_*_};
 ghost use lib.ListN.{length};
 ghost use Rattle.graph.specs.Layout.{stateOf};
-ghost use Rattle.calls.specs.Reply.{Usable};
+ghost use Rattle.calls.specs.inner.Reply.{Usable};
 ghost use Rattle.calls.specs.Round.{answersOf};
-ghost use Rattle.round.specs.Asked.{Askable};
-ghost use Rattle.round.specs.Group.{ListedGroup, AskedGroup, GroupTried};
+ghost use Rattle.round.specs.inner.Asked.{Askable};
+ghost use Rattle.round.specs.inner.Group.{ListedGroup, AskedGroup, GroupTried};
 use crate::answers;
 use crate::listed;
-use crate::turn;
+use crate::trial;
 use calls::group::GroupMaxUpdateLength;
 
 // Conflicts and stops are listed.
@@ -43,7 +43,7 @@ pub fn compute_maximum_update_length(
     requires { ⌜ Usable (now b) (now t) × (length (now list) ≡ 5 * stateOf (now b) .nodeLimit) ⌝ }
     ensures { λ r. ⌜ GroupTried (now (b .entry)) (now (b .exit)) (now (list .entry)) (now (list .exit)) r × (now (t .exit) ≡ now (t .entry)) ⌝ }
 {
-    let r = turn::in_turn(b, t, 0);
+    let r = trial::in_turn(b, t, 0);
     if r != 0 {
         return GroupMaxUpdateLength::Refused(r);
     }

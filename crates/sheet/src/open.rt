@@ -13,8 +13,8 @@ use crate::SheetOpened;
 use crate::values;
 use crate::weights;
 use graph::sizes;
-use memory::given;
-use memory::open;
+use open_graph::given;
+use open_graph::open;
 
 // Whether edge i has two ends that differ, both vertices.
 fn end_ok(v: usize, edges: &[i64], i: usize) -> bool

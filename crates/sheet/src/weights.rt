@@ -5,7 +5,7 @@ ghost use mathlib.Core.Bool.{true};
 ghost use Prim.Native.Nat.{_*_, _<_, _≤_};
 ghost use lib.ListN.{length};
 ghost use Rattle.sheet.specs.Weight.{halfWeight, scaled};
-ghost use Rattle.sheet.specs.Sheet.{valuesFrom, largest, sheetOk, vanishes, vanished, weighed};
+ghost use Rattle.sheet.specs.Sheet.{valuesFrom, sheetOk, vanishes, vanished, weighed};
 use crate::values;
 use graph::words;
 

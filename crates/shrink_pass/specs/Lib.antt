@@ -1,3 +1,3 @@
 -- What the contracts of `shrink_pass` cite beside the definitions in `pass`; its laws are in laws/.
-pub mod Shrinking
+pub mod inner
 pub mod laws

@@ -10,27 +10,27 @@ ghost use Rattle.graph.specs.Layout.{stateOf};
 ghost use Rattle.graph.specs.State.{vertexCount};
 ghost use Rattle.graph.specs.Word.{wordAt};
 ghost use Rattle.pass.specs.Work.{keepOnce, note};
-ghost use Rattle.shrink_pass.specs.Shrinking.{Busy, Does, Marked, unmarked};
+ghost use Rattle.shrink_pass.specs.inner.Shrinking.{ShrinkWorking, ShrinkWorked, KeptMarked, unmarked};
 ghost use Rattle.pass.specs.Scratch.{zeroScratch};
 use graph::words;
 use pass::scratch;
 
 // What the loops of a shrinking pass hand on.
-pub struct Progress {
+pub struct ShrinkProgress {
     pub kept: usize, // how many sides are kept
     pub noted: usize, // how many vertices are noted
     pub another: bool, // whether another pass is called for
 }
 
 // Side s is kept, once: its mark tells whether it is kept already.
-pub fn keep_once(t: &mut [i64], m: usize, p: Progress, s: usize) -> Progress
+pub fn keep_once(t: &mut [i64], m: usize, p: ShrinkProgress, s: usize) -> ShrinkProgress
     requires { ⌜ (s < m) × (m ≤ 8192) × (p .kept ≤ m) × (length (now t) ≡ 3 * m) ⌝ }
-    ensures { λ r. ⌜ ((b : List ℤ) → Busy b (now (t .entry)) m p → Does b (now (t .entry)) b (now (t .exit)) m p r (λ w. keepOnce w s)) ⌝ }
+    ensures { λ r. ⌜ ((b : List ℤ) → ShrinkWorking b (now (t .entry)) m p → ShrinkWorked b (now (t .entry)) b (now (t .exit)) m p r (λ w. keepOnce w s)) ⌝ }
 {
     if words::word(t, 2 * m + s) == 0 {
         words::put(t, p.kept, s);
         words::put(t, 2 * m + s, 1);
-        Progress {
+        ShrinkProgress {
             kept: p.kept + 1,
             noted: p.noted,
             another: p.another,
@@ -41,12 +41,15 @@ pub fn keep_once(t: &mut [i64], m: usize, p: Progress, s: usize) -> Progress
 }
 
 // Vertex v is noted.
-pub fn note(t: &mut [i64], m: usize, p: Progress, v: usize) -> Progress
+pub fn note(t: &mut [i64], m: usize, p: ShrinkProgress, v: usize) -> ShrinkProgress
     requires { ⌜ (m ≤ 8192) × (p .noted < m) × (length (now t) ≡ 3 * m) × (v < 1024) ⌝ }
-    ensures { λ r. ⌜ ((b : List ℤ) → v < vertexCount (stateOf b) → Busy b (now (t .entry)) m p → Does b (now (t .entry)) b (now (t .exit)) m p r (λ w. note w v)) ⌝ }
+    ensures { λ r.
+        ⌜
+        ((b : List ℤ) → v < vertexCount (stateOf b) → ShrinkWorking b (now (t .entry)) m p
+        → ShrinkWorked b (now (t .entry)) b (now (t .exit)) m p r (λ w. note w v)) ⌝ }
 {
     words::put(t, m + p.noted, v);
-    Progress {
+    ShrinkProgress {
         kept: p.kept,
         noted: p.noted + 1,
         another: p.another,
@@ -67,8 +70,8 @@ fn unmark(t: &mut [i64], m: usize, k: usize)
 }
 
 // The scratch is all zero again.
-pub fn clear(t: &mut [i64], m: usize, p: Progress)
-    requires { ⌜ Marked (now t) m p 0 × (m ≤ 8192) ⌝ }
+pub fn clear(t: &mut [i64], m: usize, p: ShrinkProgress)
+    requires { ⌜ KeptMarked (now t) m p 0 × (m ≤ 8192) ⌝ }
     ensures { λ r. ⌜ now (t .exit) ≡ zeroScratch (3 * m) ⌝ }
 {
     unmark(t, m, p.kept);

@@ -7,9 +7,9 @@ ghost use Rattle.graph.specs.State.{vertexCount, sideCount, nodeCount, sidesAt}
 ghost use Rattle.graph.specs.Layout.{stateOf};
 ghost use Rattle.graph.specs.Form.{Formed};
 ghost use Rattle.pass.specs.Shrink.{closed, dropSide, dropStep, releaseStep};
-ghost use Rattle.shrink_pass.specs.Shrinking.{Busy, Does, partSide, partVertex};
+ghost use Rattle.shrink_pass.specs.inner.Shrinking.{ShrinkWorking, ShrinkWorked, partSide, partVertex};
 use crate::keep;
-use crate::keep::Progress;
+use crate::keep::ShrinkProgress;
 use graph::edge;
 use graph::side;
 use graph::sides;
@@ -28,15 +28,15 @@ fn closed(b: &[i64], n: usize, s: usize) -> bool
 }
 
 // Side s is freed, the side across is kept once, and an edge of weight 0 calls for another pass.
-fn drop_side(b: &mut [i64], t: &mut [i64], m: usize, p: Progress, s: usize) -> Progress
-    requires { ⌜ Busy (now b) (now t) m p × (s < m) ⌝ }
-    ensures { λ r. ⌜ Does (now (b .entry)) (now (t .entry)) (now (b .exit)) (now (t .exit)) m p r (λ w. dropSide w s) ⌝ }
+fn drop_side(b: &mut [i64], t: &mut [i64], m: usize, p: ShrinkProgress, s: usize) -> ShrinkProgress
+    requires { ⌜ ShrinkWorking (now b) (now t) m p × (s < m) ⌝ }
+    ensures { λ r. ⌜ ShrinkWorked (now (b .entry)) (now (t .entry)) (now (b .exit)) (now (t .exit)) m p r (λ w. dropSide w s) ⌝ }
 {
     let o = side::opposite(s);
     let empty = edge::weight(b, s / 2) == 0;
     side::free(b, s);
     let q = keep::keep_once(t, m, p, o);
-    Progress {
+    ShrinkProgress {
         kept: q.kept,
         noted: q.noted,
         another: q.another | empty,
@@ -49,12 +49,12 @@ fn part_side(
     t: &mut [i64],
     n: usize,
     m: usize,
-    p: Progress,
+    p: ShrinkProgress,
     s: usize,
     off: bool,
-) -> Progress
-    requires { ⌜ Busy (now b) (now t) m p × (n < nodeCount (stateOf (now b))) × (s < m) ⌝ }
-    ensures { λ r. ⌜ Does (now (b .entry)) (now (t .entry)) (now (b .exit)) (now (t .exit)) m p r (λ w. partSide off n w s) ⌝ }
+) -> ShrinkProgress
+    requires { ⌜ ShrinkWorking (now b) (now t) m p × (n < nodeCount (stateOf (now b))) × (s < m) ⌝ }
+    ensures { λ r. ⌜ ShrinkWorked (now (b .entry)) (now (t .entry)) (now (b .exit)) (now (t .exit)) m p r (λ w. partSide off n w s) ⌝ }
 {
     if off | closed(b, n, s) {
         drop_side(b, t, m, p, s)
@@ -71,11 +71,13 @@ fn part_sides(
     n: usize,
     v: usize,
     m: usize,
-    p: Progress,
+    p: ShrinkProgress,
     off: bool,
-) -> Progress
-    requires { ⌜ Busy (now b) (now t) m p × (n < nodeCount (stateOf (now b))) × (v < vertexCount (stateOf (now b))) ⌝ }
-    ensures { λ r. ⌜ Does (now (b .entry)) (now (t .entry)) (now (b .exit)) (now (t .exit)) m p r (λ w. fold (partSide off n) w (sidesAt (stateOf (now (b .entry))) v)) ⌝ }
+) -> ShrinkProgress
+    requires { ⌜ ShrinkWorking (now b) (now t) m p × (n < nodeCount (stateOf (now b))) × (v < vertexCount (stateOf (now b))) ⌝ }
+    ensures { λ r.
+        ⌜ ShrinkWorked (now (b .entry)) (now (t .entry)) (now (b .exit)) (now (t .exit)) m p r
+        (λ w. fold (partSide off n) w (sidesAt (stateOf (now (b .entry))) v)) ⌝ }
 {
     let l = sides::sides_len(b, v);
     let mut i = 0;
@@ -95,11 +97,11 @@ fn part_vertex(
     n: usize,
     v: usize,
     m: usize,
-    p: Progress,
+    p: ShrinkProgress,
     off: bool,
-) -> Progress
-    requires { ⌜ Busy (now b) (now t) m p × (n < nodeCount (stateOf (now b))) × (v < vertexCount (stateOf (now b))) ⌝ }
-    ensures { λ r. ⌜ Does (now (b .entry)) (now (t .entry)) (now (b .exit)) (now (t .exit)) m p r (λ w. partVertex off n w v) ⌝ }
+) -> ShrinkProgress
+    requires { ⌜ ShrinkWorking (now b) (now t) m p × (n < nodeCount (stateOf (now b))) × (v < vertexCount (stateOf (now b))) ⌝ }
+    ensures { λ r. ⌜ ShrinkWorked (now (b .entry)) (now (t .entry)) (now (b .exit)) (now (t .exit)) m p r (λ w. partVertex off n w v) ⌝ }
 {
     vertex::free(b, v);
     part_sides(b, t, n, v, m, p, off)
@@ -111,11 +113,11 @@ pub fn drop_vertex(
     t: &mut [i64],
     n: usize,
     m: usize,
-    p: Progress,
+    p: ShrinkProgress,
     v: usize,
-) -> Progress
-    requires { ⌜ Busy (now b) (now t) m p × (n < nodeCount (stateOf (now b))) × (v < vertexCount (stateOf (now b))) ⌝ }
-    ensures { λ r. ⌜ Does (now (b .entry)) (now (t .entry)) (now (b .exit)) (now (t .exit)) m p r (λ w. dropStep n w v) ⌝ }
+) -> ShrinkProgress
+    requires { ⌜ ShrinkWorking (now b) (now t) m p × (n < nodeCount (stateOf (now b))) × (v < vertexCount (stateOf (now b))) ⌝ }
+    ensures { λ r. ⌜ ShrinkWorked (now (b .entry)) (now (t .entry)) (now (b .exit)) (now (t .exit)) m p r (λ w. dropStep n w v) ⌝ }
 {
     if vertex::holder(b, v) == n + 1 {
         part_vertex(b, t, n, v, m, p, true)
@@ -130,11 +132,11 @@ pub fn release_vertex(
     t: &mut [i64],
     n: usize,
     m: usize,
-    p: Progress,
+    p: ShrinkProgress,
     v: usize,
-) -> Progress
-    requires { ⌜ Busy (now b) (now t) m p × (n < nodeCount (stateOf (now b))) × (v < vertexCount (stateOf (now b))) ⌝ }
-    ensures { λ r. ⌜ Does (now (b .entry)) (now (t .entry)) (now (b .exit)) (now (t .exit)) m p r (λ w. releaseStep n w v) ⌝ }
+) -> ShrinkProgress
+    requires { ⌜ ShrinkWorking (now b) (now t) m p × (n < nodeCount (stateOf (now b))) × (v < vertexCount (stateOf (now b))) ⌝ }
+    ensures { λ r. ⌜ ShrinkWorked (now (b .entry)) (now (t .entry)) (now (b .exit)) (now (t .exit)) m p r (λ w. releaseStep n w v) ⌝ }
 {
     if vertex::holder(b, v) == 0 {
         p

@@ -6,13 +6,14 @@ ghost use lib.ListN.{length};
 ghost use Rattle.graph.specs.Basic.{fold, any};
 ghost use Rattle.graph.specs.State.{sideCount, nodeCount, boundaryOf, overgrownOf};
 ghost use Rattle.graph.specs.Layout.{stateOf};
-ghost use Rattle.graph.specs.Form.{Formed, Becomes, sidesOk};
+ghost use Rattle.graph.specs.Form.{Formed};
+ghost use Rattle.graph.specs.inner.Form.{Becomes, sidesOk};
 ghost use mathlib.Core.Bool.{true};
 ghost use Rattle.pass.specs.Shrink.{emptyTops, shrinkStep, releaseStep, shrinkPass};
-ghost use Rattle.pass.specs.Ready.{Ready, Shrinkable, AfterPass};
-ghost use Rattle.shrink_pass.specs.Shrinking.{Shrinking, Busy, Does, emptied};
+ghost use Rattle.pass.specs.inner.Ready.{Ready, Shrinkable, AfterPass};
+ghost use Rattle.shrink_pass.specs.inner.Shrinking.{HasShrinkWork, ShrinkWorking, ShrinkWorked, vertexLeft};
 use crate::keep;
-use crate::keep::Progress;
+use crate::keep::ShrinkProgress;
 use crate::release;
 use crate::tops;
 use graph::lists;
@@ -25,7 +26,7 @@ use store::replace;
 // Whether side s has growth 0 and stands at no defect.
 fn emptied(b: &[i64], s: usize) -> bool
     requires { ⌜ Formed (now b) × (s < sideCount (stateOf (now b))) ⌝ }
-    ensures { λ r. ⌜ r ≡ emptied (stateOf (now (b .entry))) s ⌝ }
+    ensures { λ r. ⌜ r ≡ vertexLeft (stateOf (now (b .entry))) s ⌝ }
 {
     let v = side::end(b, s);
     let empty = side::growth(b, s) == 0;
@@ -35,7 +36,7 @@ fn emptied(b: &[i64], s: usize) -> bool
 // Whether there is such a side in the boundary of node n.
 fn any_emptied(b: &[i64], n: usize) -> bool
     requires { ⌜ Formed (now b) × (n < nodeCount (stateOf (now b))) × (sidesOk (stateOf (now b)) n ≡ true) ⌝ }
-    ensures { λ r. ⌜ r ≡ any (emptied (stateOf (now (b .entry)))) (boundaryOf (stateOf (now (b .entry))) n) ⌝ }
+    ensures { λ r. ⌜ r ≡ any (vertexLeft (stateOf (now (b .entry)))) (boundaryOf (stateOf (now (b .entry))) n) ⌝ }
 {
     let l = lists::boundary_len(b, n);
     let mut i = 0;
@@ -51,9 +52,9 @@ fn any_emptied(b: &[i64], n: usize) -> bool
 }
 
 // Boundary side s: its vertex is noted, or the side is kept once.
-fn shrink_side(b: &[i64], t: &mut [i64], m: usize, p: Progress, s: usize) -> Progress
-    requires { ⌜ Busy (now b) (now t) m p × (s < m) × (p .noted < m) ⌝ }
-    ensures { λ r. ⌜ Does (now (b .entry)) (now (t .entry)) (now (b .entry)) (now (t .exit)) m p r (λ w. shrinkStep w s) ⌝ }
+fn shrink_side(b: &[i64], t: &mut [i64], m: usize, p: ShrinkProgress, s: usize) -> ShrinkProgress
+    requires { ⌜ ShrinkWorking (now b) (now t) m p × (s < m) × (p .noted < m) ⌝ }
+    ensures { λ r. ⌜ ShrinkWorked (now (b .entry)) (now (t .entry)) (now (b .entry)) (now (t .exit)) m p r (λ w. shrinkStep w s) ⌝ }
 {
     if emptied(b, s) {
         let v = side::end(b, s);
@@ -64,9 +65,11 @@ fn shrink_side(b: &[i64], t: &mut [i64], m: usize, p: Progress, s: usize) -> Pro
 }
 
 // The boundary of node n.
-fn shrink_scan(b: &[i64], t: &mut [i64], n: usize, m: usize, p: Progress) -> Progress
-    requires { ⌜ Busy (now b) (now t) m p × (n < nodeCount (stateOf (now b))) × Shrinkable (stateOf (now b)) n × (p .noted ≡ 0) ⌝ }
-    ensures { λ r. ⌜ Does (now (b .entry)) (now (t .entry)) (now (b .entry)) (now (t .exit)) m p r (λ w. fold shrinkStep w (boundaryOf (stateOf (now (b .entry))) n)) ⌝ }
+fn shrink_scan(b: &[i64], t: &mut [i64], n: usize, m: usize, p: ShrinkProgress) -> ShrinkProgress
+    requires { ⌜ ShrinkWorking (now b) (now t) m p × (n < nodeCount (stateOf (now b))) × Shrinkable (stateOf (now b)) n × (p .noted ≡ 0) ⌝ }
+    ensures { λ r.
+        ⌜ ShrinkWorked (now (b .entry)) (now (t .entry)) (now (b .entry)) (now (t .exit)) m p r
+        (λ w. fold shrinkStep w (boundaryOf (stateOf (now (b .entry))) n)) ⌝ }
 {
     let l = lists::boundary_len(b, n);
     let mut i = 0;
@@ -80,9 +83,15 @@ fn shrink_scan(b: &[i64], t: &mut [i64], n: usize, m: usize, p: Progress) -> Pro
 }
 
 // The noted vertices are released.
-fn release_noted(b: &mut [i64], t: &mut [i64], n: usize, m: usize, p: Progress) -> Progress
-    requires { ⌜ Busy (now b) (now t) m p × (n < nodeCount (stateOf (now b))) ⌝ }
-    ensures { λ r. ⌜ Does (now (b .entry)) (now (t .entry)) (now (b .exit)) (now (t .exit)) m p r (λ w. fold (releaseStep n) w (w .noted)) ⌝ }
+fn release_noted(
+    b: &mut [i64],
+    t: &mut [i64],
+    n: usize,
+    m: usize,
+    p: ShrinkProgress,
+) -> ShrinkProgress
+    requires { ⌜ ShrinkWorking (now b) (now t) m p × (n < nodeCount (stateOf (now b))) ⌝ }
+    ensures { λ r. ⌜ ShrinkWorked (now (b .entry)) (now (t .entry)) (now (b .exit)) (now (t .exit)) m p r (λ w. fold (releaseStep n) w (w .noted)) ⌝ }
 {
     let l = p.noted;
     let mut i = 0;
@@ -96,11 +105,14 @@ fn release_noted(b: &mut [i64], t: &mut [i64], n: usize, m: usize, p: Progress) 
 }
 
 // The work of the pass over m sides, with z empty tops.
-fn shrink_work(b: &mut [i64], t: &mut [i64], n: usize, m: usize, z: usize) -> Progress
-    requires { ⌜ Ready (now b) (now t) n × Shrinkable (stateOf (now b)) n × (m ≡ sideCount (stateOf (now b))) × (z ≡ length (emptyTops (overgrownOf (stateOf (now b)) n))) ⌝ }
-    ensures { λ r. ⌜ Becomes (now (b .entry)) (now (b .exit)) (stateOf (now (b .exit))) × Shrinking (now (b .exit)) (now (t .exit)) m r (shrinkPass (stateOf (now (b .entry))) n) ⌝ }
+fn shrink_work(b: &mut [i64], t: &mut [i64], n: usize, m: usize, z: usize) -> ShrinkProgress
+    requires { ⌜ Ready (now b) (now t) n × Shrinkable (stateOf (now b)) n × (m ≡ sideCount (stateOf (now b)))
+        × (z ≡ length (emptyTops (overgrownOf (stateOf (now b)) n))) ⌝ }
+    ensures { λ r.
+        ⌜ Becomes (now (b .entry)) (now (b .exit)) (stateOf (now (b .exit)))
+        × HasShrinkWork (now (b .exit)) (now (t .exit)) m r (shrinkPass (stateOf (now (b .entry))) n) ⌝ }
 {
-    let p = Progress {
+    let p = ShrinkProgress {
         kept: 0,
         noted: 0,
         another: false,

@@ -8,9 +8,9 @@ ghost use Rattle.graph.specs.State.{nodeCount, overgrownOf};
 ghost use Rattle.graph.specs.Layout.{stateOf};
 ghost use Rattle.graph.specs.Form.{Formed};
 ghost use Rattle.pass.specs.Shrink.{emptyTops, dropStep};
-ghost use Rattle.pass.specs.Ready.{Shrinkable};
-ghost use Rattle.shrink_pass.specs.Shrinking.{Busy, Does};
-use crate::keep::Progress;
+ghost use Rattle.pass.specs.inner.Ready.{Shrinkable};
+ghost use Rattle.shrink_pass.specs.inner.Shrinking.{ShrinkWorking, ShrinkWorked};
+use crate::keep::ShrinkProgress;
 use crate::release;
 use graph::lists;
 
@@ -37,11 +37,14 @@ pub fn drop_tops(
     t: &mut [i64],
     n: usize,
     m: usize,
-    p: Progress,
+    p: ShrinkProgress,
     z: usize,
-) -> Progress
-    requires { ⌜ Busy (now b) (now t) m p × (n < nodeCount (stateOf (now b))) × Shrinkable (stateOf (now b)) n × (z ≡ length (emptyTops (overgrownOf (stateOf (now b)) n))) ⌝ }
-    ensures { λ r. ⌜ Does (now (b .entry)) (now (t .entry)) (now (b .exit)) (now (t .exit)) m p r (λ w. fold (dropStep n) w (emptyTops (overgrownOf (stateOf (now (b .entry))) n))) ⌝ }
+) -> ShrinkProgress
+    requires { ⌜ ShrinkWorking (now b) (now t) m p × (n < nodeCount (stateOf (now b))) × Shrinkable (stateOf (now b)) n
+        × (z ≡ length (emptyTops (overgrownOf (stateOf (now b)) n))) ⌝ }
+    ensures { λ r.
+        ⌜ ShrinkWorked (now (b .entry)) (now (t .entry)) (now (b .exit)) (now (t .exit)) m p r
+        (λ w. fold (dropStep n) w (emptyTops (overgrownOf (stateOf (now (b .entry))) n))) ⌝ }
 {
     let mut i = 0;
     let mut q = p;

@@ -7,7 +7,7 @@ use lib.Dec.{eqb, ltb}
 use lib.ListN.{length, getD, drop}
 use Rattle.graph.specs.Basic.{if_then_else_}
 use Rattle.graph.specs.Open.{Edge, openRefusal}
-use Rattle.distance.specs.Graph.{Graph}
+use Rattle.distance.specs.Graph.{WeightedGraph}
 use Rattle.opened_graph.specs.OpenedGraph.{openedGraph}
 
 -- ---- the graphs
@@ -40,7 +40,7 @@ abbrev pub SmallPatch : List Edge → Type 0
 SmallPatch es = PatchOver pairs es
 
 -- its graph: vertices 0 to 3, of which 3 is virtual
-abbrev pub patchGraph : List Edge → Graph
+abbrev pub patchGraph : List Edge → WeightedGraph
 patchGraph es = openedGraph 4 es (3 ∷ [])
 
 -- what opening it with N 4 and L 200 answers; 0 where it is opened

@@ -2,13 +2,13 @@
 
 ghost use mathlib.Core.Path.{_≡_};
 ghost use Prim.Native.Nat.{_<_};
-ghost use lib.ListN.{length, getD, set};
+ghost use lib.ListN.{getD, set};
 ghost use Rattle.graph.specs.Basic.{fold, allBelow};
 ghost use Rattle.graph.specs.Opening.{edgeAt, edgesIn, edgesFrom};
 ghost use Rattle.small_patches.specs.SmallPatch.{patchAt};
 ghost use Rattle.small_patches.specs.Reach.{spreadTo, spreadAlong, spreadOver, times, hasMark, allReach};
 use crate::patch;
-use memory::given;
+use open_graph::given;
 
 // The mark of a vertex; 0 where there is no such vertex.
 fn mark(m: &[usize], a: usize) -> usize

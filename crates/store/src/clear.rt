@@ -4,9 +4,12 @@ ghost use mathlib.Core.List.{map};
 ghost use Prim.Native.Nat.{_+_, _%_, _<_, _≤_};
 ghost use lib.ListN.{length};
 ghost use Rattle.graph.specs.Layout.{rowsOf, row, stateOf};
-ghost use Rattle.graph.specs.Form.{Laid, Formed, Rowed};
-ghost use Rattle.graph.specs.Opening.{zeros, Recounted, ActiveRecounted, Cleared};
-ghost use Rattle.store.specs.laws.Clear.{Rewritten, clearedVertices, clearedSides};
+ghost use Rattle.graph.specs.Form.{Laid, Formed};
+ghost use Rattle.graph.specs.inner.Form.{Rowed};
+ghost use Rattle.graph.specs.Opening.{zeros, Cleared};
+ghost use Rattle.graph.specs.inner.Recounted.{ActiveRecounted, Recounted};
+ghost use Rattle.store.specs.inner.Store.{clearedSides, clearedVertices, Rewritten};
+ghost use Rattle.graph.specs.Rows.{flagsRow, endRow};
 use graph::rows;
 use graph::words;
 
@@ -29,7 +32,7 @@ pub fn put_active_count(b: &mut [i64], x: usize)
 // A row over vertices becomes zero.
 fn zero_vertices(b: &mut [i64], k: usize)
     requires { ⌜ Laid (now b) × (k < 4) ⌝ }
-    ensures { λ r. ⌜ Rowed (1 + k) (now (b .entry)) (now (b .exit)) (zeros (length (row (rowsOf (now (b .entry))) (1 + k)))) ⌝ }
+    ensures { λ r. ⌜ Rowed (flagsRow + k) (now (b .entry)) (now (b .exit)) (zeros (length (row (rowsOf (now (b .entry))) (flagsRow + k)))) ⌝ }
 {
     let m = rows::vertex_count(b);
     let mut v = 0;
@@ -42,7 +45,7 @@ fn zero_vertices(b: &mut [i64], k: usize)
 // A row over sides becomes zero.
 fn zero_sides(b: &mut [i64], k: usize)
     requires { ⌜ Laid (now b) × (k < 5) ⌝ }
-    ensures { λ r. ⌜ Rowed (5 + k) (now (b .entry)) (now (b .exit)) (zeros (length (row (rowsOf (now (b .entry))) (5 + k)))) ⌝ }
+    ensures { λ r. ⌜ Rowed (endRow + k) (now (b .entry)) (now (b .exit)) (zeros (length (row (rowsOf (now (b .entry))) (endRow + k)))) ⌝ }
 {
     let m = rows::side_count(b);
     let mut s = 0;
@@ -55,13 +58,13 @@ fn zero_sides(b: &mut [i64], k: usize)
 // Of the flags of each vertex, the virtual one stays.
 fn drop_defects(b: &mut [i64])
     requires { ⌜ Laid (now b) ⌝ }
-    ensures { λ r. ⌜ Rowed 1 (now (b .entry)) (now (b .exit)) (map (λ x. x % 2) (row (rowsOf (now (b .entry))) 1)) ⌝ }
+    ensures { λ r. ⌜ Rowed flagsRow (now (b .entry)) (now (b .exit)) (map (λ x. x % 2) (row (rowsOf (now (b .entry))) flagsRow)) ⌝ }
 {
     let m = rows::vertex_count(b);
     let mut v = 0;
     while v < m {
-        let x = rows::vertex_word(b, 0, v);
-        rows::put_vertex(b, 0, v, x % 2);
+        let x = rows::vertex_word(b, rows::FLAGS, v);
+        rows::put_vertex(b, rows::FLAGS, v, x % 2);
         v += 1;
     }
 }

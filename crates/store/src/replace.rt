@@ -6,12 +6,12 @@ ghost use Rattle.graph.specs.State.{nodeCount, overgrownOf};
 ghost use Rattle.graph.specs.Sound.{entries, entriesOf};
 ghost use Rattle.graph.specs.Word.{numbersAt};
 ghost use Rattle.graph.specs.Layout.{stateOf};
-ghost use Rattle.graph.specs.Form.{Laid, Formed, Becomes};
-ghost use Rattle.graph.specs.Replace.{withLists};
-ghost use Rattle.graph.specs.laws.List.{startWord};
-ghost use Rattle.store.specs.laws.Move.{Copied, Filled, Shifted};
-ghost use Rattle.store.specs.laws.Store.{Moved, Stored, Resized};
-ghost use Rattle.store.specs.laws.Replace.{Asked};
+ghost use Rattle.graph.specs.Form.{Laid, Formed};
+ghost use Rattle.graph.specs.inner.Form.{Becomes};
+ghost use Rattle.graph.specs.inner.Replace.{withLists};
+ghost use Rattle.graph.specs.inner.Lists.{startWord};
+ghost use Rattle.store.specs.inner.Wrote.{Shifted, Filled, Copied};
+ghost use Rattle.store.specs.inner.Store.{Resized, Stored, Moved, Replaceable};
 use graph::lists;
 use graph::rows;
 use graph::words;
@@ -75,20 +75,22 @@ fn fill(b: &mut [i64], t: &[i64], q: usize, at: usize, n: usize)
 
 // The starts of the nodes from lo up to hi grow by add and shrink by sub.
 fn shift_each(b: &mut [i64], lo: usize, hi: usize, add: usize, sub: usize)
-    requires { ⌜ Laid (now b) × (lo ≤ hi) × (hi ≤ stateOf (now b) .nodeLimit) × (add ≤ 65536) × ((p : ℕ) → lo ≤ p → p < hi → (sub ≤ startWord (now b) p) × (startWord (now b) p ≤ 65536)) ⌝ }
+    requires { ⌜ Laid (now b) × (lo ≤ hi) × (hi ≤ stateOf (now b) .nodeLimit) × (add ≤ 65536)
+        × ((p : ℕ) → lo ≤ p → p < hi → (sub ≤ startWord (now b) p) × (startWord (now b) p ≤ 65536)) ⌝ }
     ensures { λ r. ⌜ Shifted (now (b .entry)) (now (b .exit)) lo hi add sub ⌝ }
 {
     let mut i = lo;
     while i < hi {
-        let x = rows::node_word(b, 4, i);
-        rows::put_node(b, 4, i, x + add - sub);
+        let x = rows::node_word(b, rows::START, i);
+        rows::put_node(b, rows::START, i, x + add - sub);
         i += 1;
     }
 }
 
 // The same, with nothing done where they stay.
 fn shift_starts(b: &mut [i64], lo: usize, hi: usize, add: usize, sub: usize)
-    requires { ⌜ Laid (now b) × (lo ≤ hi) × (hi ≤ stateOf (now b) .nodeLimit) × (add ≤ 65536) × ((p : ℕ) → lo ≤ p → p < hi → (sub ≤ startWord (now b) p) × (startWord (now b) p ≤ 65536)) ⌝ }
+    requires { ⌜ Laid (now b) × (lo ≤ hi) × (hi ≤ stateOf (now b) .nodeLimit) × (add ≤ 65536)
+        × ((p : ℕ) → lo ≤ p → p < hi → (sub ≤ startWord (now b) p) × (startWord (now b) p ≤ 65536)) ⌝ }
     ensures { λ r. ⌜ Shifted (now (b .entry)) (now (b .exit)) lo hi add sub ⌝ }
 {
     if add != sub {
@@ -98,19 +100,21 @@ fn shift_starts(b: &mut [i64], lo: usize, hi: usize, add: usize, sub: usize)
 
 // The starts behind node n, up to node c, are shifted for lists of k and o words in place of y in all, and the lengths of node n written.
 fn put_sizes(b: &mut [i64], n: usize, c: usize, k: usize, o: usize, y: usize)
-    requires { ⌜ Laid (now b) × (n < c) × (c ≤ stateOf (now b) .nodeLimit) × (k + o ≤ 65536) × ((p : ℕ) → n + 1 ≤ p → p < c → (y ≤ startWord (now b) p) × (startWord (now b) p ≤ 65536)) ⌝ }
+    requires { ⌜ Laid (now b) × (n < c) × (c ≤ stateOf (now b) .nodeLimit) × (k + o ≤ 65536)
+        × ((p : ℕ) → n + 1 ≤ p → p < c → (y ≤ startWord (now b) p) × (startWord (now b) p ≤ 65536)) ⌝ }
     ensures { λ r. ⌜ Resized (now (b .entry)) (now (b .exit)) n c k o y ⌝ }
 {
     shift_starts(b, n + 1, c, k + o, y);
-    rows::put_node(b, 5, n, k);
-    rows::put_node(b, 6, n, o);
+    rows::put_node(b, rows::BOUNDARY_LENGTH, n, k);
+    rows::put_node(b, rows::OVERGROWN_LENGTH, n, o);
 }
 
 // ---- the lists of a node, which start at a and have y words, the first x of them boundary
 
 // Counted from a, the m words at x move to k, and the `rest` words behind the lists, at y, move to z: first what the other would overwrite.
 fn make_room(b: &mut [i64], a: usize, x: usize, y: usize, rest: usize, k: usize, m: usize, z: usize)
-    requires { ⌜ Laid (now b) × (x + m ≤ y) × (k + m ≤ z) × (a + y + rest ≤ stateOf (now b) .storeLimit) × (a + z + rest ≤ stateOf (now b) .storeLimit) × (stateOf (now b) .storeLimit ≤ 65536) ⌝ }
+    requires { ⌜ Laid (now b) × (x + m ≤ y) × (k + m ≤ z) × (a + y + rest ≤ stateOf (now b) .storeLimit)
+        × (a + z + rest ≤ stateOf (now b) .storeLimit) × (stateOf (now b) .storeLimit ≤ 65536) ⌝ }
     ensures { λ r. ⌜ Moved (now (b .entry)) (now (b .exit)) a x y rest k m z ⌝ }
 {
     if y < z {
@@ -135,7 +139,9 @@ fn put_lists(
     q: usize,
     o: usize,
 )
-    requires { ⌜ Laid (now b) × (x + m ≤ y) × (a + y + rest ≤ stateOf (now b) .storeLimit) × (a + (k + (m + o)) + rest ≤ stateOf (now b) .storeLimit) × (stateOf (now b) .storeLimit ≤ 65536) × (k ≤ length (now t)) × (q + o ≤ length (now t)) ⌝ }
+    requires { ⌜ Laid (now b) × (x + m ≤ y) × (a + y + rest ≤ stateOf (now b) .storeLimit)
+        × (a + (k + (m + o)) + rest ≤ stateOf (now b) .storeLimit) × (stateOf (now b) .storeLimit ≤ 65536)
+        × (k ≤ length (now t)) × (q + o ≤ length (now t)) ⌝ }
     ensures { λ r. ⌜ Stored (now (b .entry)) (now (b .exit)) (now (t .entry)) a x y rest k m q o ⌝ }
 {
     make_room(b, a, x, y, rest, k, m, k + (m + o));
@@ -157,8 +163,10 @@ fn replace_at(
     y: usize,
     rest: usize,
 )
-    requires { ⌜ Formed (now b) × Asked (now b) n a x y rest k m o × (k ≤ length (now t)) × (q + o ≤ length (now t)) ⌝ }
-    ensures { λ r. ⌜ Becomes (now (b .entry)) (now (b .exit)) (withLists (stateOf (now (b .entry))) n (numbersAt (now (t .entry)) 0 k) m (numbersAt (now (t .entry)) q o)) ⌝ }
+    requires { ⌜ Formed (now b) × Replaceable (now b) n a x y rest k m o × (k ≤ length (now t)) × (q + o ≤ length (now t)) ⌝ }
+    ensures { λ r.
+        ⌜ Becomes (now (b .entry)) (now (b .exit))
+        (withLists (stateOf (now (b .entry))) n (numbersAt (now (t .entry)) 0 k) m (numbersAt (now (t .entry)) q o)) ⌝ }
 {
     let c = rows::node_count(b);
     put_lists(b, t, a, x, y, rest, k, m, q, o);
@@ -168,9 +176,12 @@ fn replace_at(
 // The boundary of node n becomes the k numbers that stand in t from 0 on; of its overgrown stack the lowest m entries stay,
 // and the o entries that stand in t from q on come on top, the top last.
 pub fn replace_lists(b: &mut [i64], n: usize, t: &[i64], k: usize, m: usize, q: usize, o: usize)
-    requires { ⌜ Formed (now b) × (n < nodeCount (stateOf (now b))) × (k ≤ length (now t)) × (q + o ≤ length (now t)) × (m ≤ length (overgrownOf (stateOf (now b)) n))
+    requires { ⌜ Formed (now b) × (n < nodeCount (stateOf (now b))) × (k ≤ length (now t)) × (q + o ≤ length (now t))
+        × (m ≤ length (overgrownOf (stateOf (now b)) n))
         × (entries (stateOf (now b)) + (k + m + o) ≤ stateOf (now b) .storeLimit + entriesOf (stateOf (now b)) n) ⌝ }
-    ensures { λ r. ⌜ Becomes (now (b .entry)) (now (b .exit)) (withLists (stateOf (now (b .entry))) n (numbersAt (now (t .entry)) 0 k) m (numbersAt (now (t .entry)) q o)) ⌝ }
+    ensures { λ r.
+        ⌜ Becomes (now (b .entry)) (now (b .exit))
+        (withLists (stateOf (now (b .entry))) n (numbersAt (now (t .entry)) 0 k) m (numbersAt (now (t .entry)) q o)) ⌝ }
 {
     let a = lists::start(b, n);
     let x = lists::boundary_len(b, n);

@@ -7,7 +7,7 @@ use lib.ListN.{getD, take, drop}
 use Rattle.graph.specs.Basic.{if_then_else_}
 use Rattle.graph.specs.Word.{toNat}
 use Rattle.graph.specs.Opening.{edgesFrom, virtualsFrom}
-use Rattle.distance.specs.Graph.{Graph}
+use Rattle.distance.specs.Graph.{WeightedGraph}
 use Rattle.distance.specs.Distance.{unreachable}
 use Rattle.opened_graph.specs.OpenedGraph.{openedGraph}
 
@@ -39,7 +39,7 @@ rowOf v distances i = take v (drop (i * v) distances)
 
 -- a graph, its defects, their dual variables, the distance from defect i to vertex u, and the growth of each side
 pub record Handed : Type 0 where
-  pub graph : Graph
+  pub graph : WeightedGraph
   pub defects : List ℕ
   pub duals : List ℕ
   pub distance : ℕ → ℕ → ℕ

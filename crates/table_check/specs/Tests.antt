@@ -98,12 +98,12 @@ certified v e edges a D =
 -- ---- one row: the distances D of defect i
 
 -- with defect j
-unfoldable pub pairAt : (defects duals : List ℤ) → (ℕ → ℕ) → ℕ → ℕ → Bool
-pairAt defects duals D i j = eqb i j || leb (wordAt duals i + wordAt duals j) (D (wordAt defects j))
+unfoldable pub defectPairAt : (defects duals : List ℤ) → (ℕ → ℕ) → ℕ → ℕ → Bool
+defectPairAt defects duals D i j = eqb i j || leb (wordAt duals i + wordAt duals j) (D (wordAt defects j))
 
 -- with the virtual vertex at place k
-unfoldable pub virtualAt : List ℤ → (ℕ → ℕ) → ℕ → ℕ → Bool
-virtualAt virtuals D y k = leb y (D (wordAt virtuals k))
+unfoldable pub virtualPairAt : List ℤ → (ℕ → ℕ) → ℕ → ℕ → Bool
+virtualPairAt virtuals D y k = leb y (D (wordAt virtuals k))
 
 -- where it covers the vertex of side s, the growth there is its share
 unfoldable pub sideAt : (edges growths : List ℤ) → (ℕ → ℕ) → ℕ → ℕ → Bool
@@ -114,8 +114,8 @@ sideAt edges growths D y s =
 unfoldable pub rowRight : (v e : ℕ) (edges virtuals defects duals growths : List ℤ) → (ℕ → ℕ) → ℕ → Bool
 rowRight v e edges virtuals defects duals growths D i =
     certified v e edges (wordAt defects i) D
-    && (allBelow (pairAt defects duals D i) (length defects)
-    && (allBelow (virtualAt virtuals D (wordAt duals i)) (length virtuals)
+    && (allBelow (defectPairAt defects duals D i) (length defects)
+    && (allBelow (virtualPairAt virtuals D (wordAt duals i)) (length virtuals)
     && allBelow (sideAt edges growths D (wordAt duals i)) (2 * e)))
 
 -- it covers vertex u

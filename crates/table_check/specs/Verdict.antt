@@ -11,7 +11,7 @@ use Rattle.graph.specs.Basic.{if_then_else_, all, below, allBelow, same, distin
 use Rattle.graph.specs.Word.{toNat}
 use Rattle.graph.specs.Open.{dualLimit, growthLimit, sizesOk, edgeOk}
 use Rattle.graph.specs.Opening.{edgesIn, edgesFrom, virtualsFrom}
-use Rattle.distance.specs.Graph.{Graph, Positive, sides, weight}
+use Rattle.distance.specs.Graph.{WeightedGraph, Positive, sides, weight}
 use Rattle.distance.specs.Distance.{unreachable, dist}
 use Rattle.distance.specs.Nearest.{VirtualInReach, nearestVirtual}
 use Rattle.distance.specs.Table.{tableFromDistances}
@@ -22,49 +22,53 @@ use Rattle.table_check.specs.declared.Verdict.the-variants.{Yes, No, Ref
 -- ---- the numbers of what was handed over
 
 -- the vertex of defect i
-abbrev pub defectAt : Handed → ℕ → ℕ
-defectAt h i = getD (h .defects) i 0
+abbrev pub givenDefectAt : Handed → ℕ → ℕ
+givenDefectAt h i = getD (h .defects) i 0
 
 -- its dual variable
-abbrev pub dualAt : Handed → ℕ → ℕ
-dualAt h i = getD (h .duals) i 0
+abbrev pub givenDualAt : Handed → ℕ → ℕ
+givenDualAt h i = getD (h .duals) i 0
 
 -- how many defects there are
 abbrev pub defectCount : Handed → ℕ
 defectCount h = length (h .defects)
 
 -- the dual variable of the defect at vertex a, 0 where there is none
-unfoldable pub dualOf : List ℕ → List ℕ → ℕ → ℕ
-dualOf [] ys a = 0
-dualOf (x ∷ xs) [] a = 0
-dualOf (x ∷ xs) (y ∷ ys) a = if eqb a x then y else dualOf xs ys a
+unfoldable pub givenDualOf : List ℕ → List ℕ → ℕ → ℕ
+givenDualOf [] ys a = 0
+givenDualOf (x ∷ xs) [] a = 0
+givenDualOf (x ∷ xs) (y ∷ ys) a = if eqb a x then y else givenDualOf xs ys a
 
 -- the dual variable of each vertex
 unfoldable pub dualsByVertex : Handed → List ℕ
-dualsByVertex h = map (dualOf (h .defects) (h .duals)) (below (h .graph .size))
+dualsByVertex h = map (givenDualOf (h .defects) (h .duals)) (below (h .graph .size))
 
 -- ---- right
 
 -- no edge has weight 0
-unfoldable pub positive : Graph → Bool
+unfoldable pub positive : WeightedGraph → Bool
 positive g = allBelow (λ s. ltb 0 (weight g s)) (sides g)
 
 -- every vertex reaches a virtual one
-unfoldable pub inReach : Graph → Bool
+unfoldable pub inReach : WeightedGraph → Bool
 inReach g = allBelow (λ a. ltb (nearestVirtual g a) unreachable) (g .size)
 
 -- the distances are the shortest
 unfoldable pub shortest : Handed → Bool
-shortest h = allBelow (λ i. allBelow (λ u. eqb (h .distance i u) (dist (h .graph) (defectAt h i) u)) (h .graph .size)) (defectCount h)
+shortest h = allBelow (λ i. allBelow (λ u. eqb (h .distance i u) (dist (h .graph) (givenDefectAt h i) u)) (h .graph .size)) (defectCount h)
 
 -- The dual variables of two defects sum to at most their distance. `unreachable` is above every such sum, so that a pair without a way is free.
 unfoldable pub pairsFeasible : Handed → Bool
 pairsFeasible h =
-    allBelow (λ i. allBelow (λ j. eqb i j || leb (dualAt h i + dualAt h j) (dist (h .graph) (defectAt h i) (defectAt h j))) (defectCount h)) (defectCount h)
+    allBelow
+    (λ i. allBelow
+    (λ j. eqb i j || leb (givenDualAt h i + givenDualAt h j) (dist (h .graph) (givenDefectAt h i) (givenDefectAt h j)))
+    (defectCount h))
+    (defectCount h)
 
 -- no dual variable is above the distance to the nearest virtual vertex
 unfoldable pub virtualsFeasible : Handed → Bool
-virtualsFeasible h = allBelow (λ i. leb (dualAt h i) (nearestVirtual (h .graph) (defectAt h i))) (defectCount h)
+virtualsFeasible h = allBelow (λ i. leb (givenDualAt h i) (nearestVirtual (h .graph) (givenDefectAt h i))) (defectCount h)
 
 -- the table is the one worked out from distances and dual variables
 unfoldable pub tableAfresh : Handed → Bool
@@ -78,10 +82,10 @@ right h = positive (h .graph) && (inReach (h .graph) && (shortest h && (pairsFea
 pub record Right (h : Handed) : Type 0 where
   pub positive-weights : Positive (h .graph)
   pub virtual-in-reach : VirtualInReach (h .graph)
-  pub shortest-distances : (i u : ℕ) → i < defectCount h → u < h .graph .size → h .distance i u ≡ dist (h .graph) (defectAt h i) u
-  pub pairs : (i j : ℕ) → i < defectCount h → j < defectCount h → i ≢ j → dist (h .graph) (defectAt h i) (defectAt h j) < unreachable
-      → dualAt h i + dualAt h j ≤ dist (h .graph) (defectAt h i) (defectAt h j)
-  pub virtuals : (i : ℕ) → i < defectCount h → dualAt h i ≤ nearestVirtual (h .graph) (defectAt h i)
+  pub shortest-distances : (i u : ℕ) → i < defectCount h → u < h .graph .size → h .distance i u ≡ dist (h .graph) (givenDefectAt h i) u
+  pub pairs : (i j : ℕ) → i < defectCount h → j < defectCount h → i ≢ j → dist (h .graph) (givenDefectAt h i) (givenDefectAt h j) < unreachable
+      → givenDualAt h i + givenDualAt h j ≤ dist (h .graph) (givenDefectAt h i) (givenDefectAt h j)
+  pub virtuals : (i : ℕ) → i < defectCount h → givenDualAt h i ≤ nearestVirtual (h .graph) (givenDefectAt h i)
   pub table : h .growths ≡ tableFromDistances (h .graph) (dualsByVertex h)
 
 -- ---- refusals

@@ -12,7 +12,7 @@ ghost use Rattle.table_check.specs.Verdict.{sizesRight, lengthsRight, gr
 use crate::words;
 use graph::sizes;
 use graph::words as blockwords;
-use memory::given;
+use open_graph::given;
 
 // Whether V, E and the number of edges are in range.
 pub fn sizes_right(v: usize, e: usize, edges: &[i64]) -> bool

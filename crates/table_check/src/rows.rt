@@ -6,14 +6,15 @@ ghost use lib.ListN.{length};
 ghost use Rattle.graph.specs.Basic.{allBelow};
 ghost use Rattle.distance.specs.Table.{share};
 ghost use Rattle.table_check.specs.Handed.{distanceIn};
-ghost use Rattle.table_check.specs.Tests.{pairAt, virtualAt, sideAt, rowRight, coverMarks, freeAt};
+ghost use Rattle.table_check.specs.Tests.{defectPairAt, virtualPairAt, sideAt, rowRight, coverMarks, freeAt};
+ghost use Rattle.graph.specs.Word.{wordLimit};
 use crate::distances;
 use crate::marks;
 use crate::words;
 
 // Whether the dual variables of defects i and j sum to at most their distance.
 fn pair_at(defects: &[i64], duals: &[i64], row: &[i64], i: usize, j: usize) -> bool
-    ensures { λ r. ⌜ r ≡ pairAt (now (defects .entry)) (now (duals .entry)) (distanceIn (now (row .entry))) i j ⌝ }
+    ensures { λ r. ⌜ r ≡ defectPairAt (now (defects .entry)) (now (duals .entry)) (distanceIn (now (row .entry))) i j ⌝ }
 {
     let sum = words::number(duals, i) + words::number(duals, j);
     (i == j) | (sum <= words::distance_in(row, words::number(defects, j)))
@@ -21,7 +22,10 @@ fn pair_at(defects: &[i64], duals: &[i64], row: &[i64], i: usize, j: usize) -> b
 
 // Whether it is so with every other defect.
 fn pairs(defects: &[i64], duals: &[i64], row: &[i64], i: usize) -> bool
-    ensures { λ r. ⌜ r ≡ allBelow (pairAt (now (defects .entry)) (now (duals .entry)) (distanceIn (now (row .entry))) i) (length (now (defects .entry))) ⌝ }
+    ensures { λ r.
+        ⌜ r
+        ≡ allBelow (defectPairAt (now (defects .entry)) (now (duals .entry)) (distanceIn (now (row .entry))) i)
+        (length (now (defects .entry))) ⌝ }
 {
     let mut j = 0;
     while j < defects.len() {
@@ -36,14 +40,14 @@ fn pairs(defects: &[i64], duals: &[i64], row: &[i64], i: usize) -> bool
 
 // Whether y is at most the distance to the virtual vertex at place k.
 fn virtual_at(virtuals: &[i64], row: &[i64], y: usize, k: usize) -> bool
-    ensures { λ r. ⌜ r ≡ virtualAt (now (virtuals .entry)) (distanceIn (now (row .entry))) y k ⌝ }
+    ensures { λ r. ⌜ r ≡ virtualPairAt (now (virtuals .entry)) (distanceIn (now (row .entry))) y k ⌝ }
 {
     y <= words::distance_in(row, words::number(virtuals, k))
 }
 
 // Whether it is so with every virtual vertex.
 fn far(virtuals: &[i64], row: &[i64], y: usize) -> bool
-    ensures { λ r. ⌜ r ≡ allBelow (virtualAt (now (virtuals .entry)) (distanceIn (now (row .entry))) y) (length (now (virtuals .entry))) ⌝ }
+    ensures { λ r. ⌜ r ≡ allBelow (virtualPairAt (now (virtuals .entry)) (distanceIn (now (row .entry))) y) (length (now (virtuals .entry))) ⌝ }
 {
     let mut k = 0;
     while k < virtuals.len() {
@@ -65,7 +69,7 @@ fn lesser(x: usize, y: usize) -> usize
 
 // What a defect of dual variable y gives a side.
 fn share(y: usize, n: usize, f: usize, w: usize) -> usize
-    requires { ⌜ (n ≤ y) × (f ≤ 2000000000001) × (y < 9223372036854775808) × (w < 9223372036854775808) ⌝ }
+    requires { ⌜ (n ≤ y) × (f ≤ 2000000000001) × (y < wordLimit) × (w < wordLimit) ⌝ }
     ensures { λ r. ⌜ r ≡ share y n f w ⌝ }
 {
     if f == n + w {
@@ -77,7 +81,7 @@ fn share(y: usize, n: usize, f: usize, w: usize) -> usize
 
 // Whether the growth of side s is the share of the defect, where it covers the vertex of the side.
 fn side_at(edges: &[i64], growths: &[i64], row: &[i64], y: usize, s: usize) -> bool
-    requires { ⌜ (s < 8192) × (y < 9223372036854775808) ⌝ }
+    requires { ⌜ (s < 8192) × (y < wordLimit) ⌝ }
     ensures { λ r. ⌜ r ≡ sideAt (now (edges .entry)) (now (growths .entry)) (distanceIn (now (row .entry))) y s ⌝ }
 {
     let n = words::distance_in(row, words::near(edges, s));
@@ -90,7 +94,7 @@ fn side_at(edges: &[i64], growths: &[i64], row: &[i64], y: usize, s: usize) -> b
 
 // Whether it is so for every side.
 fn shares(e: usize, edges: &[i64], growths: &[i64], row: &[i64], y: usize) -> bool
-    requires { ⌜ (e ≤ 4096) × (y < 9223372036854775808) ⌝ }
+    requires { ⌜ (e ≤ 4096) × (y < wordLimit) ⌝ }
     ensures { λ r. ⌜ r ≡ allBelow (sideAt (now (edges .entry)) (now (growths .entry)) (distanceIn (now (row .entry))) y) (2 * e) ⌝ }
 {
     let mut s = 0;

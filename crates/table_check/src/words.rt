@@ -2,15 +2,15 @@
 
 ghost use mathlib.Core.Path.{_≡_};
 ghost use Prim.Native.Nat.{_<_, _≤_};
-ghost use Rattle.graph.specs.Word.{wordAt};
+ghost use Rattle.graph.specs.Word.{wordAt, wordLimit};
 ghost use Rattle.table_check.specs.Handed.{distanceOf, distanceIn};
 ghost use Rattle.table_check.specs.Tests.{nearIn, acrossIn, weightIn};
 use graph::words;
-use memory::given;
+use open_graph::given;
 
 // The number at place i, 0 where there is none.
 pub fn number(list: &[i64], i: usize) -> usize
-    ensures { λ r. ⌜ (r ≡ wordAt (now (list .entry)) i) × (r < 9223372036854775808) ⌝ }
+    ensures { λ r. ⌜ (r ≡ wordAt (now (list .entry)) i) × (r < wordLimit) ⌝ }
 {
     if i < list.len() {
         words::word(list, i)
@@ -45,7 +45,7 @@ pub fn distance_in(row: &[i64], u: usize) -> usize
 // The vertex of side s.
 pub fn near(edges: &[i64], s: usize) -> usize
     requires { ⌜ s < 8192 ⌝ }
-    ensures { λ r. ⌜ (r ≡ nearIn (now (edges .entry)) s) × (r < 9223372036854775808) ⌝ }
+    ensures { λ r. ⌜ (r ≡ nearIn (now (edges .entry)) s) × (r < wordLimit) ⌝ }
 {
     given::given(edges, 3 * (s / 2) + s % 2)
 }
@@ -53,7 +53,7 @@ pub fn near(edges: &[i64], s: usize) -> usize
 // The vertex across.
 pub fn across(edges: &[i64], s: usize) -> usize
     requires { ⌜ s < 8192 ⌝ }
-    ensures { λ r. ⌜ (r ≡ acrossIn (now (edges .entry)) s) × (r < 9223372036854775808) ⌝ }
+    ensures { λ r. ⌜ (r ≡ acrossIn (now (edges .entry)) s) × (r < wordLimit) ⌝ }
 {
     given::given(edges, 3 * (s / 2) + (1 - s % 2))
 }
@@ -61,7 +61,7 @@ pub fn across(edges: &[i64], s: usize) -> usize
 // Its weight.
 pub fn weight(edges: &[i64], s: usize) -> usize
     requires { ⌜ s < 8192 ⌝ }
-    ensures { λ r. ⌜ (r ≡ weightIn (now (edges .entry)) s) × (r < 9223372036854775808) ⌝ }
+    ensures { λ r. ⌜ (r ≡ weightIn (now (edges .entry)) s) × (r < wordLimit) ⌝ }
 {
     given::given(edges, 3 * (s / 2) + 2)
 }

@@ -14,7 +14,7 @@
 --                       record, in an input of any bytes. `Taken` (Program): the bodies of records that the program took.
 --                       Where more openings are accepted, the calls since the last one are such a list (EveryRun).
 --   no blossom          `WithoutBlossoms`, `BlossomsRefused`, `OpenAt`, `OpenAfter`: blossoms may be asked for; none is accepted.
---   dual variables      those of the history (crate `table`, History), which is told the calls and the answers and sees neither block nor table:
+--   dual variables      those of the history (crate `table_theorem`, History), which is told the calls and the answers and sees neither block nor table:
 --                       `dualAt h a`. `carries` says that they are the ones in the block.
 --   shortest distances  `dist`, a program; `shortest` and `beyond` say that it is the least length of a walk, and above the dual variable
 --                       where there is none.
@@ -28,18 +28,18 @@ use lib.IntN.{ℤ, pos}
 use lib.ListN.{length, getD, take}
 use Rattle.graph.specs.Open.{Edge}
 use Rattle.graph.specs.Layout.{stateOf}
-use Rattle.length.specs.declared.Answer.{Answer}
-use Rattle.length.specs.declared.Answer.the-variants.{Done}
-use Rattle.lent.specs.Called.{TableRead}
-use Rattle.host.specs.Told.{TableTold}
-use Rattle.records.specs.Lines.{edgeLines, joined}
+use Rattle.update_length.specs.declared.Answer.{Answer}
+use Rattle.update_length.specs.declared.Answer.the-variants.{Done}
+use Rattle.dual_module.specs.Called.{TableRead}
+use Rattle.c_api.specs.Told.{TableTold}
+use Rattle.records.specs.Lines.{edgeLines, joinedLines}
 use Rattle.records.specs.Run.{LinesCalled}
-use Rattle.distance.specs.Graph.{Graph, near, across, weight, Walk, ShortestLength}
+use Rattle.distance.specs.Graph.{WeightedGraph, near, across, weight, Walk, ShortestLength}
 use Rattle.distance.specs.Distance.{dist}
 use Rattle.distance.specs.Table.{dual, Covers, share, tableFromDistances}
 use Rattle.distance.specs.Nearest.{ReachesVirtual}
 use Rattle.opened_graph.specs.OpenedGraph.{openedGraph, SameVertices, PositiveWeights}
-use Rattle.table.specs.History.{History, dualAt, dualsOf}
+use Rattle.table_theorem.specs.History.{History, dualAt, dualsOf}
 use Rattle.table_claim.specs.Run.{orRefused, listFits, historyBy, LentRun, runSizes, runStart, lentHistory, WithoutBlossoms}
 use Rattle.table_claim.specs.Hosted.{SaysDone, HostExchange, reportedFrom, HostRun, hostSizes, hostStart, hostHistory, BlossomsRefused}
 use Rattle.table_claim.specs.Carried.{carried}
@@ -49,7 +49,7 @@ use Rattle.table_claim.specs.Tables.{TableIn, OnGraph, historyBehind, Op
 use Rattle.table_claim.specs.Program.{said, TableWritten}
 
 module _ (v : ℕ) (edges : List Edge) (virtuals : List ℕ) where
-  abbrev pub theGraph : Graph
+  abbrev pub theGraph : WeightedGraph
   theGraph = openedGraph v edges virtuals
 
   -- the graphs that the claim is about: every weight is above 0, and each vertex reaches a virtual one
@@ -151,13 +151,15 @@ module _ (v : ℕ) (edges : List Edge) (virtuals : List ℕ) where
         → (growthsIn (printed t) ≡ growthsIn (printed u)) ↔ ((a : ℕ) → a < v → dualAt (historyAt t) a ≡ dualAt (historyAt u) a)
     -- Of the bytes that the program's step promises for a table record, behind the records taken since its start;
     pub program-table : {bodies : List (List ℕ)} {out : List ℕ} → TableWritten bodies out → SuitsTaken bodies
-        → out ≡ joined (edgeLines (length bodies + 1) 0 (afresh (historyBehind (said bodies))))
+        → out ≡ joinedLines (edgeLines (length bodies + 1) 0 (afresh (historyBehind (said bodies))))
     -- two of them have the same growths exactly when the dual variables are the same.
-    pub equal-program : {bodies others : List (List ℕ)} {out told : List ℕ} → TableWritten bodies out → TableWritten others told → SuitsTaken bodies → SuitsTaken others
-        → (growthsIn (textLines out) ≡ growthsIn (textLines told)) ↔ ((a : ℕ) → a < v → dualAt (historyBehind (said bodies)) a ≡ dualAt (historyBehind (said others)) a)
+    pub equal-program : {bodies others : List (List ℕ)} {out told : List ℕ} → TableWritten bodies out
+        → TableWritten others told → SuitsTaken bodies → SuitsTaken others
+        → (growthsIn (textLines out) ≡ growthsIn (textLines told)) ↔
+        ((a : ℕ) → a < v → dualAt (historyBehind (said bodies)) a ≡ dualAt (historyBehind (said others)) a)
     -- Of the bytes that the exported call `cardrun_lines` leaves, as far as lines fit: the first m lines of a table are those of the first m edges;
     pub written-table : {b lines lines' : List ℕ} {k : ℕ} → LinesCalled b lines lines' k → (t : TableIn b) → Suits t
-        → (m : ℕ) → FitsIn t m lines → bytesOf t m lines' ≡ joined (edgeLines (number t) 0 (take (2 * m) (afresh (historyAt t))))
+        → (m : ℕ) → FitsIn t m lines → bytesOf t m lines' ≡ joinedLines (edgeLines (number t) 0 (take (2 * m) (afresh (historyAt t))))
     -- two whole tables have the same growths exactly when the dual variables are the same.
     pub equal-written : {b lines lines' c others others' : List ℕ} {j k : ℕ} → LinesCalled b lines lines' j → LinesCalled c others others' k
         → (t : TableIn b) (u : TableIn c) → Suits t → Suits u → FitsIn t (length edges) lines → FitsIn u (length edges) others

@@ -1,4 +1,4 @@
--- Lists of calls of the functions that are exported for C (crate `host`), each by what its contract promises.
+-- Lists of calls of the functions that are exported for C (crate `c_api`), each by what its contract promises.
 use Prim.Native.Nat.{ℕ, _≤_}
 use mathlib.Core.Path.{_≡_}
 use mathlib.Core.Bool.{Bool, true}
@@ -11,17 +11,14 @@ use Rattle.graph.specs.State.{State}
 use Rattle.graph.specs.Open.{Edge, opened}
 use Rattle.graph.specs.Opening.{edgesFrom, virtualsFrom}
 use Rattle.calls.specs.Calls.{Call}
-use Rattle.host.specs.Words.{answerNumbers, openNumbers, countNumbers, shortList, shortCount}
-use Rattle.host.specs.Told.{OpenTold, DefectTold, BlossomTold, StateTold, PrepareTold, LengthTold, GrowTold, AdvanceTold, ClearTold, VertexTold, TableTold, ContactsTold}
+use Rattle.c_api.specs.Words.{answerNumbers, openNumbers, countNumbers, shortList, shortCount}
+use Rattle.c_api.specs.Told.{OpenTold, DefectTold, BlossomTold, StateTold, PrepareTold, LengthTold, GrowTold, AdvanceTold, ClearTold, VertexTold, TableTold, ContactsTold}
 use Rattle.reachable.specs.Reachable.{after}
-use Rattle.table.specs.History.{History, historyAfter, noBlossoms}
-use Rattle.table_claim.specs.Lent.{LentCall, lentOpen, lentDefect, lentBlossom, lentState, lentPrepare, lentLength, lentGrow, lentTable, lentAdvance, lentContacts, lentVertex, lentClear}
-use Rattle.table_claim.specs.Lent.{Returned, opening, returns, returnsList, returnsCount}
-use Rattle.table_claim.specs.Lent.{lentSheet, openingSheet}
-use Rattle.host_sheet.specs.Told.{sheetNumbers, SheetTold}
-use Rattle.host_round.specs.Told.{groupNumbers, RenewTold, PrepareAllTold, RoundTold, GroupTold}
-use Rattle.host_remove.specs.Told.{RemoveTold}
-use Rattle.table_claim.specs.Lent.{lentRenew, lentPrepareAll, lentGroup, lentRound, lentRemove, returnsGroup}
+use Rattle.table_theorem.specs.History.{History, historyAfter, noBlossoms}
+use Rattle.table_claim.specs.Lent.{LentCall, lentOpen, lentDefect, lentBlossom, lentState, lentPrepare, lentLength, lentGrow, lentTable, lentAdvance, lentContacts, lentVertex, lentClear, Returned, opening, returns, returnsList, returnsCount, lentSheet, openingSheet, lentRenew, lentPrepareAll, lentGroup, lentRound, lentRemove, returnsGroup}
+use Rattle.c_api_sheet.specs.Told.{sheetNumbers, SheetTold}
+use Rattle.c_api_round.specs.Told.{groupNumbers, RenewTold, PrepareAllTold, RoundTold, GroupTold}
+use Rattle.c_api_remove.specs.Told.{RemoveTold}
 use Rattle.table_claim.specs.Run.{Sizes, fedOne, fed, returned}
 
 -- the list says done: it has room for an answer, and in front the number of that case, 7
@@ -45,7 +42,8 @@ pub record Reported : Type 0 where
 -- From the block b a call leads to the block b', by what the exported function promises. An opening among the calls is one that does not say
 -- done, or from a sheet one that does not say opened.
 pub data HostStep (b : List ℤ) : LentCall → List ℕ → Reported → List ℤ → Type 0 where
-  fb-open : {t edges virtuals b' : List ℤ} {v e n l k : ℕ} {list list' : List ℕ} → OpenTold b t v e n l edges virtuals b' list list' k → (SaysDone list list' → ⊥)
+  fb-open : {t edges virtuals b' : List ℤ} {v e n l k : ℕ} {list list' : List ℕ}
+      → OpenTold b t v e n l edges virtuals b' list list' k → (SaysDone list list' → ⊥)
       → HostStep b (lentOpen t v e n l edges virtuals) list (record { told = list'; count = k; words = [] }) b'
   fb-insert-defect : {t b' t' : List ℤ} {v x k : ℕ} {list list' : List ℕ} → DefectTold b t v x b' t' list list' k
       → HostStep b (lentDefect t v x) list (record { told = list'; count = k; words = [] }) b'
@@ -81,7 +79,8 @@ pub data HostStep (b : List ℤ) : LentCall → List ℕ → Reported → List �
   fb-remove-blossom : {t b' t' : List ℤ} {n k : ℕ} {list list' : List ℕ} → RemoveTold b t n b' t' list list' k
       → HostStep b (lentRemove t n) list (record { told = list'; count = k; words = [] }) b'
   -- the entries are numbers, told as words
-  fb-group-max-update-length : {s t b' s' t' : List ℤ} {entries entries' : List ℕ} {k : ℕ} {list list' : List ℕ} → GroupTold b s t entries b' s' t' entries' list list' k
+  fb-group-max-update-length : {s t b' s' t' : List ℤ} {entries entries' : List ℕ} {k : ℕ} {list list' : List ℕ}
+      → GroupTold b s t entries b' s' t' entries' list list' k
       → HostStep b (lentGroup s t entries) list (record { told = list'; count = k; words = map pos entries' }) b'
 
 -- a line of a protocol: a call, the list that is lent for its answer, and what the host had then

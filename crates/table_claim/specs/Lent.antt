@@ -1,21 +1,19 @@
 -- Calls on a lent block, about what the functions of the library promise: a step from a block to the next is the promise of the function
--- that was called, by its name in crate `lent` (specs/Called). What comes back beside the block may be anything that the promise allows.
+-- that was called, by its name in crate `dual_module` (specs/Called). What comes back beside the block may be anything that the promise allows.
 use Prim.Native.Nat.{ℕ}
-use mathlib.Core.Path.{_≡_}
 use mathlib.Core.Logic.{_≢_}
 use mathlib.Core.Bool.{Bool}
 use mathlib.Core.List.{List, [], _∷_}
 use lib.IntN.{ℤ}
 use Rattle.graph.specs.Opening.{OpenCalled}
-use Rattle.length.specs.declared.Answer.{Answer}
-use Rattle.lent.specs.Called.{DefectCalled, BlossomCalled, StateCalled, PrepareCalled, LengthCalled, GrowCalled, AdvanceCalled, ClearCalled}
-use Rattle.lent.specs.Called.{VertexRead, TableRead, ContactsRead, ContactsCounted}
+use Rattle.update_length.specs.declared.Answer.{Answer}
+use Rattle.dual_module.specs.Called.{DefectCalled, BlossomCalled, StateCalled, PrepareCalled, LengthCalled, GrowCalled, AdvanceCalled, ClearCalled, VertexRead, TableRead, ContactsRead, ContactsCounted}
 use Rattle.sheet.specs.declared.SheetOpened.{SheetOpened}
 use Rattle.sheet.specs.declared.SheetOpened.the-variants.{Opened, Refused}
 use Rattle.sheet.specs.Called.{SheetCalled}
 use Rattle.calls.specs.declared.group.GroupMaxUpdateLength.{GroupMaxUpdateLength}
-use Rattle.lent_round.specs.Called.{RenewCalled, PrepareAllCalled, RoundCalled, GroupCalled}
-use Rattle.lent_remove.specs.Called.{RemoveCalled}
+use Rattle.dual_module_round.specs.Called.{RenewCalled, PrepareAllCalled, RoundCalled, GroupCalled}
+use Rattle.dual_module_remove.specs.Called.{RemoveCalled}
 
 -- a call with all that it is given beside the block: the scratch t first, numbers, and the words of other lent lists
 pub data LentCall : Type 0 where

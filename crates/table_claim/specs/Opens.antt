@@ -5,11 +5,11 @@ use Rattle.graph.specs.Rows
 use Rattle.graph.specs.Layout
 use Rattle.graph.specs.Opening
 use Rattle.pass.specs.Scratch
-use Rattle.lent.specs.Called
+use Rattle.dual_module.specs.Called
 use Rattle.round.specs.Asked
-use Rattle.lent_round.specs.Called as Trial
+use Rattle.dual_module_round.specs.Called as Trial
 use Rattle.records.specs.Opens as Records
-use Rattle.table.specs.Opens as Table
+use Rattle.table_theorem.specs.Opens as Table
 use Rattle.table_claim.specs.Run
 use Rattle.table_claim.specs.Input
 use Rattle.table_claim.specs.Reading
@@ -18,10 +18,22 @@ use Rattle.table_claim.specs.Hosted
 use Rattle.table_claim.specs.Carried
 
 unfoldable pub everything : ℕ
-unfolding Records.everything Table.everything Input.recordsBy Input.recordsIn Input.edgesIn Input.virtualsIn Input.callsIn Input.gatheredWith Input.graphIn Input.gives Input.asks Input.inOrder Input.opens Input.stageFrom Input.linesBy Input.standsBehind Input.earlier Input.printed Input.later Reading.isDigit Reading.readOn Reading.behindSpace Reading.numberAt Reading.growthsIn Reading.inFront Reading.textLines Tables.tableLines Tables.fitCount Carried.defectAt Carried.carriedFrom Carried.carried
+unfolding Records.everything Table.everything Input.recordsBy Input.recordsIn Input.edgesOfRecords Input.virtualsIn
+    Input.callsIn Input.gatheredWith Input.graphIn Input.gives Input.asks Input.inOrder Input.opens Input.stageFrom
+    Input.linesBy Input.standsBehind Input.earlier Input.printed Input.later Reading.isDigit Reading.readOn
+    Reading.behindSpace Reading.numberAt Reading.growthsIn Reading.inFront Reading.textLines Tables.tableLines
+    Tables.fitCount Carried.isDefectAt Carried.carriedFrom Carried.carried
 everything = 0
 
 -- the same, and what the words of a block say
 unfoldable pub everythingLent : ℕ
-unfolding Table.everything Word.toNat Word.wordAt Rows.rows Rows.offset Layout.rowsOf Layout.classFrom Layout.stretches Layout.overgrownFrom Layout.stackFrom Layout.boundaries Layout.stacks Layout.stateFrom Layout.stateOf Layout.sized Layout.risingTo Layout.fitsAt Layout.packedFrom Layout.packed Layout.blockSound Layout.memoryFits Layout.blockRefusal Layout.memoryRefusal Layout.listRefusal Opening.givenAt Opening.edgeAt Opening.edgesFrom Opening.virtualsFrom Opening.fits Opening.joined Opening.firstOf Opening.openedRows Opening.openedWords Opening.openedBlock Scratch.zeroScratch Called.defectWrites Called.growWrites Called.prepareWrites Trial.trialRefusal Trial.groupTrialRefusal Trial.belowOne Trial.roundRefusal Asked.entryNumbers Asked.entryWords Asked.listedFrom Run.fedOne Run.fed Run.returned Run.returnedFrom Run.answerIn Run.recordedBy Run.historyBy Hosted.made Carried.defectAt Carried.carriedFrom Carried.carried
+unfolding Table.everything Word.toNat Word.wordAt Rows.rows Rows.offset Layout.rowsOf Layout.classFrom Layout.stretches
+    Layout.overgrownFrom Layout.stackFrom Layout.boundaries Layout.stacks Layout.stateFrom Layout.stateOf Layout.sized
+    Layout.risingTo Layout.fitsAt Layout.packedFrom Layout.packed Layout.blockSound Layout.memoryFits Layout.blockRefusal
+    Layout.memoryRefusal Layout.listRefusal Opening.givenAt Opening.edgeAt Opening.edgesFrom Opening.virtualsFrom
+    Opening.fits Opening.flattened Opening.firstOf Opening.openedRows Opening.openedWords Opening.openedBlock
+    Scratch.zeroScratch Called.defectWrites Called.growWrites Called.prepareWrites Trial.trialRefusal
+    Trial.groupTrialRefusal Trial.belowOne Trial.roundRefusal Asked.entryNumbers Asked.entryWords Asked.listedFrom
+    Run.fedOne Run.fed Run.returned Run.returnedFrom Run.answerIn Run.recordedBy Run.historyBy Hosted.made
+    Carried.isDefectAt Carried.carriedFrom Carried.carried
 everythingLent = 0

@@ -5,7 +5,7 @@ use mathlib.Core.List.{List, [], _∷_, map}
 use lib.ListN.{length}
 use Rattle.calls.specs.Calls.{ReadTable}
 use Rattle.records.specs.Record.{Record, ask, decoded}
-use Rattle.run.specs.Standing.{Memory, RecordTold}
+use Rattle.record_step.specs.Standing.{Memory, RecordTold}
 
 -- bodies of records taken one after the other, the first with number k
 pub data Taken : ℕ → Memory → List (List ℕ) → Memory → Type 0 where

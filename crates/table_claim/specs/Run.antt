@@ -12,28 +12,22 @@ use Rattle.graph.specs.Word.{toNat}
 use Rattle.graph.specs.Layout.{blockLength, scratchLength}
 use Rattle.graph.specs.Open.{Edge, opened, openRefusal}
 use Rattle.graph.specs.Opening.{edgesFrom, virtualsFrom, OpenCalled}
-use Rattle.length.specs.declared.Answer.{Answer}
-use Rattle.length.specs.declared.Answer.the-variants.{Done, Refused}
+use Rattle.update_length.specs.declared.Answer.{Answer}
+use Rattle.update_length.specs.declared.Answer.the-variants.{Done, Refused}
 use Rattle.calls.specs.Reply.{placed}
 use Rattle.calls.specs.Insert.{insertDefect, insertBlossom}
-use Rattle.calls.specs.Calls.{setGrowState, prepareDualNodeGrowth, maxUpdateLength, growDualNode, advance, growthTable, contacts, representativeVertex, clear}
-use Rattle.calls.specs.Calls.{Call, InsertDefect, InsertBlossom, SetGrowState, Prepare, MaxUpdateLength, Grow, ReadTable, Advance, Contacts, RepresentativeVertex, Clear}
+use Rattle.calls.specs.Calls.{setGrowState, prepareDualNodeGrowth, maxUpdateLength, growDualNode, advance, growthTable, contacts, representativeVertex, clear, Call, InsertDefect, InsertBlossom, SetGrowState, Prepare, MaxUpdateLength, Grow, ReadTable, Advance, Contacts, RepresentativeVertex, Clear, RenewActiveList, PrepareAll, GroupLength, Round, RemoveBlossom}
 use Rattle.reachable.specs.Reachable.{after}
-use Rattle.table.specs.Answers.{accepted, isDone}
-use Rattle.table.specs.History.{History, entryAt, withGrowState, withAdded, advanceLength, historyAfter, noBlossoms}
-use Rattle.table_claim.specs.Lent.{LentCall, lentOpen, lentDefect, lentBlossom, lentState, lentPrepare, lentLength, lentGrow, lentTable, lentAdvance, lentContacts, lentVertex, lentClear}
-use Rattle.table_claim.specs.Lent.{Returned, opening, returns, returnsList, returnsCount, Exchange, Steps}
-use Rattle.table_claim.specs.Lent.{lentSheet, openingSheet}
+use Rattle.table_theorem.specs.Answers.{accepted, isDone}
+use Rattle.table_theorem.specs.History.{History, entryAt, withNodeState, withAdded, advanceLength, historyAfter, noBlossoms, withRound}
+use Rattle.table_claim.specs.Lent.{LentCall, lentOpen, lentDefect, lentBlossom, lentState, lentPrepare, lentLength, lentGrow, lentTable, lentAdvance, lentContacts, lentVertex, lentClear, Returned, opening, returns, returnsList, returnsCount, Exchange, Steps, lentSheet, openingSheet, lentRenew, lentPrepareAll, lentGroup, lentRound, lentRemove, returnsGroup}
 use Rattle.sheet.specs.declared.SheetOpened.the-variants.{Opened, Refused as SheetRefused}
 use Rattle.sheet.specs.Sheet.{valuesFrom}
 use Rattle.sheet.specs.Called.{sheetRefusal, sheetAnswer, sheetEdges}
 use Rattle.calls.specs.declared.group.GroupMaxUpdateLength.the-variants.{Refused as groupRefused}
-use Rattle.calls.specs.Calls.{RenewActiveList, PrepareAll, GroupLength, Round, RemoveBlossom}
 use Rattle.calls.specs.Remove.{removeBlossom}
 use Rattle.calls.specs.Round.{renewActiveList, prepareAll, groupLength, round}
 use Rattle.round.specs.Asked.{listedFrom}
-use Rattle.table.specs.History.{withRound}
-use Rattle.table_claim.specs.Lent.{lentRenew, lentPrepareAll, lentGroup, lentRound, lentRemove, returnsGroup}
 
 -- ---- lengths
 
@@ -151,7 +145,7 @@ answerIn (openingSheet (SheetRefused k) edges) = Refused k
 -- The history h after a call that was answered a in state c. Of the state only an advance is asked for: how far it went is in no answer.
 unfoldable pub recordedBy : State → History → LentCall → Answer → History
 recordedBy c h (lentDefect t v x) a = if accepted a then h ++ (record { vertex = v; growState = x; y = pos 0 } ∷ []) else h
-recordedBy c h (lentState t n x) a = if accepted a then withGrowState h n x else h
+recordedBy c h (lentState t n x) a = if accepted a then withNodeState h n x else h
 recordedBy c h (lentGrow t n l) a = if isDone a then withAdded h n l else h
 recordedBy c h (lentAdvance t n) a = if isDone a then withAdded h n (advanceLength c n (entryAt h n .growState)) else h
 recordedBy c h (lentClear t) a = if accepted a then [] else h

@@ -9,10 +9,10 @@ use Rattle.graph.specs.Basic.{if_then_else_}
 use Rattle.graph.specs.Open.{Edge}
 use Rattle.calls.specs.Calls.{Call, ReadTable}
 use Rattle.records.specs.Record.{Record, ask}
-use Rattle.records.specs.Lines.{joined}
-use Rattle.records.specs.Run.{Gathered, fresh, turn, fittedLines, filled}
+use Rattle.records.specs.Lines.{joinedLines}
+use Rattle.records.specs.Run.{Gathered, fresh, recordStep}
 use Rattle.opened_graph.specs.OpenedGraph.{SameVertices}
-use Rattle.table.specs.History.{History, historyAfter, noBlossoms}
+use Rattle.table_theorem.specs.History.{History, historyAfter, noBlossoms}
 use Rattle.table_claim.specs.Input.{callsIn, graphIn, openedFrom, opens, stageFrom, In, earlier, printed}
 
 -- a record of kind 10, of the input b
@@ -36,7 +36,7 @@ pub record OpenAfter (rs : List Record) : Type 0 where
 
 -- the lines of a table record behind them
 unfoldable pub tableLines : List Record → List (List ℕ)
-tableLines rs = turn (length rs + 1) (stageFrom 1 fresh rs) (ask ReadTable) .lines
+tableLines rs = recordStep (length rs + 1) (stageFrom 1 fresh rs) (ask ReadTable) .lines
 
 -- the same for a record of an input: by the records before it
 module _ {b : List ℕ} {x : Record} (p : In b x) where
@@ -62,8 +62,8 @@ fitCount space (l ∷ ls) = if leb (length l) space then suc (fitCount (space - 
 module _ {b : List ℕ} (t : TableIn b) where
   -- the first m lines of the table, and all before them, fit into the bytes
   abbrev pub FitsIn : ℕ → List ℕ → Type 0
-  FitsIn m lines = length (joined (earlier t ++ take m (printed t))) ≤ length lines
+  FitsIn m lines = length (joinedLines (earlier t ++ take m (printed t))) ≤ length lines
 
   -- the bytes of its first m lines: those that stand behind the lines before it
   abbrev pub bytesOf : ℕ → List ℕ → List ℕ
-  bytesOf m lines = take (length (joined (take m (printed t)))) (drop (length (joined (earlier t))) lines)
+  bytesOf m lines = take (length (joinedLines (take m (printed t)))) (drop (length (joinedLines (earlier t))) lines)

@@ -8,6 +8,7 @@ ghost use Prim.Native.Nat.{_+_, _*_, _≤_, _<_, min};
 ghost use lib.ListN.{length, replicate};
 ghost use Rattle.table_check.specs.Verdict.{sizesRight};
 ghost use Rattle.tablecheck.specs.File.{fileSizes, fileWords, verdictNumber, RowsRead};
+ghost use Rattle.graph.specs.Word.{wordLimit};
 use graph::words;
 use libc::STDIN_FILENO;
 use libc::STDOUT_FILENO;
@@ -291,7 +292,7 @@ fn sized(bytes: &mut [u8], v: usize, e: usize, k: usize, n: usize) -> usize
 
 // A table of these sizes; its other words are passed over where they are not as many as the sizes say.
 fn counted(bytes: &mut [u8], left: usize, v: usize, e: usize, k: usize, n: usize) -> usize
-    requires { ⌜ (length (now bytes) ≡ 8192) × (left < 9223372036854775808) ⌝ }
+    requires { ⌜ (length (now bytes) ≡ 8192) × (left < wordLimit) ⌝ }
 {
     if !sizes_fit(v, e, k, n) {
         return refused(bytes, left, 4);
@@ -304,7 +305,7 @@ fn counted(bytes: &mut [u8], left: usize, v: usize, e: usize, k: usize, n: usize
 
 // A table of `count` words.
 fn table(bytes: &mut [u8], count: usize) -> usize
-    requires { ⌜ (length (now bytes) ≡ 8192) × (count < 9223372036854775808) ⌝ }
+    requires { ⌜ (length (now bytes) ≡ 8192) × (count < wordLimit) ⌝ }
 {
     if count < 4 {
         return refused(bytes, count, 2);

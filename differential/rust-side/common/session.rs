@@ -234,7 +234,7 @@ impl Session {
         self.card.as_ref().map_or(vec![], Card::representatives)
     }
 
-    /// A call by its fields, for timing: the case of its answer, as crate `host` numbers them.
+    /// A call by its fields, for timing: the case of its answer, as crate `c_api` numbers them.
     pub fn ask(&mut self, kind: u16, a: &[i32]) -> usize {
         match self.card.as_mut().unwrap().straight(kind, a) {
             Answer::Length(MaxUpdateLength::NonZeroGrow((l, _))) => usize::from(l == Weight::MAX),

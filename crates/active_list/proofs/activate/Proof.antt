@@ -13,13 +13,19 @@ same-length : tie.Need-same-length
 same-length c = search needs
 
 returns : tie.Need-returns
-returns c = let s = c .before .before .before .before .before .before in activated-joins _ (s .args .n) (s .args .x) (rw (c .before .before .before .before .grow-state .ensures .0) at (c .before .before .before .if1 .taken)) (c .before .join .ensures)
+returns c =
+    let s = c .before .before .before .before .before .before in
+    activated-joins _ (s .args .n) (s .args .x)
+    (rw (c .before .before .before .before .grow-state .ensures .0) at (c .before .before .before .if1 .taken))
+    (c .before .join .ensures)
 
 same-length-2 : tie.Need-same-length-2
 same-length-2 c = search needs
 
 returns-2 : tie.Need-returns-2
-returns-2 c = let s = c .before .before .before in activated-none _ (s .args .n) (s .args .x) (s .pre .0) (rw (c .before .grow-state .ensures .0) at (c .if1 .left))
+returns-2 c =
+    let s = c .before .before .before in
+    activated-none _ (s .args .n) (s .args .x) (s .pre .0) (rw (c .before .grow-state .ensures .0) at (c .if1 .left))
 
 pub activate-spec : {M : Type 1} → statement M
 activate-spec =

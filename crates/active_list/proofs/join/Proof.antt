@@ -18,13 +18,28 @@ returns c = let s = c .before .before .before in joined-there _ (s .args .n) (s 
 
 push-requires : tie.Need-push-requires
 unfolding Laid
-push-requires c κs = let s = c .before .before .before .before in let q = s .pre .0 .laid in (s .pre .0, omega (arith, q .counted, join-room (stateOf (s .args .b .now)) (s .args .n) (s .pre .1) (s .pre .2) (sym (c .before .before .stands-in .ensures) ∙ c .before .if1 .left)), omega (arith, q .counted, q .sized))
+push-requires c κs =
+    let s = c .before .before .before .before in
+    let q = s .pre .0 .laid in (
+      s .pre .0,
+      omega (
+        arith,
+        q .counted,
+        join-room (stateOf (s .args .b .now)) (s .args .n) (s .pre .1) (s .pre .2)
+            (sym (c .before .before .stands-in .ensures) ∙ c .before .if1 .left),
+      ),
+      omega (arith, q .counted, q .sized),
+    )
 
 same-length-2 : tie.Need-same-length-2
 same-length-2 c = search needs
 
 returns-2 : tie.Need-returns-2
-returns-2 c = let s = c .before .before .before .before .before .before in joined-behind _ (s .args .n) (sym (c .before .before .before .before .stands-in .ensures) ∙ c .before .before .before .if1 .left) (c .before .push .ensures)
+returns-2 c =
+    let s = c .before .before .before .before .before .before in
+    joined-behind _ (s .args .n)
+    (sym (c .before .before .before .before .stands-in .ensures) ∙ c .before .before .before .if1 .left)
+    (c .before .push .ensures)
 
 pub join-spec : {M : Type 1} → statement M
 join-spec =

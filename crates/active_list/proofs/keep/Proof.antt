@@ -15,7 +15,10 @@ same-length : tie.Need-same-length
 same-length c = search needs
 
 returns : tie.Need-returns
-returns c = let s = c .before .before .before .before .before in entry-left _ (s .args .i) (s .args .j) _ _ (c .before .before .before .active-node .ensures .0) (c .before .grow-state .ensures .0) (s .pre .0) (c .if1 .taken)
+returns c =
+    let s = c .before .before .before .before .before in
+    entry-left _ (s .args .i) (s .args .j) _ _ (c .before .before .before .active-node .ensures .0)
+    (c .before .grow-state .ensures .0) (s .pre .0) (c .if1 .taken)
 
 put-entry-requires : tie.Need-put-entry-requires
 put-entry-requires c κs = search needs
@@ -28,7 +31,11 @@ same-length-2 : tie.Need-same-length-2
 same-length-2 c = search needs
 
 returns-2 : tie.Need-returns-2
-returns-2 c = let s = c .before .before .before .before .before .before .before .before in entry-kept _ (s .args .i) (s .args .j) _ _ (c .before .before .before .before .before .before .active-node .ensures .0) (c .before .before .before .before .grow-state .ensures .0) (c .before .before .before .if1 .left) (c .before .put-entry .ensures)
+returns-2 c =
+    let s = c .before .before .before .before .before .before .before .before in
+    entry-kept _ (s .args .i) (s .args .j) _ _ (c .before .before .before .before .before .before .active-node .ensures .0)
+    (c .before .before .before .before .grow-state .ensures .0) (c .before .before .before .if1 .left)
+    (c .before .put-entry .ensures)
 
 pub keep-spec : {M : Type 1} → statement M
 keep-spec =

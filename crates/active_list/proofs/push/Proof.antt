@@ -20,7 +20,11 @@ same-length : tie.Need-same-length
 same-length c = search needs
 
 returns : tie.Need-returns
-returns c = let s = c .before .before .before .before .before .before .before .before in list-pushed _ _ _ (s .pre .0) _ (s .args .n) (c .before .before .before .before .before .before .active-count .ensures .0) (omega arith) (c .before .before .before .before .put-active .ensures) (c .before .put-active-count .ensures)
+returns c =
+    let s = c .before .before .before .before .before .before .before .before in
+    list-pushed _ _ _ (s .pre .0) _ (s .args .n)
+    (c .before .before .before .before .before .before .active-count .ensures .0) (omega arith)
+    (c .before .before .before .before .put-active .ensures) (c .before .put-active-count .ensures)
 
 pub push-spec : {M : Type 1} → statement M
 push-spec =

@@ -21,7 +21,15 @@ loop-holds : tie.Need-loop-holds Inv-loop μ-loop
 loop-holds c = (renewing-none _ (c .before .before .pre .0), c .active-count .ensures .0, refl)
 
 keep-requires : tie.Need-keep-requires Inv-loop μ-loop
-keep-requires c κs = let l = c .before .before .loop in let r = l .inv .0 in let s = c .before .before .before .before .before in (r .block .formed, r .half .behind, omega (arith, r .half .size, l .inv .1), entry-below _ _ _ _ r (omega (arith, l .inv .1)) (s .pre .1))
+keep-requires c κs =
+    let l = c .before .before .loop in
+    let r = l .inv .0 in
+    let s = c .before .before .before .before .before in (
+      r .block .formed,
+      r .half .behind,
+      omega (arith, r .half .size, l .inv .1),
+      entry-below _ _ _ _ r (omega (arith, l .inv .1)) (s .pre .1),
+    )
 
 add-i : tie.Need-add-i Inv-loop μ-loop
 add-i c = search needs
@@ -30,7 +38,14 @@ loop-less : tie.Need-loop-less Inv-loop μ-loop
 loop-less c = search needs
 
 loop-again : tie.Need-loop-again Inv-loop μ-loop
-loop-again c = let l = c .before .before .before .before .loop in let s = c .before .before .before .before .before .before .before in (renewing-more _ _ (l .i) (l .j) (l .inv .0) (omega (arith, l .inv .1)) (s .pre .1) _ _ (c .before .keep .ensures .0) (c .before .keep .ensures .1), l .inv .1, c .before .keep .kept .0 ∙ l .inv .2)
+loop-again c =
+    let l = c .before .before .before .before .loop in
+    let s = c .before .before .before .before .before .before .before in (
+      renewing-more _ _ (l .i) (l .j) (l .inv .0) (omega (arith, l .inv .1)) (s .pre .1) _ _ (c .before .keep .ensures .0)
+          (c .before .keep .ensures .1),
+      l .inv .1,
+      c .before .keep .kept .0 ∙ l .inv .2,
+    )
 
 cut-requires : tie.Need-cut-requires Inv-loop μ-loop
 cut-requires c κs = let l = c .before .before .loop in let h = l .inv .0 .half in (l .inv .0 .block .formed, omega (arith, h .size, h .behind, h .within))

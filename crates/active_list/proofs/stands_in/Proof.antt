@@ -28,7 +28,14 @@ active-node-requires c κs = search needs
 
 returns : tie.Need-returns Inv-loop μ-loop
 unfolding member
-returns c = any-here (eqb (c .before .before .before .before .before .args .n)) (stateOf (c .before .before .before .before .before .args .b .now) .active) (c .before .before .before .loop .i) (c .before .before .before .loop .inv .1) (omega arith) (eq-eqb (c .before .before .before .before .before .args .n) (getD (stateOf (c .before .before .before .before .before .args .b .now) .active) (c .before .before .before .loop .i) 0) (omega arith))
+returns c =
+    any-here (eqb (c .before .before .before .before .before .args .n))
+    (stateOf (c .before .before .before .before .before .args .b .now) .active) (c .before .before .before .loop .i)
+    (c .before .before .before .loop .inv .1) (omega arith)
+    (eq-eqb (c .before .before .before .before .before .args .n)
+    (getD (stateOf (c .before .before .before .before .before .args .b .now) .active)
+    (c .before .before .before .loop .i) 0)
+    (omega arith))
 
 add-i : tie.Need-add-i Inv-loop μ-loop
 add-i c = search needs
@@ -37,11 +44,22 @@ loop-less : tie.Need-loop-less Inv-loop μ-loop
 loop-less c = search needs
 
 loop-again : tie.Need-loop-again Inv-loop μ-loop
-loop-again c = (omega arith, any-on (eqb (c .before .before .before .before .before .args .n)) (stateOf (c .before .before .before .before .before .args .b .now) .active) (c .before .before .before .loop .i) (c .before .before .before .loop .inv .1) (omega arith) (ne-eqb (c .before .before .before .before .before .args .n) (getD (stateOf (c .before .before .before .before .before .args .b .now) .active) (c .before .before .before .loop .i) 0) (λ e. c .if1 .left (omega (arith, e)))))
+loop-again c = (
+  omega arith,
+  any-on (eqb (c .before .before .before .before .before .args .n))
+      (stateOf (c .before .before .before .before .before .args .b .now) .active) (c .before .before .before .loop .i)
+      (c .before .before .before .loop .inv .1) (omega arith)
+      (ne-eqb (c .before .before .before .before .before .args .n)
+      (getD (stateOf (c .before .before .before .before .before .args .b .now) .active)
+      (c .before .before .before .loop .i) 0)
+      (λ e. c .if1 .left (omega (arith, e)))),
+)
 
 returns-2 : tie.Need-returns-2 Inv-loop μ-loop
 unfolding member
-returns-2 c = any-end (eqb (c .before .before .before .args .n)) (stateOf (c .before .before .before .args .b .now) .active) (c .before .loop .i) (c .before .loop .inv .1) (omega arith)
+returns-2 c =
+    any-end (eqb (c .before .before .before .args .n)) (stateOf (c .before .before .before .args .b .now) .active)
+    (c .before .loop .i) (c .before .loop .inv .1) (omega arith)
 
 pub stands-in-spec : {M : Type 1} → statement M
 stands-in-spec =

@@ -13,7 +13,8 @@ use Rattle.graph.specs.State.{State, nodeCount, growStateOf, withActive, stay}
 use Rattle.graph.specs.Sound.{activeSound}
 use Rattle.graph.specs.Active.{joinedTo, joinActive, activated}
 use Rattle.graph.specs.Layout.{stateOf}
-use Rattle.graph.specs.Form.{Formed, Becomes}
+use Rattle.graph.specs.Form.{Formed}
+use Rattle.graph.specs.inner.Form.{Becomes}
 use Rattle.graph.specs.laws.Active.{active-inside, active-once}
 use Rattle.graph.specs.laws.Members.{distinct-length, distinct-snoc, all-snoc}
 use Rattle.graph.specs.laws.Row.{becomes-none}
@@ -29,12 +30,14 @@ module _ (b : List ℤ) (n : ℕ) where
   unfolding joinActive joinedTo
   joined-there f m = rw m (becomes-none b (withActive (stateOf b) (stateOf b .active)) f (unfold withActive in refl))
 
-  pub joined-behind : {b' : List ℤ} → member n (stateOf b .active) ≡ false → Becomes b b' (withActive (stateOf b) (stateOf b .active ++ (n ∷ []))) → Becomes b b' (joinActive (stateOf b) n)
+  pub joined-behind : {b' : List ℤ} → member n (stateOf b .active) ≡ false
+      → Becomes b b' (withActive (stateOf b) (stateOf b .active ++ (n ∷ []))) → Becomes b b' (joinActive (stateOf b) n)
   unfolding joinActive joinedTo
   joined-behind m q = rw m q
 
   module _ (x : ℕ) where
-    pub activated-joins : {b' : List ℤ} → eqb (growStateOf (stateOf b) n) stay && not (eqb x stay) ≡ true → Becomes b b' (joinActive (stateOf b) n) → Becomes b b' (activated (stateOf b) n x)
+    pub activated-joins : {b' : List ℤ} → eqb (growStateOf (stateOf b) n) stay && not (eqb x stay) ≡ true
+        → Becomes b b' (joinActive (stateOf b) n) → Becomes b b' (activated (stateOf b) n x)
     unfolding activated joinActive
     activated-joins t q = rw t q
 

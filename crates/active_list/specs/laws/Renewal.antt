@@ -16,11 +16,12 @@ use Rattle.graph.specs.State.{State, nodeCount, growStateOf, withActive, stay}
 use Rattle.graph.specs.Sound.{activeSound}
 use Rattle.graph.specs.Active.{isActive, renewed}
 use Rattle.graph.specs.Layout.{stateOf}
-use Rattle.graph.specs.Form.{Formed, Becomes}
+use Rattle.graph.specs.Form.{Formed}
+use Rattle.graph.specs.inner.Form.{Becomes}
 use Rattle.graph.specs.laws.Active.{active-inside}
 use Rattle.graph.specs.laws.Row.{becomes-then, becomes-none}
 use Rattle.graph.specs.laws.Scan.{list-at}
-use Rattle.active_list.specs.Renewal.{keptAt, keptCount}
+use Rattle.active_list.specs.inner.Renewal.{keptAt, keptCount}
 
 -- ---- the list alone
 
@@ -33,7 +34,9 @@ only-snoc p [] x = go (p x)
     go false = refl
 only-snoc p (y ∷ l) x = rw (only-snoc p l x) (go (p y) (p x))
   where
-    go : (s t : Bool) → (if s then y ∷ (if t then only p l ++ (x ∷ []) else only p l) else (if t then only p l ++ (x ∷ []) else only p l)) ≡ (if t then (if s then y ∷ only p l else only p l) ++ (x ∷ []) else (if s then y ∷ only p l else only p l))
+    go : (s t : Bool)
+        → (if s then y ∷ (if t then only p l ++ (x ∷ []) else only p l) else (if t then only p l ++ (x ∷ []) else only p l))
+        ≡ (if t then (if s then y ∷ only p l else only p l) ++ (x ∷ []) else (if s then y ∷ only p l else only p l))
     go true true = refl
     go true false = refl
     go false true = refl
@@ -68,7 +71,8 @@ module _ (p : ℕ → Bool) (l w : List ℕ) (i j : ℕ) (h : Half p l w i j) (b
   pub half-keep : p (getD l i 0) ≡ true → Half p l (set w j (getD l i 0)) (i + 1) (j + 1)
   half-keep t = record {
     size = length-set w j (getD l i 0) ∙ h .size;
-    front = rw (add-one, take-suc-set w j (getD l i 0) (omega (arith, h .size, h .behind)), h .front) (sym (rw next (only-snoc p (take i l) (getD l i 0) ∙ rw t refl)));
+    front = rw (add-one, take-suc-set w j (getD l i 0) (omega (arith, h .size, h .behind)), h .front)
+        (sym (rw next (only-snoc p (take i l) (getD l i 0) ∙ rw t refl)));
     rest = drop-set-lt (i + 1) w j (getD l i 0) (omega (arith, h .behind)) ∙ rest-more;
     behind = omega (arith, h .behind);
     within = omega arith;
@@ -102,7 +106,9 @@ module _ (b₀ b : List ℤ) (i j : ℕ) (r : Renewing b₀ b i j) (h : i < leng
   entry-below =
       let e : getD (stateOf b .active) i 0 ≡ getD (stateOf b₀ .active) i 0 = half-entry _ _ _ i j (r .half) h in
       let m : nodeCount (stateOf b) ≡ nodeCount (stateOf b₀) = r .block .nodes in
-      rw (e, m) (ltb-true (getD (stateOf b₀ .active) i 0) (nodeCount (stateOf b₀)) (list-at (λ n. ltb n (nodeCount (stateOf b₀))) (stateOf b₀ .active) i 0 (active-inside (stateOf b₀) s) h))
+      rw (e, m)
+      (ltb-true (getD (stateOf b₀ .active) i 0) (nodeCount (stateOf b₀))
+      (list-at (λ n. ltb n (nodeCount (stateOf b₀))) (stateOf b₀ .active) i 0 (active-inside (stateOf b₀) s) h))
 
   same-state : (n : ℕ) → isActive (stateOf b) n ≡ isActive (stateOf b₀) n
   unfolding isActive withActive
@@ -129,7 +135,8 @@ module _ (b₀ b : List ℤ) (i j : ℕ) (r : Renewing b₀ b i j) (h : i < leng
       half = rw (e, list-then) (half-then (isActive (stateOf b₀) (getD (stateOf b₀ .active) i 0)) refl);
     }
 
-pub renewing-all : (b₀ b b' : List ℤ) (i j : ℕ) → Renewing b₀ b i j → length (stateOf b₀ .active) ≤ i → Becomes b b' (withActive (stateOf b) (take j (stateOf b .active))) → Becomes b₀ b' (renewed (stateOf b₀))
+pub renewing-all : (b₀ b b' : List ℤ) (i j : ℕ) → Renewing b₀ b i j → length (stateOf b₀ .active) ≤ i
+    → Becomes b b' (withActive (stateOf b) (take j (stateOf b .active))) → Becomes b₀ b' (renewed (stateOf b₀))
 renewing-all b₀ b b' i j r h q = becomes-then (r .block) (rw whole at q)
   where
     whole : withActive (stateOf b) (take j (stateOf b .active)) ≡ renewed (stateOf b₀)
@@ -144,7 +151,8 @@ module _ (b : List ℤ) (i j n x : ℕ) (e : n ≡ getD (stateOf b .active) i 0)
       let t : eqb (growStateOf (stateOf b) (getD (stateOf b .active) i 0)) stay ≡ true = rw (← e) (eq-eqb (growStateOf (stateOf b) n) stay (sym g ∙ z)) in
       rw t (becomes-none b (withActive (stateOf b) (stateOf b .active)) f (unfold withActive in refl), refl)
 
-  pub entry-kept : {b' : List ℤ} → x ≢ 0 → Becomes b b' (withActive (stateOf b) (set (stateOf b .active) j n)) → Becomes b b' (withActive (stateOf b) (keptAt (stateOf b) i j)) × (j + 1 ≡ keptCount (stateOf b) i j)
+  pub entry-kept : {b' : List ℤ} → x ≢ 0 → Becomes b b' (withActive (stateOf b) (set (stateOf b .active) j n))
+      → Becomes b b' (withActive (stateOf b) (keptAt (stateOf b) i j)) × (j + 1 ≡ keptCount (stateOf b) i j)
   unfolding keptAt keptCount isActive
   entry-kept z q =
       let t : eqb (growStateOf (stateOf b) (getD (stateOf b .active) i 0)) stay ≡ false = rw (← e) (ne-eqb (growStateOf (stateOf b) n) stay (λ w. z (g ∙ w))) in

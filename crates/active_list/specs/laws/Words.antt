@@ -10,8 +10,9 @@ use lib.Seq.{getD-set-same, getD-set-other, take-set-le, take-set-lt, take-suc-s
 use Rattle.graph.specs.State.{withActive}
 use Rattle.graph.specs.Rows.{rows, offset}
 use Rattle.graph.specs.Layout.{rowsOf, row, stateFrom, stateOf}
-use Rattle.graph.specs.Form.{Laid, Listed, Wired, PackedRows, GraphRows, Formed, Becomes, Rowed}
-use Rattle.graph.specs.Opening.{ActiveRecounted}
+use Rattle.graph.specs.Form.{Laid, Listed, Wired, PackedRows, GraphRows, Formed}
+use Rattle.graph.specs.inner.Form.{Rowed, Becomes}
+use Rattle.graph.specs.inner.Recounted.{ActiveRecounted}
 use Rattle.graph.specs.laws.Row.{header-get, rows-length, becomes-row, becomes-then, rowed-row, formed-of}
 
 -- the list stands at the front of its row
@@ -34,7 +35,8 @@ module _ (b b' : List ℤ) (f : Formed b) (i x : ℕ) (r : Rowed 19 b b' (set (r
   unfolding Wired rowsOf rows
   same-graph = f .wired
 
-  put-state : i < length (stateOf b .active) → stateFrom (set (rowsOf b) 19 (set (row (rowsOf b) 19) i x)) ≡ withActive (stateOf b) (set (stateOf b .active) i x)
+  put-state : i < length (stateOf b .active)
+      → stateFrom (set (rowsOf b) 19 (set (row (rowsOf b) 19) i x)) ≡ withActive (stateOf b) (set (stateOf b .active) i x)
   unfolding stateOf stateFrom withActive rowsOf rows
   put-state h =
       let k : ℕ = getD (row (rowsOf b) 0) 5 0 in
@@ -106,7 +108,8 @@ module _ (b b' : List ℤ) (f : Formed b) (x : ℕ) (r : ActiveRecounted b b' x)
 
   pub list-cut : x ≤ length (stateOf b .active) → Becomes b b' (withActive (stateOf b) (take x (stateOf b .active)))
   list-cut h =
-      let e : take x (stateOf b .active) ≡ take x (row (rowsOf b) 19) = ap (take x) (active-of b (f .laid)) ∙ take-front x (length (stateOf b .active)) (row (rowsOf b) 19) h in
+      let e : take x (stateOf b .active) ≡ take x (row (rowsOf b) 19) =
+      ap (take x) (active-of b (f .laid)) ∙ take-front x (length (stateOf b .active)) (row (rowsOf b) 19) h in
       rw e recounted-list
     where
       take-front : (n m : ℕ) (l : List ℕ) → n ≤ m → take n (take m l) ≡ take n l

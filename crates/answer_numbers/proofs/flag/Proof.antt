@@ -1,4 +1,4 @@
-use Rattle.length.specs.Answer.{flag}
+use Rattle.update_length.specs.Answer.{flag}
 use Rattle.answer_numbers.proofs.flag.Statement.{statement}
 use Rattle.answer_numbers.proofs.flag.Tie as tie
 

@@ -27,7 +27,13 @@ returns : tie.Need-returns
 unfolding answerNumbers
 returns c =
     let s = c .before .before .before .before in
-    tells-as (c .before .before .front .ensures) (rw (s .before .before .sign .ensures, s .before .magnitude .ensures .0, s .flag .ensures, toZ-ofZ (s .before .before .before .before .before .fits .x)))
+    tells-as (c .before .before .front .ensures)
+    (rw (
+      s .before .before .sign .ensures,
+      s .before .magnitude .ensures .0,
+      s .flag .ensures,
+      toZ-ofZ (s .before .before .before .before .before .fits .x),
+    ))
 
 pub free-spec : {M : Type 1} → statement M
 free-spec =

@@ -36,8 +36,13 @@ loop-less c = search needs
 
 loop-again : tie.Need-loop-again Inv-loop μ-loop
 loop-again c =
-    let s = c .before .before in
-    (rw (s .loop .inv .0) (front-more (s .before .args .numbers .now) (s .before .args .list .now) (s .loop .i) (search needs) (search needs)), search needs, search needs)
+    let s = c .before .before in (
+      rw (s .loop .inv .0)
+          (front-more (s .before .args .numbers .now) (s .before .args .list .now) (s .loop .i) (search needs)
+          (search needs)),
+      search needs,
+      search needs,
+    )
 
 same-length : tie.Need-same-length Inv-loop μ-loop
 same-length c = search needs

@@ -1,4 +1,4 @@
-use Rattle.length.specs.Answer.{flag}
+use Rattle.update_length.specs.Answer.{flag}
 use mathlib.Core.Path.{_≡_, sym, ap, _∙_}
 use mathlib.Core.Bool.{true, false}
 use lib.Signed.{nonNeg}
@@ -13,13 +13,15 @@ non-negative-requires c κs = search needs
 returns : tie.Need-returns
 unfolding flag
 returns c =
-    let e : nonNeg (c .before .before .args .x) ≡ true = sym (ap nonNeg (toZ-ofZ (c .before .before .fits .x))) ∙ sym (c .before .non-negative .ensures) ∙ c .if1 .taken in
+    let e : nonNeg (c .before .before .args .x) ≡ true =
+    sym (ap nonNeg (toZ-ofZ (c .before .before .fits .x))) ∙ sym (c .before .non-negative .ensures) ∙ c .if1 .taken in
     rw e
 
 returns-2 : tie.Need-returns-2
 unfolding flag
 returns-2 c =
-    let e : nonNeg (c .before .before .args .x) ≡ false = sym (ap nonNeg (toZ-ofZ (c .before .before .fits .x))) ∙ sym (c .before .non-negative .ensures) ∙ c .if1 .left in
+    let e : nonNeg (c .before .before .args .x) ≡ false =
+    sym (ap nonNeg (toZ-ofZ (c .before .before .fits .x))) ∙ sym (c .before .non-negative .ensures) ∙ c .if1 .left in
     rw e
 
 pub sign-spec : {M : Type 1} → statement M

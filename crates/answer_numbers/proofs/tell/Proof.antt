@@ -1,7 +1,7 @@
 use mathlib.Core.Path.{sym, ap, _∙_}
 use mathlib.Core.List.{[], _∷_}
 use mir.Facts.{toZ-ofZ}
-use Rattle.length.specs.declared.Answer.the-variants.{NonZeroGrow}
+use Rattle.update_length.specs.declared.Answer.the-variants.{NonZeroGrow}
 use Rattle.answer_numbers.specs.Numbers.{answerNumbers}
 use Rattle.answer_numbers.specs.laws.Numbers.{tells-as}
 use borrow.Author.Needs.{needs, sfits-of}
@@ -123,14 +123,20 @@ same-length c = search needs
 returns : tie.Need-returns
 returns c =
     let s = c .before .before .before .before .before in
-    tells-as (c .before .before .free .ensures) (ap (λ z. answerNumbers (NonZeroGrow z (s .a .given .0 .1 .0))) (toZ-ofZ (sfits-of ((rw (s .a .given .1) at (s .before .before .before .good .1 .0)) .1 .1 .1 .1 .0 .1))) ∙ ap answerNumbers (sym (s .a .given .1)))
+    tells-as (c .before .before .free .ensures)
+    (ap (λ z. answerNumbers (NonZeroGrow z (s .a .given .0 .1 .0)))
+    (toZ-ofZ (sfits-of ((rw (s .a .given .1) at (s .before .before .before .good .1 .0)) .1 .1 .1 .1 .0 .1)))
+    ∙ ap answerNumbers (sym (s .a .given .1)))
 
 same-length-2 : tie.Need-same-length-2
 same-length-2 c = search needs
 
 returns-2 : tie.Need-returns-2
 unfolding answerNumbers
-returns-2 c = tells-as (c .before .before .front .ensures) (ap (λ f. 1 ∷ f ∷ []) (c .before .before .before .before .flag .ensures) ∙ ap answerNumbers (sym (c .before .before .before .before .before .before .before .a2 .given .1)))
+returns-2 c =
+    tells-as (c .before .before .front .ensures)
+    (ap (λ f. 1 ∷ f ∷ []) (c .before .before .before .before .flag .ensures)
+    ∙ ap answerNumbers (sym (c .before .before .before .before .before .before .before .a2 .given .1)))
 
 same-length-3 : tie.Need-same-length-3
 same-length-3 c = search needs

@@ -6,12 +6,13 @@ use mathlib.Core.Path.{_≡_}
 use mathlib.Core.List.{List, _++_}
 use lib.ListN.{length, take, drop, set, getD}
 use lib.Seq.{paste-suc, take-all}
-use Rattle.length.specs.declared.Answer.{Answer}
-use Rattle.length.specs.declared.Answer.the-variants.{NonZeroGrow, Unlimited, Conflicting, TouchingVirtual, BlossomNeedExpand, VertexShrinkStop, VertexShrinkStopPeer, Done, Node, Prepared, Vertex, Refused}
+use Rattle.update_length.specs.declared.Answer.{Answer}
+use Rattle.update_length.specs.declared.Answer.the-variants.{NonZeroGrow, Unlimited, Conflicting, TouchingVirtual, BlossomNeedExpand, VertexShrinkStop, VertexShrinkStopPeer, Done, Node, Prepared, Vertex, Refused}
 use Rattle.answer_numbers.specs.Numbers.{answerNumbers, Tells}
 
 -- one number more over the front
-pub front-more : (numbers list : List ℕ) (i : ℕ) → i < length numbers → i < length list → set (take i numbers ++ drop i list) i (getD numbers i 0) ≡ take (i + 1) numbers ++ drop (i + 1) list
+pub front-more : (numbers list : List ℕ) (i : ℕ) → i < length numbers → i < length list
+    → set (take i numbers ++ drop i list) i (getD numbers i 0) ≡ take (i + 1) numbers ++ drop (i + 1) list
 front-more numbers list i h k =
     let z : 0 + i ≡ i = omega arith in
     let y : 0 + suc i ≡ suc i = omega arith in

@@ -29,7 +29,13 @@ bad-node-requires : tie.Need-bad-node-requires Inv-loop μ-loop
 bad-node-requires c κs = search needs
 
 returns : tie.Need-returns Inv-loop μ-loop
-returns c = let d = c .before .before .before .before .loop in let a = c .before .before .before .before .before .args in any-here (badNode (stateOf (a .b .now))) (map toNat (a .circle .now)) (d .i) (d .inv .1) (rw (length-map (a .circle .now) toNat) (c .before .before .before .loop-test .taken)) (rw (c .before .before .word .ensures .0 ∙ word-entry (a .circle .now) (d .i)) at (sym (c .before .bad-node .ensures) ∙ c .if1 .taken))
+returns c =
+    let d = c .before .before .before .before .loop in
+    let a = c .before .before .before .before .before .args in
+    any-here (badNode (stateOf (a .b .now))) (map toNat (a .circle .now)) (d .i) (d .inv .1)
+    (rw (length-map (a .circle .now) toNat) (c .before .before .before .loop-test .taken))
+    (rw (c .before .before .word .ensures .0 ∙ word-entry (a .circle .now) (d .i))
+    at (sym (c .before .bad-node .ensures) ∙ c .if1 .taken))
 
 add-i : tie.Need-add-i Inv-loop μ-loop
 add-i c = search needs
@@ -38,10 +44,21 @@ loop-less : tie.Need-loop-less Inv-loop μ-loop
 loop-less c = search needs
 
 loop-again : tie.Need-loop-again Inv-loop μ-loop
-loop-again c = let d = c .before .before .before .before .loop in let a = c .before .before .before .before .before .args in (omega (arith, c .before .before .before .loop-test .taken), any-on (badNode (stateOf (a .b .now))) (map toNat (a .circle .now)) (d .i) (d .inv .1) (rw (length-map (a .circle .now) toNat) (c .before .before .before .loop-test .taken)) (rw (c .before .before .word .ensures .0 ∙ word-entry (a .circle .now) (d .i)) at (sym (c .before .bad-node .ensures) ∙ c .if1 .left)))
+loop-again c =
+    let d = c .before .before .before .before .loop in
+    let a = c .before .before .before .before .before .args in (
+      omega (arith, c .before .before .before .loop-test .taken),
+      any-on (badNode (stateOf (a .b .now))) (map toNat (a .circle .now)) (d .i) (d .inv .1)
+          (rw (length-map (a .circle .now) toNat) (c .before .before .before .loop-test .taken))
+          (rw (c .before .before .word .ensures .0 ∙ word-entry (a .circle .now) (d .i))
+          at (sym (c .before .bad-node .ensures) ∙ c .if1 .left)),
+    )
 
 returns-2 : tie.Need-returns-2 Inv-loop μ-loop
-returns-2 c = let a = c .before .before .args in any-end (badNode (stateOf (a .b .now))) (map toNat (a .circle .now)) (c .before .loop .i) (c .before .loop .inv .1) (rw (length-map (a .circle .now) toNat) (omega arith))
+returns-2 c =
+    let a = c .before .before .args in
+    any-end (badNode (stateOf (a .b .now))) (map toNat (a .circle .now)) (c .before .loop .i) (c .before .loop .inv .1)
+    (rw (length-map (a .circle .now) toNat) (omega arith))
 
 pub any-bad-spec : {M : Type 1} → statement M
 any-bad-spec =

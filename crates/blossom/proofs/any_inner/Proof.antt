@@ -27,10 +27,22 @@ word-requires : tie.Need-word-requires Inv-loop μ-loop
 word-requires c κs = search needs
 
 in-blossom-requires : tie.Need-in-blossom-requires Inv-loop μ-loop
-in-blossom-requires c κs = let s = c .before .before .before in (s .pre .0, rw (c .word .ensures .0) (all-nodes (stateOf (s .args .b .now)) (map toNat (s .args .circle .now)) (s .pre .1) _ (circle-member (s .args .circle .now) (c .before .before .loop .i) (c .before .loop-test .taken))))
+in-blossom-requires c κs =
+    let s = c .before .before .before in (
+      s .pre .0,
+      rw (c .word .ensures .0)
+          (all-nodes (stateOf (s .args .b .now)) (map toNat (s .args .circle .now)) (s .pre .1) _
+          (circle-member (s .args .circle .now) (c .before .before .loop .i) (c .before .loop-test .taken))),
+    )
 
 returns : tie.Need-returns Inv-loop μ-loop
-returns c = let d = c .before .before .before .before .loop in let a = c .before .before .before .before .before .args in any-here (inBlossom (stateOf (a .b .now))) (map toNat (a .circle .now)) (d .i) (d .inv .1) (rw (length-map (a .circle .now) toNat) (c .before .before .before .loop-test .taken)) (rw (c .before .before .word .ensures .0 ∙ word-entry (a .circle .now) (d .i)) at (sym (c .before .in-blossom .ensures) ∙ c .if1 .taken))
+returns c =
+    let d = c .before .before .before .before .loop in
+    let a = c .before .before .before .before .before .args in
+    any-here (inBlossom (stateOf (a .b .now))) (map toNat (a .circle .now)) (d .i) (d .inv .1)
+    (rw (length-map (a .circle .now) toNat) (c .before .before .before .loop-test .taken))
+    (rw (c .before .before .word .ensures .0 ∙ word-entry (a .circle .now) (d .i))
+    at (sym (c .before .in-blossom .ensures) ∙ c .if1 .taken))
 
 add-i : tie.Need-add-i Inv-loop μ-loop
 add-i c = search needs
@@ -39,10 +51,21 @@ loop-less : tie.Need-loop-less Inv-loop μ-loop
 loop-less c = search needs
 
 loop-again : tie.Need-loop-again Inv-loop μ-loop
-loop-again c = let d = c .before .before .before .before .loop in let a = c .before .before .before .before .before .args in (omega (arith, c .before .before .before .loop-test .taken), any-on (inBlossom (stateOf (a .b .now))) (map toNat (a .circle .now)) (d .i) (d .inv .1) (rw (length-map (a .circle .now) toNat) (c .before .before .before .loop-test .taken)) (rw (c .before .before .word .ensures .0 ∙ word-entry (a .circle .now) (d .i)) at (sym (c .before .in-blossom .ensures) ∙ c .if1 .left)))
+loop-again c =
+    let d = c .before .before .before .before .loop in
+    let a = c .before .before .before .before .before .args in (
+      omega (arith, c .before .before .before .loop-test .taken),
+      any-on (inBlossom (stateOf (a .b .now))) (map toNat (a .circle .now)) (d .i) (d .inv .1)
+          (rw (length-map (a .circle .now) toNat) (c .before .before .before .loop-test .taken))
+          (rw (c .before .before .word .ensures .0 ∙ word-entry (a .circle .now) (d .i))
+          at (sym (c .before .in-blossom .ensures) ∙ c .if1 .left)),
+    )
 
 returns-2 : tie.Need-returns-2 Inv-loop μ-loop
-returns-2 c = let a = c .before .before .args in any-end (inBlossom (stateOf (a .b .now))) (map toNat (a .circle .now)) (c .before .loop .i) (c .before .loop .inv .1) (rw (length-map (a .circle .now) toNat) (omega arith))
+returns-2 c =
+    let a = c .before .before .args in
+    any-end (inBlossom (stateOf (a .b .now))) (map toNat (a .circle .now)) (c .before .loop .i) (c .before .loop .inv .1)
+    (rw (length-map (a .circle .now) toNat) (omega arith))
 
 pub any-inner-spec : {M : Type 1} → statement M
 any-inner-spec =

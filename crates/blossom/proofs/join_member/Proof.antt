@@ -9,7 +9,9 @@ join-sides-requires : tie.Need-join-sides-requires
 join-sides-requires c κs = search needs
 
 set-grow-state-requires : tie.Need-set-grow-state-requires
-set-grow-state-requires c κs = let p = c .before .before .before .join-sides .ensures in (p .block .formed, rw (p .block .nodes) (c .before .before .before .before .before .before .pre .1), omega arith)
+set-grow-state-requires c κs =
+    let p = c .before .before .before .join-sides .ensures in
+    (p .block .formed, rw (p .block .nodes) (c .before .before .before .before .before .before .pre .1), omega arith)
 
 add-set-parent : tie.Need-add-set-parent
 add-set-parent c = search needs
@@ -28,7 +30,10 @@ same-length-2 c = search needs
 
 returns : tie.Need-returns
 unfolding joinStep
-returns c = joined-seated (c .before .before .before .before .before .before .before .before .before .before .before .args .m) (c .before .before .before .before .before .before .before .before .join-sides .ensures) (c .before .before .before .before .set-grow-state .ensures) (c .before .set-parent .ensures)
+returns c =
+    joined-seated (c .before .before .before .before .before .before .before .before .before .before .before .args .m)
+    (c .before .before .before .before .before .before .before .before .join-sides .ensures)
+    (c .before .before .before .before .set-grow-state .ensures) (c .before .set-parent .ensures)
 
 pub join-member-spec : {M : Type 1} → statement M
 join-member-spec =

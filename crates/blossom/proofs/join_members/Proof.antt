@@ -33,8 +33,13 @@ join-member-requires c κs = let w = c .before .before in
     let l = s .args .circle .now in
     let h : d .i < length (map toNat l) = rw (length-map l toNat) (w .before .loop-test .taken) in
     let e = w .word .ensures .0 ∙ word-entry l (d .i) in
-    let m = w .word .result in
-    (joined-here (d .inv .joined), members-node (d .inv) m h e, members-sides (d .inv) m h e, omega (arith, s .pre .3, s .pre .2 .count, laid-nodes (s .args .b .now) (s .pre .0 .laid)), members-apart (d .inv) m h e (s .pre .3))
+    let m = w .word .result in (
+      joined-here (d .inv .joined),
+      members-node (d .inv) m h e,
+      members-sides (d .inv) m h e,
+      omega (arith, s .pre .3, s .pre .2 .count, laid-nodes (s .args .b .now) (s .pre .0 .laid)),
+      members-apart (d .inv) m h e (s .pre .3),
+    )
 
 add-i : tie.Need-add-i Inv-loop μ-loop
 add-i c = search needs
@@ -46,13 +51,17 @@ loop-again : tie.Need-loop-again Inv-loop μ-loop
 loop-again c = let w = c .before .before .before .before .before in
     let d = w .before .before .loop in
     let l = w .before .before .before .args .circle .now in
-    members-more (d .inv) (w .word .result) (rw (length-map l toNat) (w .before .loop-test .taken)) (w .word .ensures .0 ∙ word-entry l (d .i)) (c .before .before .join-member .ensures)
+    members-more (d .inv) (w .word .result) (rw (length-map l toNat) (w .before .loop-test .taken))
+    (w .word .ensures .0 ∙ word-entry l (d .i)) (c .before .before .join-member .ensures)
 
 same-length : tie.Need-same-length Inv-loop μ-loop
 same-length c = c .before .loop .inv .joined .block .len
 
 same-length-2 : tie.Need-same-length-2 Inv-loop μ-loop
-same-length-2 c = let s = c .before .before in c .before .loop .inv .joined .holding .size ∙ sym (holding-zero (s .args .t .now) (sideCount (stateOf (s .args .b .now))) (s .pre .1) .size)
+same-length-2 c =
+    let s = c .before .before in
+    c .before .loop .inv .joined .holding .size
+    ∙ sym (holding-zero (s .args .t .now) (sideCount (stateOf (s .args .b .now))) (s .pre .1) .size)
 
 returns : tie.Need-returns Inv-loop μ-loop
 returns c = let q = c .before .loop .inv in (members-all q (rw (length-map (c .before .before .args .circle .now) toNat) (omega arith)), q .joinable)

@@ -17,20 +17,33 @@ abbrev μ-loop : tie.MeasureT-loop
 μ-loop b₀ t₀ m n k l i₀ q₀ b t i q = l - i
 
 -- side i of the boundary as it was at first
-within : (c : tie.After-boundary-side Inv-loop μ-loop) → c .before .before .before .loop .i < length (boundaryOf (stateOf (c .before .before .before .before .before .before .args .b .now)) (c .before .before .before .before .before .before .args .m))
+within : (c : tie.After-boundary-side Inv-loop μ-loop)
+    → c .before .before .before .loop .i
+    < length
+    (boundaryOf (stateOf (c .before .before .before .before .before .before .args .b .now))
+    (c .before .before .before .before .before .before .args .m))
 within c = omega (arith, c .before .before .loop-test .taken, c .before .before .before .before .boundary-len .ensures .0)
 
-entry : (c : tie.After-boundary-side Inv-loop μ-loop) → c .boundary-side .result ≡ getD (boundaryOf (stateOf (c .before .before .before .before .before .before .args .b .now)) (c .before .before .before .before .before .before .args .m)) (c .before .before .before .loop .i) 0
+entry : (c : tie.After-boundary-side Inv-loop μ-loop)
+    → c .boundary-side .result
+    ≡ getD
+    (boundaryOf (stateOf (c .before .before .before .before .before .before .args .b .now))
+    (c .before .before .before .before .before .before .args .m))
+    (c .before .before .before .loop .i) 0
 entry c = let d = c .before .before .before .loop in c .boundary-side .ensures .0 ∙ ap (λ (l : List ℕ). getD l (d .i) 0) (sides-list (d .inv))
 
-inside : (c : tie.After-boundary-side Inv-loop μ-loop) → c .boundary-side .result < sideCount (stateOf (c .before .before .before .before .before .before .args .b .now))
+inside : (c : tie.After-boundary-side Inv-loop μ-loop)
+    → c .boundary-side .result < sideCount (stateOf (c .before .before .before .before .before .before .args .b .now))
 inside c = omega (arith, c .boundary-side .ensures .1, c .before .before .before .loop .inv .joined .block .sides)
 
 -- the scratch has room for a side that member m holds
-space : (c : tie.Then1 Inv-loop μ-loop) → c .before .before .before .before .before .before .loop .q < sideCount (stateOf (c .before .before .before .before .before .before .before .before .before .args .b .now))
+space : (c : tie.Then1 Inv-loop μ-loop)
+    → c .before .before .before .before .before .before .loop .q
+    < sideCount (stateOf (c .before .before .before .before .before .before .before .before .before .args .b .now))
 space c = let w = c .before .before .before in
     let s = w .before .before .before .before .before .before in
-    joined-space (w .before .before .before .loop .inv .joined) (s .args .m) (w .boundary-side .result) (inside w) (sym (c .before .holder .ensures .0) ∙ c .if1 .taken) (s .pre .4)
+    joined-space (w .before .before .before .loop .inv .joined) (s .args .m) (w .boundary-side .result) (inside w)
+    (sym (c .before .holder .ensures .0) ∙ c .if1 .taken) (s .pre .4)
 
 boundary-len-requires : tie.Need-boundary-len-requires Inv-loop μ-loop
 boundary-len-requires c κs = let s = c .before in (s .pre .0 .block .formed .laid, s .pre .0 .block .formed .listed, s .pre .1)
@@ -41,8 +54,13 @@ loop-holds c = let s = c .before .before in sides-none (s .args .m) (s .args .n)
 boundary-side-requires : tie.Need-boundary-side-requires Inv-loop μ-loop
 boundary-side-requires c κs = let s = c .before .before .before .before .before in
     let q = c .before .before .loop .inv in
-    let f = q .joined .block .formed in
-    (f .laid, f .listed, rw (q .joined .block .nodes) (s .pre .1), sides-ok q (s .pre .2), rw (sides-list q) (omega (arith, c .before .loop-test .taken, c .before .before .before .boundary-len .ensures .0)))
+    let f = q .joined .block .formed in (
+      f .laid,
+      f .listed,
+      rw (q .joined .block .nodes) (s .pre .1),
+      sides-ok q (s .pre .2),
+      rw (sides-list q) (omega (arith, c .before .loop-test .taken, c .before .before .before .boundary-len .ensures .0)),
+    )
 
 holder-requires : tie.Need-holder-requires Inv-loop μ-loop
 holder-requires c κs = (c .before .before .before .before .loop .inv .joined .block .formed, c .before .boundary-side .ensures .1)
@@ -54,7 +72,12 @@ add-set-holder : tie.Need-add-set-holder Inv-loop μ-loop
 add-set-holder c = search needs
 
 set-holder-requires : tie.Need-set-holder-requires Inv-loop μ-loop
-set-holder-requires c κs = let w = c .before .before .before .before in (w .before .before .before .loop .inv .joined .block .formed, w .boundary-side .ensures .1, omega (arith, w .before .before .before .before .before .before .pre .3))
+set-holder-requires c κs =
+    let w = c .before .before .before .before in (
+      w .before .before .before .loop .inv .joined .block .formed,
+      w .boundary-side .ensures .1,
+      omega (arith, w .before .before .before .before .before .before .pre .3),
+    )
 
 put-requires : tie.Need-put-requires Inv-loop μ-loop
 put-requires c κs = let y = c .before .before .before .before in
@@ -63,7 +86,16 @@ put-requires c κs = let y = c .before .before .before .before in
     (omega (arith, space y, q .holding .size), omega (arith, w .boundary-side .ensures .1, q .block .formed .sides-max))
 
 add-q : tie.Need-add-q Inv-loop μ-loop
-add-q c = let y = c .before .before .before .before .before .before in let h = space y in record { fits = omega (arith, h, y .before .before .before .before .before .before .before .before .before .pre .0 .block .formed .sides-max) }
+add-q c =
+    let y = c .before .before .before .before .before .before in
+    let h = space y in
+    record {
+      fits = omega (
+        arith,
+        h,
+        y .before .before .before .before .before .before .before .before .before .pre .0 .block .formed .sides-max,
+      );
+    }
 
 add-i : tie.Need-add-i Inv-loop μ-loop
 add-i c = search needs
@@ -75,7 +107,10 @@ loop-again : tie.Need-loop-again Inv-loop μ-loop
 loop-again c = let y = c .before .before .before .before .before .before in
     let w = y .before .before .before in
     let s = w .before .before .before .before .before .before in
-    rw (c .before .put .ensures) (sides-more (w .before .before .before .loop .inv) (w .boundary-side .result) (within w) (entry w) (inside w) (sym (y .before .holder .ensures .0) ∙ y .if1 .taken) (s .pre .4) (c .before .before .before .before .set-holder .ensures))
+    rw (c .before .put .ensures)
+    (sides-more (w .before .before .before .loop .inv) (w .boundary-side .result) (within w) (entry w) (inside w)
+    (sym (y .before .holder .ensures .0) ∙ y .if1 .taken) (s .pre .4)
+    (c .before .before .before .before .set-holder .ensures))
 
 add-i-2 : tie.Need-add-i-2 Inv-loop μ-loop
 add-i-2 c = search needs
@@ -84,7 +119,10 @@ loop-less-2 : tie.Need-loop-less-2 Inv-loop μ-loop
 loop-less-2 c = search needs
 
 loop-again-2 : tie.Need-loop-again-2 Inv-loop μ-loop
-loop-again-2 c = let w = c .before .before .before in sides-skip (w .before .before .before .loop .inv) (w .boundary-side .result) (within w) (entry w) (λ q. c .if1 .left (c .before .holder .ensures .0 ∙ q))
+loop-again-2 c =
+    let w = c .before .before .before in
+    sides-skip (w .before .before .before .loop .inv) (w .boundary-side .result) (within w) (entry w)
+    (λ q. c .if1 .left (c .before .holder .ensures .0 ∙ q))
 
 same-length : tie.Need-same-length Inv-loop μ-loop
 same-length c = c .before .loop .inv .joined .block .len

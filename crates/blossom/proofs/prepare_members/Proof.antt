@@ -50,7 +50,12 @@ same-length-2 : tie.Need-same-length-2 Inv-loop μ-loop
 same-length-2 c = ap length (c .before .loop .inv .scratch ∙ sym (c .before .before .pre .1))
 
 returns : tie.Need-returns Inv-loop μ-loop
-returns c = let q = c .before .loop .inv in (preparing-all q (rw (length-map (c .before .before .args .circle .now) toNat) (omega arith)), q .scratch ∙ sym (c .before .before .pre .1), q .joinable)
+returns c =
+    let q = c .before .loop .inv in (
+      preparing-all q (rw (length-map (c .before .before .args .circle .now) toNat) (omega arith)),
+      q .scratch ∙ sym (c .before .before .pre .1),
+      q .joinable,
+    )
 
 pub prepare-members-spec : {M : Type 1} → statement M
 prepare-members-spec =

@@ -18,7 +18,10 @@ abbrev μ-loop : tie.MeasureT-loop
 
 -- the number at hand has a mark
 small : (c : tie.After-word Inv-loop μ-loop) → c .word .result < 1024
-small c = let s = c .before .before .before in rw (c .word .ensures .0) (word-below 1024 (s .args .circle .now) (c .before .before .loop .i) (s .pre) (c .before .loop-test .taken))
+small c =
+    let s = c .before .before .before in
+    rw (c .word .ensures .0)
+    (word-below 1024 (s .args .circle .now) (c .before .before .loop .i) (s .pre) (c .before .loop-test .taken))
 
 loop-holds : tie.Need-loop-holds Inv-loop μ-loop
 loop-holds c = (met-none 1024 (map toNat (c .args .circle .now)), refl)
@@ -33,7 +36,12 @@ array-read-if1 : tie.Need-array-read-if1 Inv-loop μ-loop
 array-read-if1 c = let h = small c in search needs
 
 returns : tie.Need-returns Inv-loop μ-loop
-returns c = let w = c .before in let d = w .before .before .loop in let a = w .before .before .before .args in met-twice (d .inv .0) (w .word .result) (rw (length-map (a .circle .now) toNat) (w .before .loop-test .taken)) (w .word .ensures .0 ∙ word-entry (a .circle .now) (d .i)) (rw (d .inv .1) (small w)) (c .if1 .taken)
+returns c =
+    let w = c .before in
+    let d = w .before .before .loop in
+    let a = w .before .before .before .args in
+    met-twice (d .inv .0) (w .word .result) (rw (length-map (a .circle .now) toNat) (w .before .loop-test .taken))
+    (w .word .ensures .0 ∙ word-entry (a .circle .now) (d .i)) (rw (d .inv .1) (small w)) (c .if1 .taken)
 
 mul-marks : tie.Need-mul-marks Inv-loop μ-loop
 mul-marks c = let h = small (c .before) in search needs
@@ -48,7 +56,14 @@ loop-less : tie.Need-loop-less Inv-loop μ-loop
 loop-less c = search needs
 
 loop-again : tie.Need-loop-again Inv-loop μ-loop
-loop-again c = let w = c .before in let d = w .before .before .loop in let a = w .before .before .before .args in (met-more (d .inv .0) (w .word .result) (rw (length-map (a .circle .now) toNat) (w .before .loop-test .taken)) (w .word .ensures .0 ∙ word-entry (a .circle .now) (d .i)) (rw (d .inv .1) (small w)) (c .if1 .left), simp (length-set) (d .inv .1))
+loop-again c =
+    let w = c .before in
+    let d = w .before .before .loop in
+    let a = w .before .before .before .args in (
+      met-more (d .inv .0) (w .word .result) (rw (length-map (a .circle .now) toNat) (w .before .loop-test .taken))
+          (w .word .ensures .0 ∙ word-entry (a .circle .now) (d .i)) (rw (d .inv .1) (small w)) (c .if1 .left),
+      simp (length-set) (d .inv .1),
+    )
 
 returns-2 : tie.Need-returns-2 Inv-loop μ-loop
 returns-2 c = let d = c .before .loop in met-all (d .inv .0) (rw (length-map (c .before .before .args .circle .now) toNat) (omega arith))

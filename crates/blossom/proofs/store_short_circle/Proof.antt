@@ -23,10 +23,24 @@ add-over-store : tie.Need-add-over-store
 add-over-store c = search needs
 
 over-store-requires : tie.Need-over-store-requires
-over-store-requires c κs = let s = c .before .before in (s .pre .0, omega (arith, store-max (s .args .b .now) (s .pre .0 .laid), c .before .entry-count .ensures .1), omega (arith, circle-size (stateOf (s .args .b .now)) (map toNat (s .args .circle .now)) (s .pre .1) (s .pre .0 .nodes-max) (s .pre .2), length-map (s .args .circle .now) toNat))
+over-store-requires c κs =
+    let s = c .before .before in (
+      s .pre .0,
+      omega (arith, store-max (s .args .b .now) (s .pre .0 .laid), c .before .entry-count .ensures .1),
+      omega (
+        arith,
+        circle-size (stateOf (s .args .b .now)) (map toNat (s .args .circle .now)) (s .pre .1) (s .pre .0 .nodes-max)
+            (s .pre .2),
+        length-map (s .args .circle .now) toNat,
+      ),
+    )
 
 returns : tie.Need-returns
-returns c = let s = c .before .before .before in c .over-store .ensures ∙ short-circle (stateOf (s .args .b .now)) (s .args .circle .now) _ (omega (arith, c .before .entries-in .ensures, c .before .before .entry-count .ensures .0))
+returns c =
+    let s = c .before .before .before in
+    c .over-store .ensures
+    ∙ short-circle (stateOf (s .args .b .now)) (s .args .circle .now) _
+    (omega (arith, c .before .entries-in .ensures, c .before .before .entry-count .ensures .0))
 
 pub store-short-circle-spec : {M : Type 1} → statement M
 store-short-circle-spec =

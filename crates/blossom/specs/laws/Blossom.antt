@@ -9,32 +9,34 @@ use mathlib.Core.List.{List, [], _∷_, _++_}
 use lib.IntN.{ℤ, pos}
 use lib.Dec.{ltb, eqb}
 use lib.ListN.{length, getD, set, take, length-append, length-set}
-use borrow.Author.Tests.{lt-ltb, le-ltb, eq-eqb, ne-eqb}
+use borrow.Author.Tests.{lt-ltb, eq-eqb, ne-eqb}
 use Rattle.graph.specs.Basic.{fold, all, member, distinct}
 use Rattle.graph.specs.State.{State, blossom, vertexCount, sideCount, nodeCount, holderAt, boundaryOf, withSides, withNodes, withHolder, withGrowState, withParent, withNode, down}
 use Rattle.graph.specs.Sound.{entriesOf, entries}
 use Rattle.graph.specs.Word.{numbersAt}
 use Rattle.graph.specs.Layout.{stateOf, classFrom}
 use Rattle.graph.specs.laws.Class.{class-blossom}
-use Rattle.graph.specs.Form.{Formed, Becomes, sidesOk}
-use Rattle.graph.specs.Insert.{Inserted}
+use Rattle.graph.specs.Form.{Formed}
+use Rattle.graph.specs.inner.Form.{Becomes, sidesOk}
+use Rattle.graph.specs.inner.Insert.{Inserted}
 use Rattle.graph.specs.laws.State.{if-both, fold-more, fold-done, fold-keeps, holder-same, holder-other}
 use Rattle.graph.specs.laws.Members.{by-test, all-snoc, member-at, member-append, member-cons, member-nil, distinct-snoc, distinct-length}
-use Rattle.graph.specs.laws.Shape.{Shape}
+use Rattle.graph.specs.Shape.{Shape}
 use Rattle.graph.specs.laws.Form.{laid-shape}
 use Rattle.graph.specs.laws.Row.{becomes-none, becomes-then}
-use Rattle.pass.specs.Scratch.{zeroScratch, wiped}
+use Rattle.pass.specs.Scratch.{zeroScratch}
+use Rattle.pass.specs.inner.Scratch.{wiped}
 use Rattle.pass.specs.Prepare.{prepareNode}
-use Rattle.pass.specs.Ready.{Ready, Shrinkable, Preparable, AfterPreparation}
+use Rattle.pass.specs.inner.Ready.{Ready, Shrinkable, Preparable, AfterPreparation}
 use Rattle.pass.specs.laws.Scratch.{holding-zero, zero-holding, hold-first, first-numbers, wipe-first}
 use Rattle.pass.specs.laws.Passes.{Passed}
 use Rattle.pass.specs.laws.Prepare.{prepare-passed}
-use Rattle.length.specs.declared.Answer.the-variants.{Node, Refused}
-use Rattle.length.specs.Answer.{says}
+use Rattle.update_length.specs.declared.Answer.the-variants.{Node, Refused}
+use Rattle.update_length.specs.Answer.{says}
 use Rattle.calls.specs.Refuse.{entriesUnless, entriesBut, unless}
-use Rattle.calls.specs.Insert.{Joining, blossomRefusal, prepareStep, joinSide, seated, joinStep, joinCircle, blossomPut, insertBlossom}
-use Rattle.blossom.specs.Circle.{Joinable, JoinedIn, joinedIn}
-use Rattle.calls.specs.Reply.{Usable, RepliesInsert}
+use Rattle.calls.specs.Insert.{Joining, blossomRefusal, prepareStep, joinSide, memberStays, joinStep, joinCircle, blossomPut, insertBlossom}
+use Rattle.blossom.specs.inner.Circle.{Joinable, JoinedIn, joinedIn}
+use Rattle.calls.specs.inner.Reply.{RepliesInsert, Usable}
 use Rattle.calls.specs.laws.Accepted.{BlossomAccepted, blossom-accepted, entries-passed}
 use Rattle.blossom.specs.laws.Circle.{joinable-room, accepted-joinable}
 use Rattle.graph.specs.Active.{joinActive}
@@ -70,7 +72,8 @@ pub record Preparing (b₀ b t : List ℤ) (circle : List ℕ) (i : ℕ) : Type 
   pub scratch : t ≡ zeroScratch (3 * sideCount (stateOf b₀))
   pub joinable : Joinable (stateOf b) circle
 
-pub preparing-none : {b t : List ℤ} {circle : List ℕ} → Formed b → t ≡ zeroScratch (3 * sideCount (stateOf b)) → Joinable (stateOf b) circle → Preparing b b t circle 0
+pub preparing-none : {b t : List ℤ} {circle : List ℕ} → Formed b → t ≡ zeroScratch (3 * sideCount (stateOf b))
+    → Joinable (stateOf b) circle → Preparing b b t circle 0
 unfolding fold
 preparing-none {b} {t} {circle} f e j = record { below = omega arith; block = becomes-none b (stateOf b) f refl; scratch = e; joinable = j }
 
@@ -93,10 +96,12 @@ module _ {b₀ b t : List ℤ} {circle : List ℕ} {i : ℕ} (q : Preparing b₀
     pub preparing-able : Preparable (stateOf b) m 0
     preparing-able = record { grows = λ z. absurd (omega (arith, z)); shrinks = λ z. q .joinable .lists m here }
 
-    pub preparing-more : {b' t' : List ℤ} {k : ℕ} → AfterPreparation b b' t t' (prepareNode (stateOf b) m 0) k → Preparable (stateOf b') m 0 → Preparing b₀ b' t' circle (i + 1)
+    pub preparing-more : {b' t' : List ℤ} {k : ℕ} → AfterPreparation b b' t t' (prepareNode (stateOf b) m 0) k
+        → Preparable (stateOf b') m 0 → Preparing b₀ b' t' circle (i + 1)
     unfolding prepareStep
     preparing-more {b'} {t'} {k} a s =
-        let z : prepareNode (stateOf b) m 0 .state ≡ fold prepareStep (stateOf b₀) (take (i + 1) circle) = rw (q .block .state, e) (sym (fold-more prepareStep (stateOf b₀) circle i 0 h)) in
+        let z : prepareNode (stateOf b) m 0 .state ≡ fold prepareStep (stateOf b₀) (take (i + 1) circle) =
+        rw (q .block .state, e) (sym (fold-more prepareStep (stateOf b₀) circle i 0 h)) in
         let p : Passed m (stateOf b) (stateOf b') = rw (a .block .state) (prepare-passed (stateOf b) m 0) in
         record {
           below = omega (arith, h);
@@ -136,17 +141,36 @@ module _ (c : State) (n : ℕ) where
 
   leaves-side : (m : ℕ) (j : Joining) (s : ℕ) → Leaves j → Leaves (joinSide n m j s)
   unfolding joinSide withHolder withSides
-  leaves-side m j s p = if-both Leaves (eqb (holderAt (j .state) s) (m + 1)) (record { graph = p .graph; boundary = p .boundary; overgrown = p .overgrown; count = p .count; nodeLimit = p .nodeLimit; storeLimit = p .storeLimit; active = p .active }) p
+  leaves-side m j s p =
+      if-both Leaves (eqb (holderAt (j .state) s) (m + 1))
+      (record {
+        graph = p .graph;
+        boundary = p .boundary;
+        overgrown = p .overgrown;
+        count = p .count;
+        nodeLimit = p .nodeLimit;
+        storeLimit = p .storeLimit;
+        active = p .active;
+      })
+      p
 
   leaves-sides : (m : ℕ) (j : Joining) (l : List ℕ) → Leaves j → Leaves (fold (joinSide n m) j l)
   leaves-sides m j l p = fold-keeps (joinSide n m) Leaves (leaves-side m) j l p
 
   leaves-step : (j : Joining) (m : ℕ) → Leaves j → Leaves (joinStep n j m)
-  unfolding joinStep seated withParent withGrowState withNodes
+  unfolding joinStep memberStays withParent withGrowState withNodes
   leaves-step j m p =
       let z : Joining = fold (joinSide n m) j (boundaryOf (j .state) m) in
       let r : Leaves z = leaves-sides m j (boundaryOf (j .state) m) p in
-      record { graph = r .graph; boundary = r .boundary; overgrown = r .overgrown; count = length-set (z .state .nodes .growState) m 0 ∙ r .count; nodeLimit = r .nodeLimit; storeLimit = r .storeLimit; active = r .active }
+      record {
+        graph = r .graph;
+        boundary = r .boundary;
+        overgrown = r .overgrown;
+        count = length-set (z .state .nodes .growState) m 0 ∙ r .count;
+        nodeLimit = r .nodeLimit;
+        storeLimit = r .storeLimit;
+        active = r .active;
+      }
 
   leaves-circle : (j : Joining) (circle : List ℕ) → Leaves j → Leaves (fold (joinStep n) j circle)
   leaves-circle j circle p = fold-keeps (joinStep n) Leaves leaves-step j circle p
@@ -193,7 +217,13 @@ module _ {b₀ b t : List ℤ} {n k : ℕ} {j : Joining} (p : JoinedIn b₀ b t 
     inside-more = all-snoc (λ r. ltb r (sideCount (stateOf b₀))) (j .sides) s (p .inside) (lt-ltb s (sideCount (stateOf b₀)) inside)
 
     pub joined-space : k < sideCount (stateOf b₀)
-    joined-space = omega (arith, p .count, length-append (j .sides) (s ∷ []), distinct-length (sideCount (stateOf b₀)) (j .sides ++ (s ∷ [])) once-more inside-more)
+    joined-space =
+        omega (
+          arith,
+          p .count,
+          length-append (j .sides) (s ∷ []),
+          distinct-length (sideCount (stateOf b₀)) (j .sides ++ (s ∷ [])) once-more inside-more,
+        )
 
     same-here : holderAt (withHolder (j .state) s (n + 1)) s ≡ n + 1
     same-here = holder-same (j .state) s (n + 1) (omega (arith, inside, joined-sides, joined-shape .holder))
@@ -202,7 +232,8 @@ module _ {b₀ b t : List ℤ} {n k : ℕ} {j : Joining} (p : JoinedIn b₀ b t 
     held-more r h =
         elim (decEq r s) [
           | yes q ↦ rw q same-here
-          | no q ↦ member-append r (j .sides) (s ∷ []) h (λ z. holder-other (j .state) s (n + 1) r q ∙ p .held r z) (λ z. member-cons r s [] z (λ y. absurd (q y)) (λ y. member-nil r y))
+          | no q ↦ member-append r (j .sides) (s ∷ []) h (λ z. holder-other (j .state) s (n + 1) r q ∙ p .held r z)
+              (λ z. member-cons r s [] z (λ y. absurd (q y)) (λ y. member-nil r y))
         ]
 
     pub joined-side : {b' : List ℤ} → Becomes b b' (withHolder (stateOf b) s (n + 1)) → JoinedIn b₀ b' (set t k (pos s)) n (k + 1) (joinSide n m j s)
@@ -247,11 +278,17 @@ module _ {b₀ b t₀ t : List ℤ} {m n k i q : ℕ} (p : SidesJoined b₀ b t�
   sides-ok h = rw (sides-same .graph, sides-list) h
 
   module _ (s : ℕ) (h : i < length (boundaryOf (stateOf b₀) m)) (e : s ≡ getD (boundaryOf (stateOf b₀) m) i 0) where
-    next : joinSide n m (fold (joinSide n m) (joinedIn b₀ t₀ k) (take i (boundaryOf (stateOf b₀) m))) s ≡ fold (joinSide n m) (joinedIn b₀ t₀ k) (take (i + 1) (boundaryOf (stateOf b₀) m))
+    next : joinSide n m (fold (joinSide n m) (joinedIn b₀ t₀ k) (take i (boundaryOf (stateOf b₀) m))) s
+        ≡ fold (joinSide n m) (joinedIn b₀ t₀ k) (take (i + 1) (boundaryOf (stateOf b₀) m))
     next = rw e (sym (fold-more (joinSide n m) (joinedIn b₀ t₀ k) (boundaryOf (stateOf b₀) m) i 0 h))
 
-    pub sides-more : {b' : List ℤ} → s < sideCount (stateOf b₀) → holderAt (stateOf b) s ≡ m + 1 → m ≢ n → Becomes b b' (withHolder (stateOf b) s (n + 1)) → SidesJoined b₀ b' t₀ (set t q (pos s)) m n k (i + 1) (q + 1)
-    sides-more {b'} inside held apart x = record { below = omega (arith, h); joined = subst (JoinedIn b₀ b' (set t q (pos s)) n (q + 1)) next (joined-side (p .joined) m s inside held apart x) }
+    pub sides-more : {b' : List ℤ} → s < sideCount (stateOf b₀) → holderAt (stateOf b) s ≡ m + 1 → m ≢ n
+        → Becomes b b' (withHolder (stateOf b) s (n + 1)) → SidesJoined b₀ b' t₀ (set t q (pos s)) m n k (i + 1) (q + 1)
+    sides-more {b'} inside held apart x =
+        record {
+          below = omega (arith, h);
+          joined = subst (JoinedIn b₀ b' (set t q (pos s)) n (q + 1)) next (joined-side (p .joined) m s inside held apart x);
+        }
 
     pub sides-skip : holderAt (stateOf b) s ≢ m + 1 → SidesJoined b₀ b t₀ t m n k (i + 1) q
     sides-skip free = record { below = omega (arith, h); joined = subst (JoinedIn b₀ b t n q) next (joined-other (p .joined) m s free) }
@@ -262,8 +299,10 @@ module _ {b₀ b t₀ t : List ℤ} {m n k i q : ℕ} (p : SidesJoined b₀ b t�
 -- ---- the members
 
 -- member m becomes Stay and lies in blossom n
-pub joined-seated : {b₀ b b' b'' t : List ℤ} {n k : ℕ} {j : Joining} (m : ℕ) → JoinedIn b₀ b t n k j → Becomes b b' (withGrowState (stateOf b) m 0) → Becomes b' b'' (withParent (stateOf b') m (n + 1)) → JoinedIn b₀ b'' t n k (seated n m j)
-unfolding seated withParent withGrowState withNodes
+pub joined-seated : {b₀ b b' b'' t : List ℤ} {n k : ℕ} {j : Joining} (m : ℕ) → JoinedIn b₀ b t n k j
+    → Becomes b b' (withGrowState (stateOf b) m 0) → Becomes b' b'' (withParent (stateOf b') m (n + 1))
+    → JoinedIn b₀ b'' t n k (memberStays n m j)
+unfolding memberStays withParent withGrowState withNodes
 joined-seated {b₀} {b} {b'} {b''} {t} {n} {k} {j} m p x y = record {
   block = becomes-then (becomes-then (p .block) x) (rw (x .state, p .block .state) at y);
   holding = p .holding;
@@ -318,7 +357,8 @@ pub record MembersJoined (b₀ b t₀ t : List ℤ) (circle : List ℕ) (n i k :
   pub joined : JoinedIn b₀ b t n k (fold (joinStep n) (joinedIn b₀ t₀ 0) (take i circle))
   pub joinable : Joinable (stateOf b) circle
 
-pub members-none : {b t : List ℤ} {circle : List ℕ} (n : ℕ) → Formed b → t ≡ zeroScratch (3 * sideCount (stateOf b)) → Joinable (stateOf b) circle → MembersJoined b b t t circle n 0 0
+pub members-none : {b t : List ℤ} {circle : List ℕ} (n : ℕ) → Formed b → t ≡ zeroScratch (3 * sideCount (stateOf b))
+    → Joinable (stateOf b) circle → MembersJoined b b t t circle n 0 0
 unfolding fold
 members-none n f e j = record { below = omega arith; joined = joined-none n f e; joinable = j }
 
@@ -342,7 +382,8 @@ module _ {b₀ b t₀ t : List ℤ} {circle : List ℕ} {n i k : ℕ} (p : Membe
 
     pub members-more : {b' t' : List ℤ} {k' : ℕ} → JoinedIn b b' t' n k' (joinStep n (joinedIn b t k) m) → MembersJoined b₀ b' t₀ t' circle n (i + 1) k'
     members-more {b'} {t'} {k'} x =
-        let z : joinStep n (joinedIn b t k) m ≡ fold (joinStep n) (joinedIn b₀ t₀ 0) (take (i + 1) circle) = rw (joined-is (p .joined), e) (sym (fold-more (joinStep n) (joinedIn b₀ t₀ 0) circle i 0 h)) in
+        let z : joinStep n (joinedIn b t k) m ≡ fold (joinStep n) (joinedIn b₀ t₀ 0) (take (i + 1) circle) =
+        rw (joined-is (p .joined), e) (sym (fold-more (joinStep n) (joinedIn b₀ t₀ 0) circle i 0 h)) in
         let same : SameLists (stateOf b) (stateOf b') = rw (x .block .state) (leaves-step (stateOf b) n (joinedIn b t k) m (same-refl (stateOf b))) in
         record {
           below = omega (arith, h);
@@ -351,7 +392,9 @@ module _ {b₀ b t₀ t : List ℤ} {circle : List ℕ} {n i k : ℕ} (p : Membe
         }
 
 -- the members of a circle that was prepared
-pub circle-joined : {b₀ b b' t' : List ℤ} {n k : ℕ} (t : List ℤ) (circle : List ℕ) → n ≡ nodeCount (stateOf b₀) → Becomes b₀ b (fold prepareStep (stateOf b₀) circle) → JoinedIn b b' t' n k (fold (joinStep n) (joinedIn b t 0) circle) → JoinedIn b₀ b' t' n k (joinCircle (stateOf b₀) circle)
+pub circle-joined : {b₀ b b' t' : List ℤ} {n k : ℕ} (t : List ℤ) (circle : List ℕ) → n ≡ nodeCount (stateOf b₀)
+    → Becomes b₀ b (fold prepareStep (stateOf b₀) circle) → JoinedIn b b' t' n k (fold (joinStep n) (joinedIn b t 0) circle)
+    → JoinedIn b₀ b' t' n k (joinCircle (stateOf b₀) circle)
 unfolding joinCircle numbersAt
 circle-joined {b₀} {b} {b'} {t'} {n} {k} t circle e q x =
     let z : fold (joinStep n) (joinedIn b t 0) circle ≡ joinCircle (stateOf b₀) circle = rw (q .state, e) in
@@ -362,7 +405,9 @@ circle-joined {b₀} {b} {b'} {t'} {n} {k} t circle e q x =
 module _ {b t : List ℤ} (u : Usable b t) (x k : ℕ) (circle : List ℕ) (e : k ≡ blossomRefusal (stateOf b) x circle) where
   pub blossom-refused : k ≢ 0 → RepliesInsert b b (Refused k) (insertBlossom (stateOf b) x circle)
   unfolding insertBlossom unless says
-  blossom-refused h = rw (← e, ne-eqb k 0 h) (record { answer = refl; formed = u .formed; state = refl; vertices = refl; edges = refl; sides = refl; len = refl })
+  blossom-refused h =
+      rw (← e, ne-eqb k 0 h)
+      (record { answer = refl; formed = u .formed; state = refl; vertices = refl; edges = refl; sides = refl; len = refl })
 
   module _ (h : k ≡ 0) where
     taken : BlossomAccepted (stateOf b) x circle
@@ -386,8 +431,13 @@ module _ {b t : List ℤ} (u : Usable b t) (x k : ℕ) (circle : List ℕ) (e : 
       blossom-room j = omega (arith, joinable-room j, joined-most p, p .block .sides)
 
       -- the new node can join the active list
-      pub blossom-joins : {b₄ : List ℤ} (class : ℕ) → Inserted b₃ b₄ (withNode (stateOf b₃) (classFrom (vertexCount (stateOf b₃)) class) x (numbersAt t₃ 0 l)) → Joins b₄ n
-      blossom-joins {b₄} class r = new-joins b b₃ b₄ _ n en (sound-active (stateOf b) (u .sounds)) (p .block .nodes) (ap (λ (c : State). c .active) (p .block .state) ∙ circle-active (stateOf b) circle) (node-active (stateOf b₃) _ x _) r
+      pub blossom-joins : {b₄ : List ℤ} (class : ℕ)
+          → Inserted b₃ b₄ (withNode (stateOf b₃) (classFrom (vertexCount (stateOf b₃)) class) x (numbersAt t₃ 0 l))
+          → Joins b₄ n
+      blossom-joins {b₄} class r =
+          new-joins b b₃ b₄ _ n en (sound-active (stateOf b) (u .sounds)) (p .block .nodes)
+          (ap (λ (c : State). c .active) (p .block .state) ∙ circle-active (stateOf b) circle)
+          (node-active (stateOf b₃) _ x _) r
 
       pub blossom-done : {b₄ b₅ : List ℤ} (class : ℕ) → class ≡ vertexCount (stateOf b₃) + getD circle 0 0
           → Inserted b₃ b₄ (withNode (stateOf b₃) (classFrom (vertexCount (stateOf b₃)) class) x (numbersAt t₃ 0 l))
@@ -398,7 +448,9 @@ module _ {b t : List ℤ} (u : Usable b t) (x k : ℕ) (circle : List ℕ) (e : 
           let y : classFrom (vertexCount (stateOf b₃)) class ≡ blossom (getD circle 0 0) =
           rw ec (class-blossom (vertexCount (stateOf b₃)) (getD circle 0 0) (λ q. omega (arith, q, blossom-first))) in
           let w : numbersAt t₃ 0 l ≡ j .sides = rw (p .count) (first-numbers (p .holding)) in
-          let z : withNode (stateOf b₃) (classFrom (vertexCount (stateOf b₃)) class) x (numbersAt t₃ 0 l) ≡ withNode (j .state) (blossom (getD circle 0 0)) x (j .sides) = rw (y, w, p .block .state) in
+          let z : withNode (stateOf b₃) (classFrom (vertexCount (stateOf b₃)) class) x (numbersAt t₃ 0 l)
+          ≡ withNode (j .state) (blossom (getD circle 0 0)) x (j .sides) =
+          rw (y, w, p .block .state) in
           rw (← e, eq-eqb k 0 h) (inserted-joined (p .block) r a en z)
 
       pub blossom-wiped : {t₅ : List ℤ} → t₅ ≡ wiped t₃ 0 l → t₅ ≡ t

@@ -9,30 +9,29 @@ use lib.IntN.{ℤ}
 use lib.Dec.{ltb, eqb}
 use lib.ListN.{length, getD, set, drop, replicate, length-map, drop-of-length-le}
 use lib.Seq.{drop-cons}
-use borrow.Author.Tests.{lt-ltb, le-leb, lt-leb, leb-false, not-false, eq-eqb, ne-eqb}
+use borrow.Author.Tests.{lt-ltb, le-leb, lt-leb, not-false, eq-eqb, ne-eqb}
 use mathlib.Core.Logic.{_≢_}
 use Rattle.graph.specs.Basic.{all, any, member, distinct, sumBelow}
 use Rattle.graph.specs.State.{State, vertexCount, sideCount, nodeCount, boundaryOf}
 use Rattle.graph.specs.Sound.{entriesOf, entries}
 use Rattle.graph.specs.Word.{toNat, wordAt}
 use Rattle.graph.specs.Layout.{stateOf}
-use Rattle.graph.specs.Form.{Formed, sidesOk}
-use Rattle.graph.specs.Scans.{onceAll}
+use Rattle.graph.specs.Form.{Formed}
+use Rattle.graph.specs.inner.Form.{sidesOk}
+use Rattle.graph.specs.inner.Scans.{onceAll, Stamped}
 use Rattle.graph.specs.laws.Form.{laid-shape, formed-vertices}
 use Rattle.graph.specs.laws.Used.{entries-within}
-use Rattle.graph.specs.laws.Members.{by-test, or-neither-right, all-from, member-at, member-head, member-tail, distinct-head, distinct-tail, distinct-length}
+use Rattle.graph.specs.laws.Members.{by-test, or-neither-right, all-from, member-at, member-head, member-tail, distinct-head, distinct-tail, distinct-length, none-member}
 use Rattle.graph.specs.laws.Stamp.{stamped-none, stamped-more, stamped-fails, stamped-all}
-use Rattle.graph.specs.Scans.{Stamped}
 use Rattle.graph.specs.laws.Opened.{getD-zeros}
-use Rattle.pass.specs.Ready.{Shrinkable}
+use Rattle.pass.specs.inner.Ready.{Shrinkable}
 use Rattle.pass.specs.laws.Ready.{sound-shrinkable}
 use Rattle.calls.specs.Refuse.{badNode, inBlossom, entriesUnless, entriesBut, storeShort}
 use Rattle.calls.specs.Insert.{noCircle, blossomRefusal}
-use Rattle.blossom.specs.Circle.{Joinable}
-use Rattle.calls.specs.Reply.{Usable}
+use Rattle.blossom.specs.inner.Circle.{Joinable}
+use Rattle.calls.specs.inner.Reply.{Usable}
 use Rattle.calls.specs.laws.Refuse.{good-inside}
 use Rattle.calls.specs.laws.Accepted.{BlossomAccepted, store-room, entries-named, entries-none}
-use Rattle.graph.specs.laws.Members.{none-member}
 use Rattle.graph.specs.laws.List.{store-max}
 use Rattle.graph.specs.laws.Number.{word-entry}
 
@@ -124,10 +123,12 @@ distinct-drop (x ∷ l) (suc i) h = distinct-drop l i (distinct-tail x l h)
 
 -- `sum` entries in the lists of the first i members
 module _ (c : State) (ms : List ℕ) (i sum : ℕ) (e : sum + entriesBut c ms ≡ entriesBut c (drop i ms)) where
-  pub entries-more : (m : ℕ) → i < length ms → m ≡ getD ms i 0 → m < nodeCount c → distinct ms ≡ true → sum + entriesOf c m + entriesBut c ms ≡ entriesBut c (drop (i + 1) ms)
+  pub entries-more : (m : ℕ) → i < length ms → m ≡ getD ms i 0 → m < nodeCount c → distinct ms ≡ true
+      → sum + entriesOf c m + entriesBut c ms ≡ entriesBut c (drop (i + 1) ms)
   entries-more m h q k o =
       let d : drop i ms ≡ m ∷ drop (i + 1) ms = rw (add-one, q) (drop-cons ms i 0 h) in
-      let own : entriesBut c (drop (i + 1) ms) ≡ entriesBut c (m ∷ drop (i + 1) ms) + entriesOf c m = entries-named c m (drop (i + 1) ms) k (distinct-head m (drop (i + 1) ms) (rw d at (distinct-drop ms i o))) in
+      let own : entriesBut c (drop (i + 1) ms) ≡ entriesBut c (m ∷ drop (i + 1) ms) + entriesOf c m =
+      entries-named c m (drop (i + 1) ms) k (distinct-head m (drop (i + 1) ms) (rw d at (distinct-drop ms i o))) in
       let e' : sum + entriesBut c ms ≡ entriesBut c (m ∷ drop (i + 1) ms) = e ∙ ap (entriesBut c) d in
       omega (arith, own, e')
 
@@ -137,15 +138,21 @@ module _ (c : State) (ms : List ℕ) (i sum : ℕ) (e : sum + entriesBut c ms �
   pub entries-small : sum ≤ entries c
   entries-small = omega (arith, e, entries-but-le c (drop i ms))
 
-pub short-circle : (c : State) (l : List ℤ) (u : ℕ) → u ≡ entriesBut c (map toNat l) → ltb (c .storeLimit) (u + (length l + 1) * (sideCount c + vertexCount c)) ≡ storeShort c (map toNat l) (length (map toNat l) + 1)
+pub short-circle : (c : State) (l : List ℤ) (u : ℕ) → u ≡ entriesBut c (map toNat l)
+    → ltb (c .storeLimit) (u + (length l + 1) * (sideCount c + vertexCount c))
+    ≡ storeShort c (map toNat l) (length (map toNat l) + 1)
 unfolding storeShort
 short-circle c l u e = rw (e, length-map l toNat)
 
 -- the lists of members that have at most k entries each
-pub entries-members : (c : State) (k : ℕ) (ms : List ℕ) → distinct ms ≡ true → ((m : ℕ) → member m ms ≡ true → m < nodeCount c) → ((m : ℕ) → member m ms ≡ true → entriesOf c m ≤ k) → entries c ≤ entriesBut c ms + length ms * k
+pub entries-members : (c : State) (k : ℕ) (ms : List ℕ) → distinct ms ≡ true
+    → ((m : ℕ) → member m ms ≡ true → m < nodeCount c) → ((m : ℕ) → member m ms ≡ true → entriesOf c m ≤ k)
+    → entries c ≤ entriesBut c ms + length ms * k
 entries-members c k [] d b le = omega (arith, entries-none c)
 entries-members c k (m ∷ ms) d b le =
-    let ih : entries c ≤ entriesBut c ms + length ms * k = entries-members c k ms (distinct-tail m ms d) (λ i j. b i (member-tail i m ms j)) (λ i j. le i (member-tail i m ms j)) in
+    let ih : entries c ≤ entriesBut c ms + length ms * k =
+    entries-members c k ms (distinct-tail m ms d) (λ i j. b i (member-tail i m ms j))
+    (λ i j. le i (member-tail i m ms j)) in
     let e : entriesBut c ms ≡ entriesBut c (m ∷ ms) + entriesOf c m = entries-named c m ms (b m (member-head m ms)) (distinct-head m ms d) in
     let q : suc (length ms) * k ≡ length ms * k + k = omega arith in
     let l : entriesOf c m ≤ k = le m (member-head m ms) in
@@ -193,7 +200,8 @@ shrinkable-entries c m s = omega (arith, distinct-length (sideCount c) (boundary
 pub joinable-room : {c : State} {circle : List ℕ} → Joinable c circle → entries c + (sideCount c + vertexCount c) ≤ c .storeLimit
 joinable-room {c} {circle} j =
     let s : ℕ = sideCount c + vertexCount c in
-    let k : entries c ≤ entriesBut c circle + length circle * s = entries-members c s circle (j .once) (j .inside) (λ m h. shrinkable-entries c m (j .lists m h)) in
+    let k : entries c ≤ entriesBut c circle + length circle * s =
+    entries-members c s circle (j .once) (j .inside) (λ m h. shrinkable-entries c m (j .lists m h)) in
     let r : entriesBut c circle + (length circle + 1) * s ≤ c .storeLimit = j .room in
     let q : (length circle + 1) * s ≡ length circle * s + s = omega arith in
     omega (arith, k, r, q)
@@ -203,7 +211,8 @@ pub accepted-joinable : {b t : List ℤ} {x : ℕ} {circle : List ℕ} → Usabl
 accepted-joinable {b} {t} {x} {circle} u a = record {
   inside = a .inside;
   once = a .once;
-  lists = λ m h. sound-shrinkable (stateOf b) (laid-shape b (u .formed .laid)) (formed-vertices b (u .formed)) m (a .inside m h) (record { sounds = u .sounds; outer = a .outer m h });
+  lists = λ m h. sound-shrinkable (stateOf b) (laid-shape b (u .formed .laid)) (formed-vertices b (u .formed)) m
+      (a .inside m h) (record { sounds = u .sounds; outer = a .outer m h });
   count = a .count;
   room = store-room (stateOf b) circle (length circle + 1) (a .room);
 }

@@ -11,7 +11,7 @@ use lib.Dec.{leb, ltb, eqb}
 use lib.ListN.{length, getD, set, take}
 use lib.Seq.{length-take-le, take-suc, take-all}
 use borrow.Author.Tests.{lt-ltb, eq-eqb, ne-eqb, le-leb, lt-leb}
-use Rattle.graph.specs.Basic.{if_then_else_, fold}
+use Rattle.graph.specs.Basic.{fold}
 use Rattle.graph.specs.State.{State, NodeClass, defectVertex, vertexCount, sideCount, nodeCount, sidesAt, withVertices, withSides, withHolder, withGrandson, withDefect, withVertexHolder, withVertexGrandson, withNodes, withNode, heldSide, heldVertex}
 use Rattle.graph.specs.Sound.{entriesOf, entries, activeSound}
 use Rattle.graph.specs.Active.{joinActive}
@@ -19,19 +19,22 @@ use Rattle.graph.specs.laws.Shape.{sound-active}
 use Rattle.graph.specs.laws.Active.{active-kept}
 use Rattle.graph.specs.Word.{numbersAt}
 use Rattle.graph.specs.Layout.{stateOf, classFrom}
-use Rattle.graph.specs.Form.{Formed, Becomes}
+use Rattle.graph.specs.Form.{Formed}
+use Rattle.graph.specs.inner.Form.{Becomes}
 use Rattle.graph.specs.laws.Form.{laid-nodes}
-use Rattle.graph.specs.Insert.{Inserted}
-use Rattle.graph.specs.laws.State.{Kept, kept-refl, kept-trans, kept-held-side, fold-more, fold-done, fold-keeps, kept-sides}
+use Rattle.graph.specs.inner.Insert.{Inserted}
+use Rattle.graph.specs.laws.State.{kept-refl, kept-trans, kept-held-side, fold-more, fold-done, fold-keeps, kept-sides}
+use Rattle.graph.specs.inner.Kept.{SameButHolders}
 use Rattle.graph.specs.laws.Row.{becomes-none, becomes-then}
 use Rattle.graph.specs.laws.SidesAt.{around-of, rising-of}
-use Rattle.pass.specs.Scratch.{zeroScratch, wiped, Holding}
+use Rattle.pass.specs.Scratch.{zeroScratch}
+use Rattle.pass.specs.inner.Scratch.{ScratchHolds, wiped}
 use Rattle.pass.specs.laws.Scratch.{holding-zero, zero-holding, hold-first, first-numbers, wipe-first}
-use Rattle.length.specs.declared.Answer.the-variants.{Node, Refused}
-use Rattle.length.specs.Answer.{says}
+use Rattle.update_length.specs.declared.Answer.the-variants.{Node, Refused}
+use Rattle.update_length.specs.Answer.{says}
 use Rattle.calls.specs.Refuse.{storeShort, unless}
 use Rattle.calls.specs.Insert.{occupied, defectRefusal, holdStep, defectPut, insertDefect}
-use Rattle.calls.specs.Reply.{Usable, RepliesInsert}
+use Rattle.calls.specs.inner.Reply.{RepliesInsert, Usable}
 use Rattle.calls.specs.laws.Accepted.{DefectAccepted, defect-accepted, store-room, entries-none}
 
 -- ---- what refuses it
@@ -73,9 +76,9 @@ pub record HeldSides (b₀ b t : List ℤ) (n v i : ℕ) : Type 0 where
   pub inside : v < vertexCount (stateOf b₀)
   pub below : i ≤ length (sidesAt (stateOf b₀) v)
   pub room : length (sidesAt (stateOf b₀) v) ≤ sideCount (stateOf b₀)
-  pub kept : Kept (stateOf b₀) (stateOf b)
+  pub kept : SameButHolders (stateOf b₀) (stateOf b)
   pub block : Becomes b₀ b (fold (holdStep n) (stateOf b₀) (take i (sidesAt (stateOf b₀) v)))
-  pub holding : Holding t (sideCount (stateOf b₀)) (take i (sidesAt (stateOf b₀) v)) [] []
+  pub holding : ScratchHolds t (sideCount (stateOf b₀)) (take i (sidesAt (stateOf b₀) v)) [] []
 
 -- no vertex has more sides than there are
 pub sides-room : (b : List ℤ) (v : ℕ) → Formed b → v < vertexCount (stateOf b) → length (sidesAt (stateOf b) v) ≤ sideCount (stateOf b)
@@ -97,16 +100,18 @@ module _ {b₀ b t : List ℤ} {n v i : ℕ} (q : HeldSides b₀ b t n v i) wher
   pub held-same : sidesAt (stateOf b) v ≡ sidesAt (stateOf b₀) v
   held-same = kept-sides (q .kept) v
 
-  pub held-more : {b' : List ℤ} (s : ℕ) → i < length (sidesAt (stateOf b₀) v) → s ≡ getD (sidesAt (stateOf b₀) v) i 0 → Becomes b b' (heldSide (stateOf b) s n (n + 1)) → HeldSides b₀ b' (set t i (pos s)) n v (i + 1)
+  pub held-more : {b' : List ℤ} (s : ℕ) → i < length (sidesAt (stateOf b₀) v) → s ≡ getD (sidesAt (stateOf b₀) v) i 0
+      → Becomes b b' (heldSide (stateOf b) s n (n + 1)) → HeldSides b₀ b' (set t i (pos s)) n v (i + 1)
   unfolding holdStep
   held-more {b'} s h e x =
       let l : List ℕ = sidesAt (stateOf b₀) v in
       let m : ℕ = sideCount (stateOf b₀) in
       let k : length (take i l) ≡ i = length-take-le i l (q .below) in
       let r : length l ≤ m = q .room in
-      let z : heldSide (stateOf b) s n (n + 1) ≡ fold (holdStep n) (stateOf b₀) (take (i + 1) l) = rw (q .block .state, e) (sym (fold-more (holdStep n) (stateOf b₀) l i 0 h)) in
+      let z : heldSide (stateOf b) s n (n + 1) ≡ fold (holdStep n) (stateOf b₀) (take (i + 1) l) =
+      rw (q .block .state, e) (sym (fold-more (holdStep n) (stateOf b₀) l i 0 h)) in
       let y : take (i + 1) l ≡ take i l ++ (s ∷ []) = rw (add-one, e) (take-suc l i 0 h) in
-      let w : Holding (set t i (pos s)) m (take i l ++ (s ∷ [])) [] [] = rw k at (hold-first (q .holding) s (omega (arith, k, h, r))) in
+      let w : ScratchHolds (set t i (pos s)) m (take i l ++ (s ∷ [])) [] [] = rw k at (hold-first (q .holding) s (omega (arith, k, h, r))) in
       record {
         inside = q .inside;
         below = omega (arith, h);
@@ -123,7 +128,7 @@ module _ {b₀ b t : List ℤ} {n v i : ℕ} (q : HeldSides b₀ b t n v i) wher
   pub held-all-block : length (sidesAt (stateOf b₀) v) ≤ i → Becomes b₀ b (fold (holdStep n) (stateOf b₀) (sidesAt (stateOf b₀) v))
   held-all-block h = rw (← fold-done (holdStep n) (stateOf b₀) (sidesAt (stateOf b₀) v) i h) (q .block)
 
-  pub held-all-scratch : length (sidesAt (stateOf b₀) v) ≤ i → Holding t (sideCount (stateOf b₀)) (sidesAt (stateOf b₀) v) [] []
+  pub held-all-scratch : length (sidesAt (stateOf b₀) v) ≤ i → ScratchHolds t (sideCount (stateOf b₀)) (sidesAt (stateOf b₀) v) [] []
   held-all-scratch h = rw (take-all i (sidesAt (stateOf b₀) v) h) at (q .holding)
 
 -- ---- the vertex with its sides
@@ -145,7 +150,8 @@ module _ {b₀ b₁ b₂ : List ℤ} (v n : ℕ) (p : Becomes b₀ b₁ (withDef
       let z : fold (holdStep n) (stateOf b₂) (sidesAt (stateOf b₂) v) ≡ heldDefect (stateOf b₀) v n = rw (vertex-sides, vertex-state) in
       subst (Becomes b₀ b₃) z (becomes-then (becomes-then p q) r)
 
-  pub defect-scratch : {t : List ℤ} → Holding t (sideCount (stateOf b₂)) (sidesAt (stateOf b₂) v) [] [] → Holding t (sideCount (stateOf b₀)) (sidesAt (stateOf b₀) v) [] []
+  pub defect-scratch : {t : List ℤ} → ScratchHolds t (sideCount (stateOf b₂)) (sidesAt (stateOf b₂) v) [] []
+      → ScratchHolds t (sideCount (stateOf b₀)) (sidesAt (stateOf b₀) v) [] []
   defect-scratch h = rw (vertex-sides, q .sides, p .sides) at h
 
   pub defect-count : {l : ℕ} → l ≡ length (sidesAt (stateOf b₂) v) → l ≡ length (sidesAt (stateOf b₀) v)
@@ -168,7 +174,16 @@ same-refl c = record { graph = refl; boundary = refl; overgrown = refl; count = 
 
 same-hold : (n : ℕ) (c d : State) (t : ℕ) → SameLists c d → SameLists c (holdStep n d t)
 unfolding holdStep heldSide withGrandson withHolder withSides
-same-hold n c d t p = record { graph = p .graph; boundary = p .boundary; overgrown = p .overgrown; count = p .count; nodeLimit = p .nodeLimit; storeLimit = p .storeLimit; active = p .active }
+same-hold n c d t p =
+    record {
+      graph = p .graph;
+      boundary = p .boundary;
+      overgrown = p .overgrown;
+      count = p .count;
+      nodeLimit = p .nodeLimit;
+      storeLimit = p .storeLimit;
+      active = p .active;
+    }
 
 same-vertex : (n : ℕ) (c : State) (v : ℕ) → SameLists c (heldVertex (withDefect c v 1) v n (n + 1))
 unfolding heldVertex withVertexGrandson withVertexHolder withDefect withVertices
@@ -218,7 +233,9 @@ class-defect m v h = rw (lt-ltb v m h)
 module _ {b t : List ℤ} (u : Usable b t) (v x k : ℕ) (e : k ≡ defectRefusal (stateOf b) v x) where
   pub defect-refused : k ≢ 0 → RepliesInsert b b (Refused k) (insertDefect (stateOf b) v x)
   unfolding insertDefect unless says
-  defect-refused h = rw (← e, ne-eqb k 0 h) (record { answer = refl; formed = u .formed; state = refl; vertices = refl; edges = refl; sides = refl; len = refl })
+  defect-refused h =
+      rw (← e, ne-eqb k 0 h)
+      (record { answer = refl; formed = u .formed; state = refl; vertices = refl; edges = refl; sides = refl; len = refl })
 
   module _ (h : k ≡ 0) where
     taken : DefectAccepted (stateOf b) v x
@@ -236,7 +253,9 @@ module _ {b t : List ℤ} (u : Usable b t) (v x k : ℕ) (e : k ≡ defectRefusa
     pub defect-state-small : x < 9223372036854775808
     defect-state-small = omega (arith, taken .growState)
 
-    module _ (n l : ℕ) {b₃ t₃ : List ℤ} (en : n ≡ nodeCount (stateOf b)) (p : Becomes b b₃ (heldDefect (stateOf b) v n)) (g : Holding t₃ (sideCount (stateOf b)) (sidesAt (stateOf b) v) [] []) (el : l ≡ length (sidesAt (stateOf b) v)) where
+    module _ (n l : ℕ) {b₃ t₃ : List ℤ} (en : n ≡ nodeCount (stateOf b)) (p : Becomes b b₃ (heldDefect (stateOf b) v n))
+        (g : ScratchHolds t₃ (sideCount (stateOf b)) (sidesAt (stateOf b) v) [] [])
+        (el : l ≡ length (sidesAt (stateOf b) v)) where
       still : SameLists (stateOf b) (stateOf b₃)
       still = rw (p .state) (same-defect n (stateOf b) v)
 
@@ -257,9 +276,12 @@ module _ {b t : List ℤ} (u : Usable b t) (v x k : ℕ) (e : k ≡ defectRefusa
           → Becomes b₄ b₅ (joinActive (stateOf b₄) n) → RepliesInsert b b₅ (Node n) (insertDefect (stateOf b) v x)
       unfolding insertDefect unless defectPut
       defect-done {b₄} {b₅} r a =
-          let y : classFrom (vertexCount (stateOf b₃)) v ≡ defectVertex v = class-defect (vertexCount (stateOf b₃)) v (omega (arith, p .vertices, taken .inside)) in
+          let y : classFrom (vertexCount (stateOf b₃)) v ≡ defectVertex v =
+          class-defect (vertexCount (stateOf b₃)) v (omega (arith, p .vertices, taken .inside)) in
           let w : numbersAt t₃ 0 l ≡ sidesAt (stateOf b) v = rw el (first-numbers g) in
-          let z : withNode (stateOf b₃) (classFrom (vertexCount (stateOf b₃)) v) x (numbersAt t₃ 0 l) ≡ withNode (heldDefect (stateOf b) v (nodeCount (stateOf b))) (defectVertex v) x (sidesAt (stateOf b) v) = rw (y, w, p .state, en) in
+          let z : withNode (stateOf b₃) (classFrom (vertexCount (stateOf b₃)) v) x (numbersAt t₃ 0 l)
+          ≡ withNode (heldDefect (stateOf b) v (nodeCount (stateOf b))) (defectVertex v) x (sidesAt (stateOf b) v) =
+          rw (y, w, p .state, en) in
           rw (← e, eq-eqb k 0 h) (inserted-joined p r a en z)
 
       pub defect-wiped : {t₅ : List ℤ} → t₅ ≡ wiped t₃ 0 l → t₅ ≡ t

@@ -5,8 +5,8 @@ use mathlib.Core.List.{List}
 use lib.IntN.{ℤ}
 use Rattle.graph.specs.Basic.{all}
 use Rattle.graph.specs.laws.State.{if-both, fold-keeps}
-use Rattle.length.specs.declared.Answer.{Answer}
-use Rattle.length.specs.declared.Answer.the-variants.{NonZeroGrow, Unlimited, Conflicting, TouchingVirtual, BlossomNeedExpand, VertexShrinkStop, VertexShrinkStopPeer, Done, Node, Prepared, Refused, Vertex}
+use Rattle.update_length.specs.declared.Answer.{Answer}
+use Rattle.update_length.specs.declared.Answer.the-variants.{NonZeroGrow, Unlimited, Conflicting, TouchingVirtual, BlossomNeedExpand, VertexShrinkStop, VertexShrinkStopPeer, Done, Node, Prepared, Refused, Vertex}
 use Rattle.calls.specs.Round.{Group, groupFree, groupUnlimited, groupConflicts, groupRefused, isFree, joinLength, joinUnlimited, joinFree, groupOf, isRefused}
 
 joined-length : (g : Group) (k : ℤ) (f : Bool) → isRefused g ≡ false → isRefused (joinLength g k f) ≡ false

@@ -6,7 +6,7 @@ use mathlib.Core.Bool.{Bool, true, false, _&&_, not}
 use mathlib.Core.List.{List, [], _∷_}
 use lib.Dec.{eqb, leb, ltb}
 use lib.ListN.{length, length-append}
-use Rattle.graph.specs.Basic.{if_then_else_, fold, all, only}
+use Rattle.graph.specs.Basic.{if_then_else_, all, only}
 use Rattle.graph.specs.State.{State, nodeCount, withActive, up, down}
 use Rattle.graph.specs.Sound.{sound, activeSound}
 use Rattle.graph.specs.Active.{isActive, renewed}
@@ -15,18 +15,20 @@ use Rattle.graph.specs.laws.Members.{by-test, length-only, distinct-length}
 use Rattle.graph.specs.laws.Shape.{sound-count, sound-active}
 use Rattle.graph.specs.laws.Active.{active-inside, active-once}
 use Rattle.pass.specs.laws.Prepare.{prepare-passed}
-use Rattle.length.specs.declared.Answer.{Answer}
-use Rattle.length.specs.Answer.{Reply, says}
+use Rattle.update_length.specs.declared.Answer.{Answer}
+use Rattle.update_length.specs.Answer.{Reply, says}
 use Rattle.calls.specs.Refuse.{nodeRefusal, storeShort}
 use Rattle.calls.specs.Calls.{prepareDualNodeGrowth}
-use Rattle.calls.specs.Round.{refusalOf, preparing, preparedAll, GroupReply, groupUnlimited, answersOf, isFree, stopOf, isConflict, putStop, stopsOf, conflictsOf, groupOf, listedBy, groupRefusal, groupLength}
+use Rattle.calls.specs.Round.{refusalOf, preparing, preparedAll, answersOf, isFree, stopOf, isConflict, putStop, stopsOf, conflictsOf, listedBy}
 use Rattle.calls.specs.laws.Accepted.{unless-cases}
 use Rattle.calls.specs.laws.Trial.{turn-keeps}
 
 put-length : (a : Answer) (xs : List Answer) → length (putStop a xs) ≡ suc (length xs)
 unfolding putStop
 put-length a [] = refl
-put-length a (b ∷ bs) = let ih : length (putStop a bs) ≡ suc (length bs) = put-length a bs in if-both (λ (l : List Answer). length l ≡ suc (suc (length bs))) (leb (stopOf a) (stopOf b)) refl (ap suc ih)
+put-length a (b ∷ bs) =
+    let ih : length (putStop a bs) ≡ suc (length bs) = put-length a bs in
+    if-both (λ (l : List Answer). length l ≡ suc (suc (length bs))) (leb (stopOf a) (stopOf b)) refl (ap suc ih)
 
 -- an answer is a conflict, a stop or neither
 pub both-lists : (xs : List Answer) → length (conflictsOf xs) + length (stopsOf xs) ≤ length xs
@@ -36,19 +38,23 @@ both-lists (a ∷ xs) =
     let ih : length (only isConflict xs) + length (stopsOf xs) ≤ length xs = unfold conflictsOf isConflict in (both-lists xs) in
     by-test (eqb (stopOf a) 0)
     (λ e. rw e (conflict-or (not (isFree a) && true && eqb (refusalOf a) 0) ih))
-    (λ e. let p : length (putStop a (stopsOf xs)) ≡ suc (length (stopsOf xs)) = put-length a (stopsOf xs) in rw (e, and-no (not (isFree a)) (eqb (refusalOf a) 0)) (omega arith))
+    (λ e. let p : length (putStop a (stopsOf xs)) ≡ suc (length (stopsOf xs)) = put-length a (stopsOf xs) in
+    rw (e, and-no (not (isFree a)) (eqb (refusalOf a) 0)) (omega arith))
   where
     and-no : (t u : Bool) → (t && false && u) ≡ false
     and-no true u = refl
     and-no false u = refl
 
-    conflict-or : (t : Bool) → length (only isConflict xs) + length (stopsOf xs) ≤ length xs → length (if t then a ∷ only isConflict xs else only isConflict xs) + length (stopsOf xs) ≤ suc (length xs)
+    conflict-or : (t : Bool) → length (only isConflict xs) + length (stopsOf xs) ≤ length xs
+        → length (if t then a ∷ only isConflict xs else only isConflict xs) + length (stopsOf xs) ≤ suc (length xs)
     conflict-or true h = omega arith
     conflict-or false h = omega arith
 
 listed-length : (xs : List Answer) → length (listedBy xs) ≤ length xs
 unfolding listedBy
-listed-length xs = if-both (λ (l : List Answer). length l ≤ length xs) (all isFree xs) (omega arith) (let k = both-lists xs in rw (length-append (conflictsOf xs) (stopsOf xs)) k)
+listed-length xs =
+    if-both (λ (l : List Answer). length l ≤ length xs) (all isFree xs) (omega arith)
+    (let k = both-lists xs in rw (length-append (conflictsOf xs) (stopsOf xs)) k)
 
 pub answers-length : (c : State) (ns : List ℕ) → length (answersOf c ns) ≡ length ns
 unfolding answersOf
@@ -60,8 +66,11 @@ pub prepared-active : (c : State) → preparedAll c .state .active ≡ renewed c
 unfolding preparedAll preparing prepareDualNodeGrowth says
 prepared-active c =
     turn-keeps (λ (d : State). d .active ≡ renewed c .active) (preparing down) (preparing up)
-    (λ d n h. unless-cases (λ (r : Reply). r .state .active ≡ renewed c .active) (nodeRefusal d n (ltb up down) (storeShort d (n ∷ []) 1)) d _ (λ e. h) (λ e. prepare-passed d n down .active ∙ h))
-    (λ d n h. unless-cases (λ (r : Reply). r .state .active ≡ renewed c .active) (nodeRefusal d n (ltb up up) (storeShort d (n ∷ []) 1)) d _ (λ e. h) (λ e. prepare-passed d n up .active ∙ h)) c refl
+    (λ d n h. unless-cases (λ (r : Reply). r .state .active ≡ renewed c .active)
+    (nodeRefusal d n (ltb up down) (storeShort d (n ∷ []) 1)) d _ (λ e. h) (λ e. prepare-passed d n down .active ∙ h))
+    (λ d n h. unless-cases (λ (r : Reply). r .state .active ≡ renewed c .active)
+    (nodeRefusal d n (ltb up up) (storeShort d (n ∷ []) 1)) d _ (λ e. h) (λ e. prepare-passed d n up .active ∙ h))
+    c refl
 
 renewed-length : (c : State) → sound c ≡ true → length (renewed c .active) ≤ c .nodeLimit
 unfolding renewed withActive
@@ -69,19 +78,3 @@ renewed-length c h =
     let a : activeSound c ≡ true = sound-active c h in
     let k : length (c .active) ≤ nodeCount c = distinct-length (nodeCount c) (c .active) (active-once c a) (active-inside c a) in
     omega (arith, length-only (isActive c) (c .active), sound-count c h)
-
--- so N entries are enough
-pub listed-fits : (c : State) → sound c ≡ true → length (groupLength c .listed) ≤ c .nodeLimit
-unfolding groupLength
-listed-fits c h =
-    let t : State = preparedAll c .state in
-    let k : length (listedBy (answersOf t (t .active))) ≤ length (answersOf t (t .active)) = listed-length (answersOf t (t .active)) in
-    let a : length (answersOf t (t .active)) ≡ length (t .active) = answers-length t (t .active) in
-    let b : length (t .active) ≡ length (renewed c .active) = ap (λ (l : List ℕ). length l) (prepared-active c) in
-    let r : length (renewed c .active) ≤ c .nodeLimit = renewed-length c h in
-    if-both (λ (x : GroupReply). length (x .listed) ≤ c .nodeLimit) (eqb (groupRefusal (preparedAll c)) 0) (omega arith) (omega arith)
-
--- without an active node the group is unlimited and not empty
-pub no-active : groupOf [] ≡ groupUnlimited false
-unfolding groupOf all fold
-no-active = refl

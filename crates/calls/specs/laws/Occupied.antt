@@ -4,13 +4,13 @@ use native.Mathlib.Numerals.{add-one}
 use native.Mathlib.Omega.{arith}
 use mathlib.Core.Path.{_≡_, refl, sym, ap, _∙_}
 use mathlib.Core.Logic.{_≢_}
-use mathlib.Core.Bool.{Bool, true, false, not, _||_}
+use mathlib.Core.Bool.{true, false, _||_}
 use mathlib.Core.List.{List, [], _∷_}
-use lib.Dec.{leb, ltb, eqb}
+use lib.Dec.{leb, ltb}
 use lib.ListN.{length, getD, drop, drop-of-length-le}
 use lib.Seq.{drop-cons}
 use Rattle.graph.specs.Basic.{if_then_else_, any}
-use Rattle.graph.specs.State.{State, vertexCount, nodeCount, holderAt, sidesAt, virtualAt, defectAt, vertexHolderAt, shrinking}
+use Rattle.graph.specs.State.{State, vertexCount, nodeCount, sidesAt, shrinking}
 use Rattle.graph.specs.laws.State.{passed, if-both}
 use Rattle.graph.specs.laws.Members.{by-test, clash, or-neither-left, or-neither-right}
 use Rattle.calls.specs.Refuse.{storeShort}

@@ -12,47 +12,39 @@ use lib.ListN.{length, getD, set}
 use lib.Seq.{getD-set-same, getD-set-other, set-out}
 use borrow.Author.Tests.{ltb-true}
 use Rattle.graph.specs.Basic.{all, member}
-use Rattle.graph.specs.State.{State, Overgrown, vertexCount, edgeCount, sideCount, nodeCount, sidesAt, growthAt, parentOf, dualOf, boundaryOf, overgrownOf, withActive, up, down}
+use Rattle.graph.specs.State.{State, Overgrown, vertexCount, edgeCount, sideCount, nodeCount, growthAt, parentOf, dualOf, boundaryOf, overgrownOf, withActive, up, down}
 use Rattle.graph.specs.Node.{moved}
 use Rattle.graph.specs.Open.{dualLimit}
 use Rattle.graph.specs.Sound.{sound}
-use Rattle.graph.specs.Form.{sidesOk}
-use Rattle.graph.specs.Readable.{Readable}
+use Rattle.graph.specs.inner.Form.{sidesOk}
 use Rattle.graph.specs.Active.{renewed}
-use Rattle.graph.specs.laws.State.{Kept}
+use Rattle.graph.specs.inner.Kept.{SameButHolders}
 use Rattle.graph.specs.laws.Members.{by-test, all-map, all-unmap, all-member}
-use Rattle.graph.specs.laws.Shape.{Shape, sound-end, sound-sides, sound-active}
+use Rattle.graph.specs.laws.Shape.{sound-end, sound-sides, sound-active}
+use Rattle.graph.specs.Shape.{Shape}
 use Rattle.graph.specs.laws.Active.{with-active-sound, renewed-sound}
 use Rattle.pass.specs.Work.{Work, finishPass}
 use Rattle.pass.specs.Shrink.{belowTops, shrinkPass}
 use Rattle.pass.specs.Prepare.{prepareNode}
-use Rattle.pass.specs.Ready.{Shrinkable}
-use Rattle.pass.specs.laws.Counts.{EndsIn}
+use Rattle.pass.specs.inner.Ready.{Shrinkable}
 use Rattle.pass.specs.laws.Fits.{Listed, shrink-pass-listed, below-tops-le, shrink-over}
 use Rattle.pass.specs.laws.GrowSound.{finish-boundary, finish-overgrown}
 use Rattle.pass.specs.laws.Passes.{Passed, passed-refl, passed-trans, shrink-passed, shrink-pass-keeps}
 use Rattle.pass.specs.laws.Prepare.{passState, one-down, ends-passed, prepare-passed, prepare-leaves}
 use Rattle.pass.specs.laws.Ready.{sound-shrinkable, tops-inside}
-use Rattle.length.specs.Answer.{Reply, says}
+use Rattle.update_length.specs.Answer.{Reply, says}
 use Rattle.growth.specs.Growth.{growCheck, movedStack, growApply}
 use Rattle.growth.specs.laws.Growth.{apply-in, apply-out}
 use Rattle.calls.specs.Refuse.{nodeRefusal, storeShort}
 use Rattle.calls.specs.Calls.{prepareDualNodeGrowth, growPrepared, growToward}
-use Rattle.calls.specs.Round.{tryAll, preparing, moving}
+use Rattle.calls.specs.Round.{tryAll, preparing}
 use Rattle.calls.specs.laws.Accepted.{unless-cases, NodeAccepted, node-accepted}
 use Rattle.pass.specs.laws.Holders.{Holders, shrink-pass-holders}
 use Rattle.calls.specs.laws.Readable.{sound-readable}
 use Rattle.calls.specs.laws.Shapes.{shape-prepared, shape-apply, shape-toward, shape-renewed}
 use Rattle.calls.specs.laws.Sounds.{Applied, apply-applied, moved-vertices, moved-count, prepare-up-sound, grow-up-sound}
 use Rattle.calls.specs.laws.Trial.{begun, try-keeps}
-
--- the state while Shrink nodes are moved
-pub record Phase (c : State) : Type 0 where
-  pub shape : Shape c
-  pub ends : EndsIn c
-  pub sides : (v : ℕ) → all (λ t. ltb t (2 * edgeCount c)) (sidesAt c v) ≡ true
-  pub readable : Readable c
-  pub able : (n : ℕ) → n < nodeCount c → parentOf c n ≡ 0 → Shrinkable c n
+use Rattle.calls.specs.inner.Phase.{Phase}
 
 pub sound-phase : (c : State) → Shape c → 1 ≤ vertexCount c → sound c ≡ true → Phase c
 sound-phase c z v h = record {
@@ -76,11 +68,12 @@ unfolding sidesOk
 inner-pass n c₀ p b c i =
     let w : Work = shrinkPass c n in
     let q : Passed n c₀ c = i .passed in
-    let k : Kept c (w .state) = shrink-pass-keeps c n in
+    let k : SameButHolders c (w .state) = shrink-pass-keeps c n in
     let pair : sideCount c ≡ 2 * edgeCount c₀ = rw (q .graph) (p .shape .end) in
     let l : Listed (edgeCount c₀) c w = shrink-pass-listed (edgeCount c₀) n c (λ v. rw (q .graph) (p .sides v)) (rw pair at (i .able .sides)) in
     let x : boundaryOf (finishPass w n) n ≡ w .kept = finish-boundary w n (rw (k .nodes, q .boundary, p .shape .boundary) b) in
-    let y : overgrownOf (finishPass w n) n ≡ belowTops (overgrownOf c n) = finish-overgrown w n (rw (k .nodes, q .overgrown, p .shape .overgrown) b) ∙ shrink-over c n in
+    let y : overgrownOf (finishPass w n) n ≡ belowTops (overgrownOf c n) =
+    finish-overgrown w n (rw (k .nodes, q .overgrown, p .shape .overgrown) b) ∙ shrink-over c n in
     let s : Passed n c (finishPass w n) = shrink-passed c n in
     record {
       passed = passed-trans q s;
@@ -106,13 +99,21 @@ pub phase-prepared : (c : State) → Phase c → (n : ℕ) → n < nodeCount c �
 phase-prepared c p n b o =
     let d : State = prepareNode c n down .state in
     let step : (e : State) → Inner n c e → Inner n c (passState e n down) = λ e i. rw (one-down e n down refl) (inner-pass n c p b e i) in
-    let i : Inner n c d = prepare-leaves n down (Inner n c) (Inner n c) (λ e j q. step e j) (λ e j q. step e j) c (p .ends) (p .shape .vertexHolder) (record { passed = passed-refl n c; holders = p .readable .holders; able = p .able n b o }) in
+    let i : Inner n c d =
+    prepare-leaves n down (Inner n c) (Inner n c) (λ e j q. step e j) (λ e j q. step e j) c (p .ends)
+    (p .shape .vertexHolder)
+    (record { passed = passed-refl n c; holders = p .readable .holders; able = p .able n b o }) in
     let q : Passed n c d = i .passed in
     record {
       shape = shape-prepared c n down (p .shape);
       ends = ends-passed n c d q (p .ends);
       sides = λ v. rw (q .graph) (p .sides v);
-      readable = record { holders = λ s. rw (q .growState) (i .holders s); growths = λ s. rw (q .growth) (p .readable .growths s); duals = λ m. rw (q .dual) (p .readable .duals m) };
+      readable =
+          record {
+            holders = λ s. rw (q .growState) (i .holders s);
+            growths = λ s. rw (q .growth) (p .readable .growths s);
+            duals = λ m. rw (q .dual) (p .readable .duals m);
+          };
       able = λ m h u. by-cases (decEq m n) (λ e. rw e (i .able)) (λ e. shrinkable-other n c d q m e (p .able m (rw (q .growState) at h) (rw (q .parent) at u)));
     }
 
@@ -144,17 +145,23 @@ phase-moved c p n l b o =
             by-test (member t (boundaryOf c n))
             (λ i.
             let h : t < sideCount c = ltb-true _ _ (all-member (λ x. ltb x (sideCount c)) (boundaryOf c n) t (s .sides) i) in
-            let e : growthAt (growApply c n down l) t ≡ growthAt c t - l = apply-in c n down l t (s .once) (rw (p .shape .growth) h) i ∙ down-by l (growthAt c t) in
+            let e : growthAt (growApply c n down l) t ≡ growthAt c t - l =
+            apply-in c n down l t (s .once) (rw (p .shape .growth) h) i ∙ down-by l (growthAt c t) in
             let g = p .readable .growths t in
             omega arith)
             (λ i. rw (apply-out c n down l t i) (p .readable .growths t));
-        duals = λ m. rw (q .dual) (set-le (c .nodes .dual) n (moved down l (dualOf c n)) dualLimit m (let g = p .readable .duals n in let e = down-by l (dualOf c n) in omega arith) (p .readable .duals m));
+        duals = λ m. rw (q .dual)
+            (set-le (c .nodes .dual) n (moved down l (dualOf c n)) dualLimit m
+            (let g = p .readable .duals n in let e = down-by l (dualOf c n) in omega arith) (p .readable .duals m));
       };
       able = λ m h u.
           let r : Shrinkable c m = p .able m (rw (q .growState) at h) (rw (q .parent) at u) in
           by-cases (decEq m n)
           (λ e.
-          let st : overgrownOf (growApply c n down l) n ≡ movedStack down l (overgrownOf c n) = ap (λ (k : List (List Overgrown)). getD k n []) (q .overgrown) ∙ getD-set-same (c .nodes .overgrown) n (movedStack down l (overgrownOf c n)) [] (rw (p .shape .overgrown) b) in
+          let st : overgrownOf (growApply c n down l) n ≡ movedStack down l (overgrownOf c n) =
+          ap (λ (k : List (List Overgrown)). getD k n []) (q .overgrown)
+          ∙ getD-set-same (c .nodes .overgrown) n (movedStack down l (overgrownOf c n)) []
+          (rw (p .shape .overgrown) b) in
           rw e (record {
             sides = rw (q .graph, q .boundary) (s .sides);
             once = rw (q .boundary) (s .once);
@@ -162,11 +169,19 @@ phase-moved c p n l b o =
             size = rw (st, q .graph, moved-count down l (overgrownOf c n)) (s .size);
           }))
           (λ e.
-          let st : overgrownOf (growApply c n down l) m ≡ overgrownOf c m = ap (λ (k : List (List Overgrown)). getD k m []) (q .overgrown) ∙ getD-set-other (c .nodes .overgrown) n m (movedStack down l (overgrownOf c n)) [] e in
-          record { sides = rw (q .graph, q .boundary) (r .sides); once = rw (q .boundary) (r .once); stack = rw (st, q .graph) (r .stack); size = rw (st, q .graph) (r .size) });
+          let st : overgrownOf (growApply c n down l) m ≡ overgrownOf c m =
+          ap (λ (k : List (List Overgrown)). getD k m []) (q .overgrown)
+          ∙ getD-set-other (c .nodes .overgrown) n m (movedStack down l (overgrownOf c n)) [] e in
+          record {
+            sides = rw (q .graph, q .boundary) (r .sides);
+            once = rw (q .boundary) (r .once);
+            stack = rw (st, q .graph) (r .stack);
+            size = rw (st, q .graph) (r .size);
+          });
     }
   where
-    moved-inside : (v l : ℕ) (st : List Overgrown) → all (λ (x : Overgrown). ltb (x .vertex) v) st ≡ true → all (λ (x : Overgrown). ltb (x .vertex) v) (movedStack down l st) ≡ true
+    moved-inside : (v l : ℕ) (st : List Overgrown) → all (λ (x : Overgrown). ltb (x .vertex) v) st ≡ true
+        → all (λ (x : Overgrown). ltb (x .vertex) v) (movedStack down l st) ≡ true
     moved-inside v l st h =
         let k : all (λ u. ltb u v) (map (λ (x : Overgrown). x .vertex) st) ≡ true = all-map (λ u. ltb u v) (λ (x : Overgrown). x .vertex) st h in
         all-unmap (λ u. ltb u v) (λ (x : Overgrown). x .vertex) (movedStack down l st) (rw (moved-vertices down l st) k)
@@ -177,7 +192,9 @@ pub phase-prepare : (c : State) (n : ℕ) → Phase c → Phase (prepareDualNode
 unfolding prepareDualNodeGrowth says
 phase-prepare c n p =
     unless-cases (λ (r : Reply). Phase (r .state)) (nodeRefusal c n (ltb up down) (storeShort c (n ∷ []) 1)) c _ (λ e. p)
-    (λ e. let a : NodeAccepted c n (ltb up down) (storeShort c (n ∷ []) 1) = node-accepted c n (ltb up down) (storeShort c (n ∷ []) 1) e in phase-prepared c p n (a .inside) (a .outer))
+    (λ e. let a : NodeAccepted c n (ltb up down) (storeShort c (n ∷ []) 1) = node-accepted c n (ltb up down)
+    (storeShort c (n ∷ []) 1) e in
+    phase-prepared c p n (a .inside) (a .outer))
 
 pub phase-toward : (c : State) (n l : ℕ) → Phase c → Phase (growToward c n down l .state)
 unfolding growToward growPrepared says
@@ -194,15 +211,13 @@ phase-toward c n l p =
 -- ---- the shrinking part of a trial from any sound state, after any number of nodes
 
 pub renewed-phase : (c : State) → Shape c → 1 ≤ vertexCount c → sound c ≡ true → Phase (renewed c)
-renewed-phase c z v h = sound-phase (renewed c) (shape-renewed c z) (unfold renewed withActive in v) (unfold renewed in (with-active-sound c _ h (unfold renewed in (renewed-sound c (sound-active c h)))))
+renewed-phase c z v h =
+    sound-phase (renewed c) (shape-renewed c z) (unfold renewed withActive in v)
+    (unfold renewed in (with-active-sound c _ h (unfold renewed in (renewed-sound c (sound-active c h)))))
 
 pub shrinking-prepares : (c : State) → Phase c → (ms : List ℕ) → Phase (tryAll (preparing down) (begun c) ms .state)
 unfolding preparing
 shrinking-prepares c p ms = try-keeps Phase (preparing down) (λ d n q. phase-prepare d n q) (begun c) ms p
-
-pub shrinking-moves : (c : State) → Phase c → (l : ℕ) (ms : List ℕ) → Phase (tryAll (moving down l) (begun c) ms .state)
-unfolding moving
-shrinking-moves c p l ms = try-keeps Phase (moving down l) (λ d n q. phase-toward d n l q) (begun c) ms p
 
 -- ---- the growing part, from a state that is sound again
 
@@ -227,15 +242,18 @@ toward-graph : (c : State) (n d l : ℕ) → growToward c n d l .state .graph �
 unfolding growToward growPrepared says
 toward-graph c n d l =
     unless-cases (λ (r : Reply). r .state .graph ≡ c .graph) (nodeRefusal c n false (storeShort c (n ∷ []) 1)) c _ (λ e. refl)
-    (λ e. unless-cases (λ (r : Reply). r .state .graph ≡ c .graph) (growCheck (prepareNode c n d .state) n d l) (prepareNode c n d .state) _ (λ k. prepare-passed c n d .graph) (λ k. apply-applied (prepareNode c n d .state) n d l .graph ∙ prepare-passed c n d .graph))
+    (λ e. unless-cases (λ (r : Reply). r .state .graph ≡ c .graph) (growCheck (prepareNode c n d .state) n d l)
+    (prepareNode c n d .state) _ (λ k. prepare-passed c n d .graph)
+    (λ k. apply-applied (prepareNode c n d .state) n d l .graph ∙ prepare-passed c n d .graph))
 
 pub still-toward : (c : State) (n l : ℕ) → StillSound c → StillSound (growToward c n up l .state)
-still-toward c n l p = record { shape = shape-toward c n up l (p .shape); one = rw (toward-graph c n up l) (p .one); sounds = grow-up-sound c (p .shape) (p .sounds) (p .one) n l }
+still-toward c n l p =
+    record {
+      shape = shape-toward c n up l (p .shape);
+      one = rw (toward-graph c n up l) (p .one);
+      sounds = grow-up-sound c (p .shape) (p .sounds) (p .one) n l;
+    }
 
 pub growing-prepares : (c : State) → StillSound c → (ns : List ℕ) → StillSound (tryAll (preparing up) (begun c) ns .state)
 unfolding preparing
 growing-prepares c p ns = try-keeps StillSound (preparing up) (λ d n q. still-prepare d n q) (begun c) ns p
-
-pub growing-moves : (c : State) → StillSound c → (l : ℕ) (ns : List ℕ) → StillSound (tryAll (moving up l) (begun c) ns .state)
-unfolding moving
-growing-moves c p l ns = try-keeps StillSound (moving up l) (λ d n q. still-toward d n l q) (begun c) ns p

@@ -1,29 +1,29 @@
 -- A sound state can be read for the length answer, and so can the state that a preparation of it leaves, in either direction.
-use Prim.Native.Nat.{ℕ, _+_, _*_, _≤_, _<_}
+use Prim.Native.Nat.{ℕ, _*_, _≤_, _<_}
 use native.Mathlib.Omega.{arith}
 use native.Mathlib.Decide.{ℕ-discrete as decEq, decLt}
 use mathlib.Core.Path.{_≡_, sym}
 use mathlib.Core.Logic.{_≢_}
-use mathlib.Core.Bool.{true, false, _&&_}
+use mathlib.Core.Bool.{true, false}
 use mathlib.Core.List.{List, [], _∷_}
 use lib.IntN.{ℤ}
-use lib.Dec.{eqb, ltb}
+use lib.Dec.{ltb}
 use lib.ListN.{length, getD, List·getD-eq-default}
-use lib.Seq.{getD-set-same, getD-set-other, set-out}
 use borrow.Author.Tests.{ne-eqb}
-use Rattle.graph.specs.Basic.{all, member, distinct}
-use Rattle.graph.specs.State.{State, up, opposite, edgeCount, sideCount, nodeCount, endAt, growthAt, holderAt, sidesAt, defectAt, vertexHolderAt, parentOf, boundaryOf, overgrownOf, withSides, withHolder, withGrandson, withVertices, withVertexHolder, withVertexGrandson, freeSide, freeVertex, withNodes, withBoundary, withOvergrown}
+use Rattle.graph.specs.Basic.{all, distinct}
+use Rattle.graph.specs.State.{State, up, edgeCount, sideCount, nodeCount, sidesAt, parentOf, boundaryOf}
 use Rattle.graph.specs.Open.{dualLimit, growthLimit}
 use Rattle.graph.specs.Sound.{sound}
 use Rattle.graph.specs.Layout.{stateOf}
-use Rattle.graph.specs.Form.{Formed, sidesOk}
-use Rattle.graph.specs.laws.State.{if-both, fold-keeps}
-use Rattle.graph.specs.laws.Shape.{Shape, node-facts, sound-node, own-facts}
+use Rattle.graph.specs.Form.{Formed}
+use Rattle.graph.specs.inner.Form.{sidesOk}
+use Rattle.graph.specs.laws.Shape.{node-facts, sound-node, own-facts}
+use Rattle.graph.specs.Shape.{Shape}
 use Rattle.graph.specs.laws.Sounds.{Sound, sound-facts}
-use Rattle.pass.specs.Work.{Work, onState, keep, keepOnce, note, callAnother, startPass, finishPass}
-use Rattle.pass.specs.Shrink.{emptyTops, belowTops, dropSide, dropStep, shrinkStep, closed, releaseSide, releaseStep, dropped, shrinkScanned, shrinkPass}
+use Rattle.pass.specs.Work.{Work, finishPass}
+use Rattle.pass.specs.Shrink.{shrinkPass}
 use Rattle.pass.specs.Prepare.{prepareNode}
-use Rattle.pass.specs.Ready.{Growable, Preparable}
+use Rattle.pass.specs.inner.Ready.{Growable, Preparable}
 use Rattle.pass.specs.laws.Holders.{Holders, shrink-pass-holders}
 use Rattle.pass.specs.laws.Passes.{Passed, passed-refl, passed-trans, shrink-passed}
 use Rattle.pass.specs.laws.Fits.{Listed, shrink-pass-listed}
@@ -32,7 +32,7 @@ use Rattle.graph.specs.laws.Form.{laid-shape, formed-sides, formed-vertices}
 use Rattle.pass.specs.laws.Prepare.{passState, one-down, prepare-leaves, prepare-passed}
 use Rattle.pass.specs.laws.Preparing.{formed-ends}
 use Rattle.calls.specs.Refuse.{storeShort}
-use Rattle.graph.specs.Readable.{Readable}
+use Rattle.graph.specs.inner.Readable.{Readable}
 use Rattle.calls.specs.laws.Sounds.{prepare-up-sound}
 use Rattle.calls.specs.laws.Shapes.{shape-prepared}
 
@@ -83,7 +83,8 @@ module _ (n : ℕ) (c₀ : State) (z : Shape c₀) (node : n < nodeCount c₀) (
 
 -- ---- what preparation leaves
 
-module _ (b : List ℤ) (f : Formed b) (n d : ℕ) (node : n < nodeCount (stateOf b)) (r : Readable (stateOf b)) (g : Preparable (stateOf b) n d) (room : storeShort (stateOf b) (n ∷ []) 1 ≡ false) where
+module _ (b : List ℤ) (f : Formed b) (n d : ℕ) (node : n < nodeCount (stateOf b)) (r : Readable (stateOf b))
+    (g : Preparable (stateOf b) n d) (room : storeShort (stateOf b) (n ∷ []) 1 ≡ false) where
   z : Shape (stateOf b)
   z = laid-shape b (f .laid)
 

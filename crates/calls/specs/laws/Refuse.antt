@@ -3,15 +3,12 @@ use Prim.Native.Nat.{ℕ, _+_, _-_, _*_, _≤_, _<_}
 use native.Mathlib.Omega.{arith}
 use mathlib.Core.Path.{_≡_, refl, sym, _∙_}
 use mathlib.Core.Bool.{Bool, true, false, _||_}
-use mathlib.Core.List.{List, [], _∷_}
-use lib.IntN.{ℤ}
+use mathlib.Core.List.{[], _∷_}
 use lib.Dec.{leb, ltb}
 use borrow.Author.Tests.{le-leb, lt-leb, leb-false}
 use Rattle.graph.specs.Basic.{any, member}
 use Rattle.graph.specs.State.{State, sideCount, vertexCount, nodeCount, classOf}
 use Rattle.graph.specs.Sound.{entriesOf, entries, isRemoved}
-use Rattle.graph.specs.Layout.{stateOf}
-use Rattle.graph.specs.Form.{Laid}
 use Rattle.calls.specs.Refuse.{badNode, inBlossom, entriesBut, storeShort, nodeRefusal}
 use Rattle.graph.specs.laws.Members.{or-neither-left}
 use Rattle.calls.specs.laws.Accepted.{entries-named, entries-none}
@@ -20,7 +17,8 @@ use Rattle.calls.specs.laws.Accepted.{entries-named, entries-none}
 pub entries-with : (c : State) (n : ℕ) → n < nodeCount c → entries c ≡ entriesBut c (n ∷ []) + entriesOf c n
 entries-with c n h = sym (entries-none c) ∙ entries-named c n [] h (unfold member any in refl)
 
-pub short-node : (c : State) (n u : ℕ) → n < nodeCount c → u + entriesOf c n ≡ entries c → ltb (c .storeLimit) (u + 1 * (sideCount c + vertexCount c)) ≡ storeShort c (n ∷ []) 1
+pub short-node : (c : State) (n u : ℕ) → n < nodeCount c → u + entriesOf c n ≡ entries c
+    → ltb (c .storeLimit) (u + 1 * (sideCount c + vertexCount c)) ≡ storeShort c (n ∷ []) 1
 unfolding storeShort
 short-node c n u h e = let q : u ≡ entriesBut c (n ∷ []) = omega (arith, e, entries-with c n h) in rw q
 

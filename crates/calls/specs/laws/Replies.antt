@@ -14,25 +14,26 @@ use Rattle.graph.specs.State.{State, up, down, shrinking, nodeCount, withGrowSt
 use Rattle.graph.specs.Active.{activated}
 use Rattle.graph.specs.Sound.{sound}
 use Rattle.graph.specs.Layout.{stateOf}
-use Rattle.graph.specs.Form.{Formed, Becomes, sidesOk}
+use Rattle.graph.specs.Form.{Formed}
+use Rattle.graph.specs.inner.Form.{Becomes, sidesOk}
 use Rattle.graph.specs.laws.Row.{becomes-none, becomes-then}
 use Rattle.pass.specs.Prepare.{prepareNode}
-use Rattle.pass.specs.Ready.{Ready, Preparable, AfterPreparation}
+use Rattle.pass.specs.inner.Ready.{Ready, Preparable, AfterPreparation}
 use Rattle.pass.specs.laws.Preparing.{sound-preparable}
 use Rattle.graph.specs.laws.Form.{laid-shape}
 use Rattle.graph.specs.laws.Members.{by-test}
 use Rattle.pass.specs.Scratch.{zeroScratch}
-use Rattle.length.specs.declared.Answer.{Answer}
-use Rattle.length.specs.declared.Answer.the-variants.{Done, Refused}
-use Rattle.length.specs.declared.Answer.the-variants as Says
-use Rattle.length.specs.Answer.{Reply, says}
+use Rattle.update_length.specs.declared.Answer.{Answer}
+use Rattle.update_length.specs.declared.Answer.the-variants.{Done, Refused}
+use Rattle.update_length.specs.declared.Answer.the-variants as Says
+use Rattle.update_length.specs.Answer.{Reply, says}
 use Rattle.calls.specs.Refuse.{storeShort, nodeRefusal, unless}
-use Rattle.length.specs.Scan.{scan}
+use Rattle.update_length.specs.Scan.{scan}
 use Rattle.growth.specs.Growth.{growCheck, growApply}
 use Rattle.calls.specs.Calls.{setGrowState, prepareDualNodeGrowth, readied, maxUpdateLength, growPrepared, growToward, growDualNode}
-use Rattle.graph.specs.Readable.{Readable}
-use Rattle.growth.specs.Moving.{Prepared}
-use Rattle.calls.specs.Reply.{Usable, Steady, along, Replies}
+use Rattle.graph.specs.inner.Readable.{Readable}
+use Rattle.growth.specs.inner.Moving.{PreparedToMove}
+use Rattle.calls.specs.inner.Reply.{Replies, along, MemoryPreparable, Usable}
 use Rattle.calls.specs.laws.Accepted.{NodeAccepted, node-accepted, store-room}
 use Rattle.calls.specs.laws.Refuse.{entries-with}
 use Rattle.calls.specs.laws.Readable.{sound-readable, sound-sides-ok, prepared-up, prepared-readable, prepared-sides-ok, prepared-once}
@@ -64,7 +65,7 @@ module _ (b : List ℤ) (n x k : ℕ) (e : k ≡ nodeRefusal (stateOf b) n (ltb 
 -- ---- what a preparation asks, where the call is accepted
 
 -- a sound block can be prepared in every direction
-pub usable-steady : {b t : List ℤ} → Usable b t → (n d : ℕ) → Steady b t n d
+pub usable-steady : {b t : List ℤ} → Usable b t → (n d : ℕ) → MemoryPreparable b t n d
 usable-steady {b} u n d = record {
   formed = u .formed;
   scratch = u .scratch;
@@ -73,10 +74,10 @@ usable-steady {b} u n d = record {
 }
 
 -- and so can one that can be prepared upward
-pub steady-other : {b t : List ℤ} {n : ℕ} → Steady b t n up → (d : ℕ) → Steady b t n d
+pub steady-other : {b t : List ℤ} {n : ℕ} → MemoryPreparable b t n up → (d : ℕ) → MemoryPreparable b t n d
 steady-other s d = record { formed = s .formed; scratch = s .scratch; readable = s .readable; able = λ h o e q. s .able h o e (λ x. refl) }
 
-module _ {b t : List ℤ} {n d : ℕ} (u : Steady b t n d) (wrong : Bool) (a : NodeAccepted (stateOf b) n wrong (storeShort (stateOf b) (n ∷ []) 1)) where
+module _ {b t : List ℤ} {n d : ℕ} (u : MemoryPreparable b t n d) (wrong : Bool) (a : NodeAccepted (stateOf b) n wrong (storeShort (stateOf b) (n ∷ []) 1)) where
   pub accepted-ready : Ready b t n
   accepted-ready = record {
     formed = u .formed;
@@ -93,7 +94,7 @@ module _ {b t : List ℤ} {n d : ℕ} (u : Steady b t n d) (wrong : Bool) (a : N
     prepared-read = rw (p .block .state) (prepared-readable b (u .formed) n d (a .inside) (u .readable) accepted-able (a .room))
 
     -- what is prepared can be scanned and grown
-    pub prepared-grows : Prepared (stateOf b') n
+    pub prepared-grows : PreparedToMove (stateOf b') n
     prepared-grows = record {
       readable = prepared-read;
       node = omega (arith, p .block .nodes, a .inside);
@@ -102,14 +103,15 @@ module _ {b t : List ℤ} {n d : ℕ} (u : Steady b t n d) (wrong : Bool) (a : N
     }
 
     -- and prepared again
-    pub prepared-steady : Preparable (stateOf b') n d → Steady b' t' n d
+    pub prepared-steady : Preparable (stateOf b') n d → MemoryPreparable b' t' n d
     prepared-steady g = record {
       formed = p .block .formed;
       scratch = p .scratch ∙ u .scratch ∙ ap (λ m. zeroScratch (3 * m)) (sym (p .block .sides));
       readable = prepared-read;
       able = λ h o e q.
           elim (decEq d up) [
-            | yes x ↦ sound-preparable b' (p .block .formed) n e h (rw (p .block .state) (prepared-up b (u .formed) n d (a .inside) (u .readable) accepted-able (a .room) x))
+            | yes x ↦ sound-preparable b' (p .block .formed) n e h
+                (rw (p .block .state) (prepared-up b (u .formed) n d (a .inside) (u .readable) accepted-able (a .room) x))
             | no x ↦ record { grows = λ y. absurd (x (q y)); shrinks = λ y. g .shrinks x }
           ];
     }
@@ -119,18 +121,24 @@ module _ {b t : List ℤ} {n d : ℕ} (u : Steady b t n d) (wrong : Bool) (a : N
 module _ {b : List ℤ} (f : Formed b) (n d k : ℕ) (e : k ≡ nodeRefusal (stateOf b) n (ltb up d) (storeShort (stateOf b) (n ∷ []) 1)) where
   pub prepare-refused : k ≢ 0 → Replies b b (Refused k) (prepareDualNodeGrowth (stateOf b) n d)
   unfolding prepareDualNodeGrowth
-  prepare-refused h = rw (← e) (replies-refused b (record { answer = Says.Prepared (prepareNode (stateOf b) n d .passes); state = prepareNode (stateOf b) n d .state }) k f h)
+  prepare-refused h =
+      rw (← e)
+      (replies-refused b
+      (record { answer = Says.Prepared (prepareNode (stateOf b) n d .passes); state = prepareNode (stateOf b) n d .state })
+      k f h)
 
   pub prepare-accepted : k ≡ 0 → NodeAccepted (stateOf b) n (ltb up d) (storeShort (stateOf b) (n ∷ []) 1)
   prepare-accepted h = node-accepted (stateOf b) n (ltb up d) (storeShort (stateOf b) (n ∷ []) 1) (sym e ∙ h)
 
-  pub prepare-done : {t b' t' : List ℤ} {j : ℕ} → k ≡ 0 → AfterPreparation b b' t t' (prepareNode (stateOf b) n d) j → Replies b b' (Says.Prepared j) (prepareDualNodeGrowth (stateOf b) n d)
+  pub prepare-done : {t b' t' : List ℤ} {j : ℕ} → k ≡ 0 → AfterPreparation b b' t t' (prepareNode (stateOf b) n d) j
+      → Replies b b' (Says.Prepared j) (prepareDualNodeGrowth (stateOf b) n d)
   unfolding prepareDualNodeGrowth
   prepare-done h p = rw (← e) (replies-accepted k h (record { answer = ap Says.Prepared (p .passes); block = p .block }))
 
 -- ---- length
 
-module _ {b : List ℤ} (f : Formed b) (n d k : ℕ) (first : Bool) (e : k ≡ nodeRefusal (stateOf b) n (ltb up d) (first && storeShort (stateOf b) (n ∷ []) 1)) where
+module _ {b : List ℤ} (f : Formed b) (n d k : ℕ) (first : Bool)
+    (e : k ≡ nodeRefusal (stateOf b) n (ltb up d) (first && storeShort (stateOf b) (n ∷ []) 1)) where
   pub length-refused : k ≢ 0 → Replies b b (Refused k) (maxUpdateLength (stateOf b) n d first)
   unfolding maxUpdateLength
   length-refused h = rw (← e) (replies-refused b (record { answer = scan (readied (stateOf b) n d first) n d; state = readied (stateOf b) n d first }) k f h)
@@ -147,13 +155,16 @@ module _ {b : List ℤ} (f : Formed b) (n d k : ℕ) (first : Bool) (e : k ≡ n
   length-plain g h p = rw (← e) (replies-accepted k h (rw g (record { answer = p; block = becomes-none b (stateOf b) f refl })))
 
   -- prepared first
-  pub length-prepared : {a : Answer} {t b' t' : List ℤ} {j : ℕ} → first ≡ true → k ≡ 0 → AfterPreparation b b' t t' (prepareNode (stateOf b) n d) j → a ≡ scan (stateOf b') n d → Replies b b' a (maxUpdateLength (stateOf b) n d first)
+  pub length-prepared : {a : Answer} {t b' t' : List ℤ} {j : ℕ} → first ≡ true → k ≡ 0
+      → AfterPreparation b b' t t' (prepareNode (stateOf b) n d) j → a ≡ scan (stateOf b') n d
+      → Replies b b' a (maxUpdateLength (stateOf b) n d first)
   unfolding maxUpdateLength readied
   length-prepared g h p q = rw (← e) (replies-accepted k h (rw g (record { answer = q ∙ ap (λ c. scan c n d) (p .block .state); block = p .block })))
 
 -- ---- a sound state is scanned as it is
 
-pub sound-scanned : {b : List ℤ} → Formed b → sound (stateOf b) ≡ true → (n : ℕ) → n < nodeCount (stateOf b) → Readable (stateOf b) × (sidesOk (stateOf b) n ≡ true)
+pub sound-scanned : {b : List ℤ} → Formed b → sound (stateOf b) ≡ true → (n : ℕ) → n < nodeCount (stateOf b)
+    → Readable (stateOf b) × (sidesOk (stateOf b) n ≡ true)
 sound-scanned {b} f s n h = (sound-readable (stateOf b) (laid-shape b (f .laid)) s, sound-sides-ok (stateOf b) s n h)
 
 -- ---- growth
@@ -175,7 +186,9 @@ module _ {b : List ℤ} (f : Formed b) (n d l k : ℕ) (e : k ≡ nodeRefusal (s
   pub toward-accepted : k ≡ 0 → NodeAccepted (stateOf b) n false (storeShort (stateOf b) (n ∷ []) 1)
   toward-accepted h = node-accepted (stateOf b) n false (storeShort (stateOf b) (n ∷ []) 1) (sym e ∙ h)
 
-  pub toward-done : {t b' t' b'' : List ℤ} {a : Answer} {j : ℕ} → k ≡ 0 → AfterPreparation b b' t t' (prepareNode (stateOf b) n d) j → Replies b' b'' a (growPrepared (stateOf b') n d l) → Replies b b'' a (growToward (stateOf b) n d l)
+  pub toward-done : {t b' t' b'' : List ℤ} {a : Answer} {j : ℕ} → k ≡ 0
+      → AfterPreparation b b' t t' (prepareNode (stateOf b) n d) j → Replies b' b'' a (growPrepared (stateOf b') n d l)
+      → Replies b b'' a (growToward (stateOf b) n d l)
   unfolding growToward
   toward-done {b' = b'} h p q =
       let r : growPrepared (stateOf b') n d l ≡ growPrepared (prepareNode (stateOf b) n d .state) n d l = ap (λ c. growPrepared c n d l) (p .block .state) in
@@ -215,4 +228,6 @@ module _ (b : List ℤ) (n d k : ℕ) (z : ℤ) (zero-length : natAbs z ≡ 0) (
 
   pub none-done : Formed b → k ≡ 0 → Replies b b Done (growDualNode (stateOf b) n (along d z))
   unfolding says
-  none-done f h = rw (along-none (stateOf b) n d z zero-length, ← e) (replies-accepted k h (record { answer = refl; block = becomes-none b (stateOf b) f refl }))
+  none-done f h =
+      rw (along-none (stateOf b) n d z zero-length, ← e)
+      (replies-accepted k h (record { answer = refl; block = becomes-none b (stateOf b) f refl }))

@@ -12,8 +12,8 @@ use Rattle.graph.specs.Sound.{stateSound}
 use Rattle.graph.specs.Active.{renewed, activeIn}
 use Rattle.graph.specs.laws.State.{if-both, fold-keeps, fold-keeps-on}
 use Rattle.graph.specs.laws.Members.{by-test, or-right, all-from}
-use Rattle.length.specs.declared.Answer.{Answer}
-use Rattle.length.specs.Answer.{Reply, says}
+use Rattle.update_length.specs.declared.Answer.{Answer}
+use Rattle.update_length.specs.Answer.{Reply, says}
 use Rattle.calls.specs.Refuse.{unless}
 use Rattle.calls.specs.laws.Accepted.{unless-cases}
 pub use Rattle.calls.specs.Round.{begun}
@@ -74,7 +74,9 @@ module _ (f : State → ℕ → Reply) where
   pub try-step : (c : State) (n : ℕ) (ns : List ℕ) → tryAll f (begun c) (n ∷ ns) .refusal ≡ 0 → Stepped c n ns
   unfolding tryAll fold tryStep triedBy
   try-step c n ns h =
-      let first : refusalOf (f c n .answer) ≡ 0 = try-start (record { refusal = refusalOf (f c n .answer); state = f c n .state }) ns (unfold tryAll tryStep triedBy in h) in
+      let first : refusalOf (f c n .answer) ≡ 0 =
+      try-start (record { refusal = refusalOf (f c n .answer); state = f c n .state }) ns
+      (unfold tryAll tryStep triedBy in h) in
       record { first = first; next = rw first refl }
 
 pub again-accepted : (ms ns : List ℕ) (t : Tried) → soundAgain ms ns t .refusal ≡ 0 → soundAgain ms ns t ≡ t
@@ -96,7 +98,9 @@ again-sound ms ns t h =
 pub record Turned (f g : State → ℕ → Reply) (c : State) : Type 0 where
   pub shrunk : tryAll f (begun (renewed c)) (activeIn (renewed c) shrinking) .refusal ≡ 0
   pub grown : tryAll g (begun (tryAll f (begun (renewed c)) (activeIn (renewed c) shrinking) .state)) (activeIn (renewed c) growing) .refusal ≡ 0
-  pub state : inTurn f g c .state ≡ tryAll g (begun (tryAll f (begun (renewed c)) (activeIn (renewed c) shrinking) .state)) (activeIn (renewed c) growing) .state
+  pub state : inTurn f g c .state
+      ≡ tryAll g (begun (tryAll f (begun (renewed c)) (activeIn (renewed c) shrinking) .state))
+      (activeIn (renewed c) growing) .state
 
 pub turn-accepted : (f g : State → ℕ → Reply) (c : State) → inTurn f g c .refusal ≡ 0 → Turned f g c
 unfolding inTurn

@@ -1,5 +1,5 @@
 use mathlib.Core.Path.{refl}
-use Rattle.run.specs.laws.Standing.{roomy-start}
+use Rattle.record_step.specs.laws.Standing.{roomy-start}
 use borrow.Author.Needs.{needs}
 use Rattle.cardrun.proofs.main.Statement.{statement}
 use Rattle.cardrun.proofs.main.Tie as tie

@@ -4,7 +4,7 @@ use mathlib.Core.Path.{_∙_, ap, refl}
 use mathlib.Core.List.{_++_}
 use lib.ListN.{drop, length-append, length-take, length-drop}
 use Rattle.records.specs.Run.{ended}
-use Rattle.run.specs.laws.Standing.{stands-ended, part-short}
+use Rattle.record_step.specs.laws.Standing.{stands-ended, part-short}
 use borrow.Author.Needs.{needs}
 use Rattle.cardrun.proofs.take_record.Statement.{statement}
 use Rattle.cardrun.proofs.take_record.Tie as tie
@@ -62,14 +62,36 @@ tell-record-requires : tie.Need-tell-record-requires
 tell-record-requires c κs =
     let a = c .before .before .before .before .before .before .before .before .before .before .before .before .before .before .before .before .before in
     let n = c .before .before .before .before .before .before .before .before .before .before .before .before .pair .result in
-    let h : n - 0 ≤ 65535 = omega (arith, c .before .before .before .before .before .before .before .before .before .before .before .before .pair .ensures .1) in
-    (a .pre .4, a .pre .0, a .pre .1, a .pre .5, part-short (n - 0) (c .before .before .before .before .before .before .before .before .before .before .read-full .last .1 .0 ++ drop (n - 0) (a .args .body .now)) h, a .pre .6)
+    let h : n - 0 ≤ 65535 =
+    omega (
+      arith,
+      c .before .before .before .before .before .before .before .before .before .before .before .before .pair .ensures .1,
+    ) in (
+      a .pre .4,
+      a .pre .0,
+      a .pre .1,
+      a .pre .5,
+      part-short (n - 0)
+          (c .before .before .before .before .before .before .before .before .before .before .read-full .last .1 .0
+          ++ drop (n - 0) (a .args .body .now))
+          h,
+      a .pre .6,
+    )
 
 written-requires : tie.Need-written-requires
 written-requires c κs = search needs
 
 same-length-4 : tie.Need-same-length-4
-same-length-4 c = simp (length-append, length-drop, length-take) (omega (arith, simp (length-take, length-drop) at (c .before .before .before .before .before .before .before .before .before .before .before .before .before .before .before .before .before .before .before .read-full .kept .1 .0), c .before .before .before .before .before .before .before .before .before .before .before .before .before .before .before .before .before .before .before .before .before .pair .ensures .1, c .before .before .before .before .before .before .before .before .before .before .before .before .before .before .before .before .before .before .before .before .before .before .before .before .before .before .pre .3))
+same-length-4 c =
+    simp (length-append, length-drop, length-take)
+    (omega (
+      arith,
+      simp (length-take, length-drop)
+          at
+          (c .before .before .before .before .before .before .before .before .before .before .before .before .before .before .before .before .before .before .before .read-full .kept .1 .0),
+      c .before .before .before .before .before .before .before .before .before .before .before .before .before .before .before .before .before .before .before .before .before .pair .ensures .1,
+      c .before .before .before .before .before .before .before .before .before .before .before .before .before .before .before .before .before .before .before .before .before .before .before .before .before .before .pre .3,
+    ))
 
 same-length-5 : tie.Need-same-length-5
 same-length-5 c = search needs
@@ -88,7 +110,8 @@ same-length-9 c = search needs
 
 returns-3 : tie.Need-returns-3
 returns-3 c =
-    let p = c .before .before .before .before .before .before .before .before .before .before .before .before .before .before .before .before .before .before .before .before .before .before .before .before .before .before .pre .5 in
+    let p =
+    c .before .before .before .before .before .before .before .before .before .before .before .before .before .before .before .before .before .before .before .before .before .before .before .before .before .before .pre .5 in
     let e = c .before .before .before .before .before .before .before .before .tell-record .ensures in
     let w = c .written .ensures in
     (ap (λ x. x .«record») w ∙ e .2, rw w (record { at = _; stands = e .0 .promise (p .at) (p .stands) .0 }), e .3)

@@ -1,4 +1,4 @@
-use Rattle.run.specs.laws.Few.{ends-tells}
+use Rattle.record_step.specs.laws.Few.{ends-tells}
 use borrow.Author.Needs.{needs}
 use Rattle.cardrun.proofs.tell_cut.Statement.{statement}
 use Rattle.cardrun.proofs.tell_cut.Tie as tie

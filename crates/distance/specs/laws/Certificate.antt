@@ -4,11 +4,11 @@ use mathlib.Core.Logic.{by-cases}
 use Prim.Native.Nat.{ℕ, zero, suc, _≤_, _<_}
 use native.Mathlib.Omega.{arith}
 use native.Mathlib.Decide.{decLt, ℕ-discrete}
-use Rattle.distance.specs.Graph.{Graph, WellFormed, Positive, across, Walk, trivial, step}
+use Rattle.distance.specs.Graph.{WeightedGraph, WellFormed, Positive, across, Walk, trivial, step}
 use Rattle.distance.specs.Distance.{unreachable, dist, DistanceCertificate}
 use Rattle.distance.specs.laws.Distance.{dist-self, dist-capped, dist-walk, dist-edge-back}
 
-module _ (g : Graph) (ok : WellFormed g) (pos : Positive g) (a : ℕ) (in-a : a < g .size) (D : ℕ → ℕ) (cert : DistanceCertificate g a D) where
+module _ (g : WeightedGraph) (ok : WellFormed g) (pos : Positive g) (a : ℕ) (in-a : a < g .size) (D : ℕ → ℕ) (cert : DistanceCertificate g a D) where
   -- no walk is shorter
   walk-longer : {u n : ℕ} → Walk g a u n → D u ≤ n
   walk-longer trivial = omega (arith, cert .self)
@@ -29,6 +29,10 @@ module _ (g : Graph) (ok : WellFormed g) (pos : Positive g) (a : ℕ) (in-a : a 
   -- then D is the distance
   pub certified-distance : (u : ℕ) → D u ≡ dist g a u
   certified-distance u =
-      let at-most : D u ≤ dist g a u = by-cases (decLt (dist g a u) unreachable) (λ l. walk-longer (dist-walk g ok a in-a u l)) (λ l. omega (arith, cert .capped u)) in
-      let at-least : dist g a u ≤ D u = by-cases (decLt (D u) unreachable) (dist-within (D u) u (omega arith)) (λ l. omega (arith, dist-capped g ok a in-a u)) in
+      let at-most : D u ≤ dist g a u =
+      by-cases (decLt (dist g a u) unreachable) (λ l. walk-longer (dist-walk g ok a in-a u l))
+      (λ l. omega (arith, cert .capped u)) in
+      let at-least : dist g a u ≤ D u =
+      by-cases (decLt (D u) unreachable) (dist-within (D u) u (omega arith))
+      (λ l. omega (arith, dist-capped g ok a in-a u)) in
       omega arith

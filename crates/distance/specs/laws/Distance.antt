@@ -4,7 +4,7 @@ use mathlib.Core.Logic.{_≢_, _↔_, by-cases}
 use Prim.Native.Nat.{ℕ, zero, suc, _+_, _-_, _*_, _≤_, _<_, min}
 use native.Mathlib.Omega.{arith}
 use native.Mathlib.Decide.{decLt, ℕ-discrete}
-use Rattle.distance.specs.Graph.{Graph, WellFormed, Positive, sides, opposite, near, across, weight, Walk, trivial, step, ShortestLength}
+use Rattle.distance.specs.Graph.{WeightedGraph, WellFormed, Positive, sides, otherSide, near, across, weight, Walk, trivial, step, ShortestLength}
 use Rattle.distance.specs.Distance.{unreachable, dist, Predecessor}
 use Rattle.distance.specs.laws.Side.{opposite-in, near-opposite, across-opposite, weight-opposite}
 use Rattle.distance.specs.laws.Walk.{join-walks, cross-side, reverse-walk, walk-placed}
@@ -14,7 +14,7 @@ pub unreachable-is : unreachable ≡ 2_000_000_000_000
 unfolding unreachable
 unreachable-is = refl
 
-module _ (g : Graph) (ok : WellFormed g) (a : ℕ) (in-a : a < g .size) where
+module _ (g : WeightedGraph) (ok : WellFormed g) (a : ℕ) (in-a : a < g .size) where
   -- the distance of a from itself is 0
   pub dist-self : dist g a a ≡ 0
   unfolding dist
@@ -30,7 +30,7 @@ module _ (g : Graph) (ok : WellFormed g) (a : ℕ) (in-a : a < g .size) where
   dist-edge s h = distances-stable g ok a in-a s h
 
   pub dist-edge-back : (s : ℕ) → s < sides g → dist g a (near g s) ≤ dist g a (across g s) + weight g s
-  dist-edge-back s h = rw (near-opposite, across-opposite, weight-opposite) at (dist-edge (opposite s) (opposite-in g ok s h))
+  dist-edge-back s h = rw (near-opposite, across-opposite, weight-opposite) at (dist-edge (otherSide s) (opposite-in g ok s h))
 
   -- a distance below `unreachable` is the length of a walk
   pub dist-walk : (u : ℕ) → dist g a u < unreachable → Walk g a u (dist g a u)
@@ -51,7 +51,7 @@ module _ (g : Graph) (ok : WellFormed g) (a : ℕ) (in-a : a < g .size) where
   predecessor (step s h p) e l q =
       let m = last-step s h p e in
       record {
-        side = opposite s;
+        side = otherSide s;
         inside = opposite-in g ok s h;
         starts = near-opposite g s;
         reached = rw across-opposite (omega arith);
@@ -98,7 +98,7 @@ unfolding countBelow
 count-all D zero x = omega arith
 count-all D (suc n) x = omega (arith, count-all D n x)
 
-module _ (g : Graph) (ok : WellFormed g) (a : ℕ) (in-a : a < g .size) where
+module _ (g : WeightedGraph) (ok : WellFormed g) (a : ℕ) (in-a : a < g .size) where
   -- A step of a shortest walk that leads farther leaves one more vertex nearer, so the distance is at most 1,000,000 for each nearer vertex.
   dist-by-count : {u n : ℕ} → Walk g a u n → n ≡ dist g a u → dist g a u ≤ countBelow (dist g a) (g .size) (dist g a u) * 1_000_000
   dist-by-count trivial e = omega (arith, dist-self g ok a in-a)
@@ -140,17 +140,17 @@ module _ (g : Graph) (ok : WellFormed g) (a : ℕ) (in-a : a < g .size) where
 
 -- ---- symmetry and the triangle
 
-module _ (g : Graph) (ok : WellFormed g) (a b : ℕ) (in-a : a < g .size) (in-b : b < g .size) where
+module _ (g : WeightedGraph) (ok : WellFormed g) (a b : ℕ) (in-a : a < g .size) (in-b : b < g .size) where
   dist-back : dist g a b ≤ dist g b a
   dist-back =
       by-cases (decLt (dist g b a) unreachable)
       (λ l. dist-least g ok a in-a (reverse-walk ok (dist-walk g ok b in-b a l)))
       (λ l. omega (arith, dist-capped g ok a in-a b))
 
-pub dist-sym : (g : Graph) (ok : WellFormed g) (a b : ℕ) → a < g .size → b < g .size → dist g a b ≡ dist g b a
+pub dist-sym : (g : WeightedGraph) (ok : WellFormed g) (a b : ℕ) → a < g .size → b < g .size → dist g a b ≡ dist g b a
 dist-sym g ok a b in-a in-b = omega (arith, dist-back g ok a b in-a in-b, dist-back g ok b a in-b in-a)
 
-pub dist-triangle : (g : Graph) (ok : WellFormed g) (a u b : ℕ) → a < g .size → u < g .size → dist g a b ≤ dist g a u + dist g u b
+pub dist-triangle : (g : WeightedGraph) (ok : WellFormed g) (a u b : ℕ) → a < g .size → u < g .size → dist g a b ≤ dist g a u + dist g u b
 dist-triangle g ok a u b in-a in-u =
     by-cases (decLt (dist g a u) unreachable)
     (λ l. by-cases (decLt (dist g u b) unreachable)
@@ -159,5 +159,5 @@ dist-triangle g ok a u b in-a in-u =
     (λ l. omega (arith, dist-capped g ok a in-a b))
 
 -- the ends of an edge are no farther apart than its weight
-pub dist-side : (g : Graph) (ok : WellFormed g) (s : ℕ) → s < sides g → dist g (near g s) (across g s) ≤ weight g s
+pub dist-side : (g : WeightedGraph) (ok : WellFormed g) (s : ℕ) → s < sides g → dist g (near g s) (across g s) ≤ weight g s
 dist-side g ok s h = dist-least g ok (near g s) (ok .placed s h) (cross-side s h)

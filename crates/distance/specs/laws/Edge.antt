@@ -5,7 +5,7 @@ use mathlib.Core.Option.{Option, none, some}
 use mathlib.Core.List.{List}
 use Prim.Native.Nat.{ℕ, _+_, _-_, _≤_, _<_}
 use native.Mathlib.Omega.{arith}
-use Rattle.distance.specs.Graph.{Graph, WellFormed, sides, opposite, near, across, weight}
+use Rattle.distance.specs.Graph.{WeightedGraph, WellFormed, sides, otherSide, near, across, weight}
 use Rattle.distance.specs.Distance.{dist}
 use Rattle.distance.specs.Table.{dual, Covers, owner, share, growth}
 use Rattle.distance.specs.Feasible.{Feasible}
@@ -24,13 +24,13 @@ module _ (y n f w : ℕ) where
   share-fits h l = share-by y n f w (λ r. r ≤ w) (λ _. omega arith) (λ _ _. omega arith) (λ _ _. omega arith)
 
 -- side s, from u to v, has an owner: the growth is within what the owner has left, and within the edge where the owner does not cover v
-pub record Owned (g : Graph) (y : List ℕ) (s u v : ℕ) : Type 0 where
+pub record Owned (g : WeightedGraph) (y : List ℕ) (s u v : ℕ) : Type 0 where
   pub by : ℕ
   pub covers : Covers g y by u
   pub left : growth g y s ≤ dual y by - dist g by u
   pub fits : dual y by ≤ dist g by v → growth g y s ≤ weight g s
 
-module _ (g : Graph) (ok : WellFormed g) (y : List ℕ) (fe : Feasible g y) where
+module _ (g : WeightedGraph) (ok : WellFormed g) (y : List ℕ) (fe : Feasible g y) where
   pub growth-cases : (s : ℕ) → s < sides g → (growth g y s ≡ 0) ⊎ Owned g y s (near g s) (across g s)
   growth-cases s h = go (owner g y (near g s)) refl
     where
@@ -43,12 +43,12 @@ module _ (g : Graph) (ok : WellFormed g) (y : List ℕ) (fe : Feasible g y) wher
 
   -- no defect covers both ends: the two growths sum to at most the weight
   pub edge-fits : (s : ℕ) → s < sides g → ((a : ℕ) → Covers g y a (near g s) → ¬ Covers g y a (across g s))
-      → growth g y s + growth g y (opposite s) ≤ weight g s
+      → growth g y s + growth g y (otherSide s) ≤ weight g s
   edge-fits s h apart =
-      go (growth-cases s h) (rw (near-opposite, across-opposite) at (growth-cases (opposite s) (opposite-in g ok s h)))
+      go (growth-cases s h) (rw (near-opposite, across-opposite) at (growth-cases (otherSide s) (opposite-in g ok s h)))
     where
-      go : (growth g y s ≡ 0) ⊎ Owned g y s (near g s) (across g s) → (growth g y (opposite s) ≡ 0) ⊎ Owned g y (opposite s) (across g s) (near g s)
-          → growth g y s + growth g y (opposite s) ≤ weight g s
+      go : (growth g y s ≡ 0) ⊎ Owned g y s (near g s) (across g s) → (growth g y (otherSide s) ≡ 0) ⊎ Owned g y (otherSide s) (across g s) (near g s)
+          → growth g y s + growth g y (otherSide s) ≤ weight g s
       go (inl p) (inl q) = omega arith
       go (inl p) (inr b) =
           let n : ¬ Covers g y (b .by) (near g s) = λ k. apart (b .by) k (b .covers) in

@@ -8,7 +8,7 @@ use native.Mathlib.Omega.{arith}
 use native.Mathlib.Decide.{decLt, ℕ-discrete}
 use lib.ListN.{set, replicate, length-set, length-replicate, List·getD-eq-default}
 use lib.Seq.{getD-set-same, getD-set-other}
-use Rattle.distance.specs.Graph.{Graph, WellFormed, sides, near, across, weight}
+use Rattle.distance.specs.Graph.{WeightedGraph, WellFormed, sides, near, across, weight}
 use Rattle.distance.specs.Distance.{unreachable, dist}
 use Rattle.distance.specs.Table.{dual, Covers, owner, share, growth}
 use Rattle.distance.specs.Nearest.{nearestVirtual}
@@ -18,7 +18,7 @@ use Rattle.distance.specs.laws.Nearest.{nearest-least}
 use Rattle.distance.specs.laws.Distance.{unreachable-is, dist-sym, dist-triangle}
 use Rattle.distance.specs.laws.Table.{owner-only, growth-some}
 
-module _ (g : Graph) (ok : WellFormed g) (y : List ℕ) (fe : Feasible g y) where
+module _ (g : WeightedGraph) (ok : WellFormed g) (y : List ℕ) (fe : Feasible g y) where
   -- only a vertex has a dual variable above 0
   pub dual-placed : (a : ℕ) → 0 < dual y a → a < g .size
   dual-placed a h =
@@ -56,7 +56,7 @@ module _ (g : Graph) (ok : WellFormed g) (y : List ℕ) (fe : Feasible g y) wher
 -- ---- one defect
 
 -- one dual variable above 0, no farther than the nearest virtual vertex
-pub single-feasible : (g : Graph) (x k : ℕ) → x < g .size → k ≤ 1_000_000_000 → k ≤ nearestVirtual g x → Feasible g (set (replicate (g .size) 0) x k)
+pub single-feasible : (g : WeightedGraph) (x k : ℕ) → x < g .size → k ≤ 1_000_000_000 → k ≤ nearestVirtual g x → Feasible g (set (replicate (g .size) 0) x k)
 single-feasible g x k h small within = record {
   sized = simp (length-set, length-replicate);
   bounded = λ a. by-cases (ℕ-discrete a x) (λ e. rw e (omega (arith, own))) (λ q. omega (arith, other a q));

@@ -8,7 +8,7 @@ use native.Mathlib.Omega.{arith}
 use native.Mathlib.Decide.{decLe, decLt, ℕ-discrete}
 use lib.ListN.{getD}
 use lib.Seq.{ext-getD}
-use Rattle.distance.specs.Graph.{Graph, WellFormed, Positive, sides, near, across, weight}
+use Rattle.distance.specs.Graph.{WeightedGraph, WellFormed, Positive, sides, near, across, weight}
 use Rattle.distance.specs.Distance.{dist}
 use Rattle.distance.specs.Nearest.{VirtualInReach}
 use Rattle.distance.specs.Table.{dual, Covers, owner, growth, tableFromDistances}
@@ -19,10 +19,10 @@ use Rattle.distance.specs.laws.Table.{owner-some, share-outward, share-i
 use Rattle.distance.specs.laws.Feasible.{dual-placed, separate, growth-is}
 
 -- y and z give each side the same growth
-abbrev Agree : Graph → List ℕ → List ℕ → Type 0
+abbrev Agree : WeightedGraph → List ℕ → List ℕ → Type 0
 Agree g y z = (s : ℕ) → s < sides g → growth g y s ≡ growth g z s
 
-module _ (g : Graph) (ok : WellFormed g) (pos : Positive g) (y z : List ℕ) (fy : Feasible g y) (fz : Feasible g z) (agree : Agree g y z) where
+module _ (g : WeightedGraph) (ok : WellFormed g) (pos : Positive g) (y z : List ℕ) (fy : Feasible g y) (fz : Feasible g z) (agree : Agree g y z) where
   -- What b covers in y has no dual variable in z: the side toward b has growth 0 in y.
   not-covered : (a b : ℕ) → a ≢ b → Covers g y b a → 0 < dual z a → ⊥
   not-covered a b q c p =
@@ -74,7 +74,7 @@ module _ (g : Graph) (ok : WellFormed g) (pos : Positive g) (y z : List ℕ) (fy
       (omega (arith, fz .virtuals a (v .vertex) in-a (v .placed) (v .virtual))) (walk-reached g ok a in-a (v .walk)))
 
 -- Feasible dual variables with the same table are the same.
-pub tableFromDistances-injective : (g : Graph) → WellFormed g → Positive g → VirtualInReach g → (y z : List ℕ) → Feasible g y → Feasible g z
+pub tableFromDistances-injective : (g : WeightedGraph) → WellFormed g → Positive g → VirtualInReach g → (y z : List ℕ) → Feasible g y → Feasible g z
     → tableFromDistances g y ≡ tableFromDistances g z → y ≡ z
 tableFromDistances-injective g ok pos reach y z fy fz e =
     ext-getD 0 y z (omega (arith, fy .sized, fz .sized)) (λ a h.
@@ -86,6 +86,6 @@ tableFromDistances-injective g ok pos reach y z fy fz e =
     agree s h = sym (at-tableFromDistances g y s h) ∙ ap (λ (t : List ℕ). getD t s 0) e ∙ at-tableFromDistances g z s h
 
 -- so tables are equal exactly where the dual variables are
-pub tableFromDistances-equal : (g : Graph) → WellFormed g → Positive g → VirtualInReach g → (y z : List ℕ) → Feasible g y → Feasible g z
+pub tableFromDistances-equal : (g : WeightedGraph) → WellFormed g → Positive g → VirtualInReach g → (y z : List ℕ) → Feasible g y → Feasible g z
     → (tableFromDistances g y ≡ tableFromDistances g z) ↔ (y ≡ z)
 tableFromDistances-equal g ok pos reach y z fy fz = (tableFromDistances-injective g ok pos reach y z fy fz, λ e. ap (tableFromDistances g) e)

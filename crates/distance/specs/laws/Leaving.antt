@@ -3,14 +3,14 @@ use mathlib.Core.Path.{_≡_, refl}
 use mathlib.Core.Logic.{by-cases}
 use Prim.Native.Nat.{ℕ, _+_, _<_}
 use native.Mathlib.Omega.{arith}
-use Rattle.distance.specs.Graph.{Graph, WellFormed, sides, near, across, weight, Walk, trivial, step}
+use Rattle.distance.specs.Graph.{WeightedGraph, WellFormed, sides, near, across, weight, Walk, trivial, step}
 use Rattle.distance.specs.Distance.{unreachable, dist}
 use Rattle.distance.specs.laws.Side.{across-placed}
 use Rattle.distance.specs.laws.Walk.{walk-placed}
 use Rattle.distance.specs.laws.Distance.{dist-self, dist-walk, dist-side, dist-triangle, last-step}
 
 -- Where a shortest walk from a to t leaves the vertices of which H holds: a side on it, outward from a.
-pub record Leaving (g : Graph) (a t : ℕ) (H : ℕ → Type 0) : Type 0 where
+pub record Leaving (g : WeightedGraph) (a t : ℕ) (H : ℕ → Type 0) : Type 0 where
   pub side : ℕ
   pub inside : side < sides g
   pub held : H (near g side)
@@ -18,7 +18,7 @@ pub record Leaving (g : Graph) (a t : ℕ) (H : ℕ → Type 0) : Type 0 where
   pub adds : dist g a (across g side) ≡ dist g a (near g side) + weight g side
   pub ahead : dist g a t ≡ dist g a (across g side) + dist g (across g side) t
 
-module _ (g : Graph) (ok : WellFormed g) (a : ℕ) (in-a : a < g .size) where
+module _ (g : WeightedGraph) (ok : WellFormed g) (a : ℕ) (in-a : a < g .size) where
   pub dist-leaving : (H : ℕ → Type 0) → ((u : ℕ) → Dec (H u)) → H a → (t : ℕ) → ¬ H t → dist g a t < unreachable → Leaving g a t H
   dist-leaving H dec h t q l =
       let p = dist-walk g ok a in-a t l in

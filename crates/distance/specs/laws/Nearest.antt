@@ -5,7 +5,7 @@ use Prim.Native.Nat.{ℕ, zero, suc, _≤_, _<_}
 use native.Mathlib.Omega.{arith}
 use native.Mathlib.Decide.{decLt, ℕ-discrete}
 use lib.ListN.{getD}
-use Rattle.distance.specs.Graph.{Graph, WellFormed, Virtual}
+use Rattle.distance.specs.Graph.{WeightedGraph, WellFormed, Virtual}
 use Rattle.distance.specs.Distance.{unreachable, dist}
 use Rattle.distance.specs.Nearest.{ReachesVirtual, ifVirtual, nearestVirtualBelow, nearestVirtual, NearestVirtual}
 use Rattle.distance.specs.laws.Distance.{dist-walk, walk-reached}
@@ -20,7 +20,7 @@ unfolding ifVirtual
 virtual-near zero d h = omega arith
 virtual-near (suc f) d h = omega arith
 
-nearest-below : (g : Graph) (a n v : ℕ) → v < n → Virtual g v → nearestVirtualBelow g a n ≤ dist g a v
+nearest-below : (g : WeightedGraph) (a n v : ℕ) → v < n → Virtual g v → nearestVirtualBelow g a n ≤ dist g a v
 unfolding nearestVirtualBelow
 nearest-below g a zero v h f = omega arith
 nearest-below g a (suc n) v h f =
@@ -29,11 +29,12 @@ nearest-below g a (suc n) v h f =
     (λ e. omega (arith, nearest-below g a n v (omega arith) f))
 
 -- no virtual vertex is nearer
-pub nearest-least : (g : Graph) (a v : ℕ) → v < g .size → Virtual g v → nearestVirtual g a ≤ dist g a v
+pub nearest-least : (g : WeightedGraph) (a v : ℕ) → v < g .size → Virtual g v → nearestVirtual g a ≤ dist g a v
 unfolding nearestVirtual
 nearest-least g a v h f = nearest-below g a (g .size) v h f
 
-nearest-found : (g : Graph) (a n : ℕ) → nearestVirtualBelow g a n < unreachable → (v : ℕ) × (v < n) × Virtual g v × (dist g a v ≡ nearestVirtualBelow g a n)
+nearest-found : (g : WeightedGraph) (a n : ℕ) → nearestVirtualBelow g a n < unreachable
+    → (v : ℕ) × (v < n) × Virtual g v × (dist g a v ≡ nearestVirtualBelow g a n)
 unfolding nearestVirtualBelow
 nearest-found g a zero l = absurd (omega arith)
 nearest-found g a (suc n) l =
@@ -44,13 +45,13 @@ nearest-found g a (suc n) l =
     (λ k. let r = nearest-found g a n (omega arith) in (r .0, omega arith, r .2, omega arith))
 
 -- where it is not `unreachable`, some virtual vertex is as near
-pub nearest-vertex : (g : Graph) (a : ℕ) → nearestVirtual g a < unreachable → NearestVirtual g a
+pub nearest-vertex : (g : WeightedGraph) (a : ℕ) → nearestVirtual g a < unreachable → NearestVirtual g a
 unfolding nearestVirtual
 nearest-vertex g a l =
     let r = nearest-found g a (g .size) l in record { vertex = r .0; placed = r .1; virtual = r .2; reached = omega arith; nearest-is = r .3 }
 
 -- which is so exactly where a walk leads to one
-pub nearest-in-reach : (g : Graph) (ok : WellFormed g) (a : ℕ) → a < g .size → (nearestVirtual g a < unreachable) ↔ ReachesVirtual g a
+pub nearest-in-reach : (g : WeightedGraph) (ok : WellFormed g) (a : ℕ) → a < g .size → (nearestVirtual g a < unreachable) ↔ ReachesVirtual g a
 nearest-in-reach g ok a h = (
   λ l.
       let v = nearest-vertex g a l in

@@ -5,7 +5,7 @@ use mathlib.Core.List.{List, [], _∷_}
 use Prim.Native.Nat.{ℕ, zero, suc, _≤_, _<_}
 use native.Mathlib.Omega.{arith}
 use lib.ListN.{getD}
-use Rattle.distance.specs.Graph.{Graph, WellFormed, Positive, near, across, weight}
+use Rattle.distance.specs.Graph.{WeightedGraph, WellFormed, Positive, near, across, weight}
 use Rattle.distance.specs.Distance.{unreachable}
 use Rattle.distance.specs.Nearest.{nearestVirtual, VirtualInReach}
 use Rattle.distance.specs.Feasible.{Feasible}
@@ -16,7 +16,7 @@ use Rattle.distance.specs.laws.Nearest.{nearest-in-reach}
 use Rattle.distance.specs.laws.Feasible.{single-feasible}
 
 -- what `WellFormed` asks of a side
-abbrev SideFormed : Graph → ℕ → Type 0
+abbrev SideFormed : WeightedGraph → ℕ → Type 0
 SideFormed g s = (near g s < g .size) × (near g s ≢ across g s) × (weight g s ≤ 1_000_000)
 
 -- ---- an edge of weight 0
@@ -59,7 +59,15 @@ zero-second = single-feasible zeroWeight 1 1 (omega arith) (omega arith) (omega 
 -- a defect at one end or at the other
 pub zero-same : SameTable zeroWeight (1 ∷ 0 ∷ 0 ∷ []) (0 ∷ 1 ∷ 0 ∷ [])
 unfolding everything
-zero-same = record { formed = zero-formed; first = zero-first; second = zero-second; differ = λ e. let d = ap (λ (y : List ℕ). getD y 0 0) e in omega arith; same = refl }
+zero-same =
+    record {
+      formed = zero-formed;
+      first = zero-first;
+      second = zero-second;
+      differ = λ e. let d = ap (λ (y : List ℕ). getD y 0 0) e in
+          omega arith;
+      same = refl;
+    }
 
 -- ---- no virtual vertex
 
@@ -88,4 +96,12 @@ none-feasible k h = single-feasible noVirtual 0 k (omega arith) h (omega (arith,
 -- a defect that covers all of its part of the graph and grows on
 pub none-same : SameTable noVirtual (3 ∷ 0 ∷ []) (4 ∷ 0 ∷ [])
 unfolding everything
-none-same = record { formed = none-formed; first = none-feasible 3 (omega arith); second = none-feasible 4 (omega arith); differ = λ e. let d = ap (λ (y : List ℕ). getD y 0 0) e in omega arith; same = refl }
+none-same =
+    record {
+      formed = none-formed;
+      first = none-feasible 3 (omega arith);
+      second = none-feasible 4 (omega arith);
+      differ = λ e. let d = ap (λ (y : List ℕ). getD y 0 0) e in
+          omega arith;
+      same = refl;
+    }

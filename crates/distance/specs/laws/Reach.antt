@@ -7,13 +7,13 @@ use native.Mathlib.Omega.{arith}
 use native.Mathlib.Decide.{ℕ-discrete}
 use lib.ListN.{set, length-set}
 use lib.Seq.{getD-set-same, getD-set-other}
-use Rattle.distance.specs.Graph.{Graph, WellFormed, sides, near, across, weight, Walk, trivial, step}
+use Rattle.distance.specs.Graph.{WeightedGraph, WellFormed, sides, near, across, weight, Walk, trivial, step}
 use Rattle.distance.specs.Nearest.{ReachesVirtual}
 use Rattle.distance.specs.Reach.{HasMark, ReachMarks, AllSpread}
 use Rattle.distance.specs.laws.Side.{across-placed}
 use Rattle.distance.specs.laws.Walk.{join-walks, cross-side, reverse-walk}
 
-module _ (g : Graph) (ok : WellFormed g) (m : List ℕ) (r : ReachMarks g m) where
+module _ (g : WeightedGraph) (ok : WellFormed g) (m : List ℕ) (r : ReachMarks g m) where
   module _ (s : ℕ) (h : s < sides g) (k : HasMark m (near g s)) where
     same : (u : ℕ) → Dec (u ≡ across g s)
     same u = ℕ-discrete u (across g s)

@@ -8,7 +8,7 @@ use native.Mathlib.Decide.{decLe, ℕ-discrete}
 use lib.Dec.{leb, leb→le, nleb→lt}
 use lib.ListN.{length, getD, set, replicate, length-set, length-replicate}
 use lib.Seq.{set-getD, getD-set-same, getD-set-other}
-use Rattle.distance.specs.Graph.{Graph, WellFormed, sides, near, across, Walk, trivial, step}
+use Rattle.distance.specs.Graph.{WeightedGraph, WellFormed, sides, near, across, Walk, trivial, step}
 use Rattle.distance.specs.Distance.{unreachable, distanceAt, lengthThrough, startDistances, relaxSide, relaxSides, sumOf, relaxUntilStable, distancesFrom, Relaxed, Stable}
 use Rattle.distance.specs.laws.Choice.{choice-by}
 use Rattle.distance.specs.laws.Side.{across-placed}
@@ -22,11 +22,11 @@ sum-set (y ∷ d) zero x h = omega arith
 sum-set (y ∷ d) (suc v) x h = omega (arith, sum-set d v x (omega arith))
 
 -- the entry of u after side s: as it was, or u is across and is now nearer through s
-data Relaxing (g : Graph) (s : ℕ) (d : List ℕ) (u : ℕ) : Type 0 where
+data Relaxing (g : WeightedGraph) (s : ℕ) (d : List ℕ) (u : ℕ) : Type 0 where
   kept : distanceAt (relaxSide g s d) u ≡ distanceAt d u → Relaxing g s d u
   nearer : u ≡ across g s → distanceAt (relaxSide g s d) u ≡ lengthThrough g s d → lengthThrough g s d < distanceAt d u → Relaxing g s d u
 
-module _ (g : Graph) (s : ℕ) (d : List ℕ) (h : across g s < length d) where
+module _ (g : WeightedGraph) (s : ℕ) (d : List ℕ) (h : across g s < length d) where
   -- a side never raises it
   pub relax-sum : sumOf (relaxSide g s d) ≤ sumOf d
   unfolding relaxSide
@@ -52,10 +52,10 @@ module _ (g : Graph) (s : ℕ) (d : List ℕ) (h : across g s < length d) where
 -- ---- all sides, again and again
 
 -- no way through one of the first k sides is shorter
-abbrev StableBelow : Graph → ℕ → List ℕ → Type 0
+abbrev StableBelow : WeightedGraph → ℕ → List ℕ → Type 0
 StableBelow g k d = (s : ℕ) → s < k → distanceAt d (across g s) ≤ lengthThrough g s d
 
-module _ (g : Graph) (P : List ℕ → Type 0) (each : (s : ℕ) (d : List ℕ) → s < sides g → P d → P (relaxSide g s d)) where
+module _ (g : WeightedGraph) (P : List ℕ → Type 0) (each : (s : ℕ) (d : List ℕ) → s < sides g → P d → P (relaxSide g s d)) where
   -- what each side keeps, all of them keep
   sides-keep : (k : ℕ) (d : List ℕ) → k ≤ sides g → P d → P (relaxSides g k d)
   unfolding relaxSides
@@ -69,7 +69,7 @@ module _ (g : Graph) (P : List ℕ → Type 0) (each : (s : ℕ) (d : List ℕ) 
       let r = relaxSides g (sides g) d in
       choice-by (leb (sumOf d) (sumOf r)) P d (relaxUntilStable g f r) (λ _. p) (λ _. rounds-keep f r (sides-keep (sides g) d (omega arith) p))
 
-module _ (g : Graph) (ok : WellFormed g) where
+module _ (g : WeightedGraph) (ok : WellFormed g) where
   relax-sized : (s : ℕ) (d : List ℕ) → s < sides g → length d ≡ g .size → length (relaxSide g s d) ≡ g .size
   unfolding relaxSide
   relax-sized s d h e = simp length-set e
@@ -95,7 +95,8 @@ module _ (g : Graph) (ok : WellFormed g) where
       let newest = relax-still g k (relaxSides g k d) c (omega (arith, sides-sum k d (omega arith) e)) in
       (newest .0 ∙ rest .0, λ s p. go (rest .1) (rw (rest .0) at (newest .1)) s p (ℕ-discrete s k))
     where
-      go : StableBelow g k d → distanceAt d (across g k) ≤ lengthThrough g k d → (s : ℕ) → s < suc k → Dec (s ≡ k) → distanceAt d (across g s) ≤ lengthThrough g s d
+      go : StableBelow g k d → distanceAt d (across g k) ≤ lengthThrough g k d → (s : ℕ) → s < suc k → Dec (s ≡ k)
+          → distanceAt d (across g s) ≤ lengthThrough g s d
       go rest newest s p (yes q) = rw q newest
       go rest newest s p (no q) = rest s (omega arith)
 
@@ -116,7 +117,7 @@ getD-replicate-default zero x u = refl
 getD-replicate-default (suc n) x zero = refl
 getD-replicate-default (suc n) x (suc u) = getD-replicate-default n x u
 
-module _ (g : Graph) (ok : WellFormed g) (a : ℕ) where
+module _ (g : WeightedGraph) (ok : WellFormed g) (a : ℕ) where
   relax-relaxed : (s : ℕ) (d : List ℕ) → s < sides g → Relaxed g a d → Relaxed g a (relaxSide g s d)
   relax-relaxed s d h q = record {
     sized = relax-sized g ok s d h (q .sized);
@@ -157,7 +158,9 @@ module _ (g : Graph) (ok : WellFormed g) (a : ℕ) where
     walked = λ u. go u (ℕ-discrete u a) .1;
   }
     where
-      go : (u : ℕ) → Dec (u ≡ a) → (distanceAt (startDistances g a) u ≤ unreachable) × (distanceAt (startDistances g a) u < unreachable → Walk g a u (distanceAt (startDistances g a) u))
+      go : (u : ℕ) → Dec (u ≡ a)
+          → (distanceAt (startDistances g a) u ≤ unreachable)
+          × (distanceAt (startDistances g a) u < unreachable → Walk g a u (distanceAt (startDistances g a) u))
       go u (yes e) = rw (e, start-own h) (omega arith, λ _. trivial)
       go u (no e) = (omega (arith, start-other u e), λ l. absurd (omega (arith, start-other u e)))
 

@@ -5,11 +5,11 @@ use mathlib.Core.List.{List}
 use Prim.Native.Nat.{ℕ, _≤_, _<_}
 use native.Mathlib.Omega.{arith}
 use native.Mathlib.Decide.{decLt}
-use Rattle.distance.specs.Graph.{Graph, WellFormed, Walk, trivial, step}
+use Rattle.distance.specs.Graph.{WeightedGraph, WellFormed, Walk, trivial, step}
 use Rattle.distance.specs.Distance.{unreachable, distanceAt, dist, Relaxed, Stable, DistanceCertificate}
 use Rattle.distance.specs.laws.Distance.{dist-self, dist-edge, dist-walk, dist-capped, dist-least, dist-predecessor}
 
-module _ (g : Graph) (ok : WellFormed g) (a : ℕ) (in-a : a < g .size) where
+module _ (g : WeightedGraph) (ok : WellFormed g) (a : ℕ) (in-a : a < g .size) where
   pub dist-certificate : DistanceCertificate g a (dist g a)
   dist-certificate = record {
     self = dist-self g ok a in-a;

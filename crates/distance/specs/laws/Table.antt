@@ -10,7 +10,7 @@ use native.Mathlib.Decide.{ℕ-discrete}
 use lib.Dec.{T, eqb, leb→le, nleb→lt, eqb→eq}
 use lib.ListN.{length, getD, length-append, List·getD-append}
 use lib.Seq.{getD-at}
-use Rattle.distance.specs.Graph.{Graph, sides, near, across, weight}
+use Rattle.distance.specs.Graph.{WeightedGraph, sides, near, across, weight}
 use Rattle.distance.specs.Distance.{dist}
 use Rattle.distance.specs.Table.{dual, Covers, exceeds, firstFrom, owner, share, growth, growthsBelow, tableFromDistances}
 use Rattle.distance.specs.laws.Choice.{choice-by, not-equal}
@@ -45,7 +45,7 @@ exceeds-false : (y d : ℕ) → T (not (exceeds y d)) → y ≤ d
 exceeds-false zero d t = omega arith
 exceeds-false (suc y) d t = nleb→lt d y t
 
-module _ (g : Graph) (y : List ℕ) (u : ℕ) where
+module _ (g : WeightedGraph) (y : List ℕ) (u : ℕ) where
   pub owner-none : owner g y u ≡ none → (a : ℕ) → a < g .size → dual y a ≤ dist g a u
   unfolding owner
   owner-none e a h = exceeds-false _ _ (rw e at (first-from (λ a. exceeds (dual y a) (dist g a u)) (g .size) 0) a (omega arith) (omega arith))
@@ -83,7 +83,7 @@ module _ (y n f w : ℕ) where
   pub share-positive : n < y → 0 < w → n ≢ f + w → 0 < share y n f w
   share-positive l k q = share-by (λ r. 0 < r) (λ e. omega arith) (λ _ e. absurd (q e)) (λ _ _. omega arith)
 
-module _ (g : Graph) (y : List ℕ) (s : ℕ) where
+module _ (g : WeightedGraph) (y : List ℕ) (s : ℕ) where
   pub growth-none : owner g y (near g s) ≡ none → growth g y s ≡ 0
   unfolding growth
   growth-none e = rw e
@@ -94,7 +94,7 @@ module _ (g : Graph) (y : List ℕ) (s : ℕ) where
   growth-some a e = rw e
 
 -- a side at a vertex that no defect covers has no growth
-pub growth-free : (g : Graph) (y : List ℕ) (s : ℕ) → ((a : ℕ) → a < g .size → ¬ Covers g y a (near g s)) → growth g y s ≡ 0
+pub growth-free : (g : WeightedGraph) (y : List ℕ) (s : ℕ) → ((a : ℕ) → a < g .size → ¬ Covers g y a (near g s)) → growth g y s ≡ 0
 growth-free g y s free = go (owner g y (near g s)) refl
   where
     go : (o : Option ℕ) → owner g y (near g s) ≡ o → growth g y s ≡ 0
@@ -103,12 +103,12 @@ growth-free g y s free = go (owner g y (near g s)) refl
 
 -- ---- the table by its sides
 
-length-growthsBelow : (g : Graph) (y : List ℕ) (k : ℕ) → length (growthsBelow g y k) ≡ k
+length-growthsBelow : (g : WeightedGraph) (y : List ℕ) (k : ℕ) → length (growthsBelow g y k) ≡ k
 unfolding growthsBelow
 length-growthsBelow g y zero = refl
 length-growthsBelow g y (suc k) = simp length-append (omega (arith, length-growthsBelow g y k))
 
-at-growthsBelow : (g : Graph) (y : List ℕ) (k s : ℕ) → s < k → getD (growthsBelow g y k) s 0 ≡ growth g y s
+at-growthsBelow : (g : WeightedGraph) (y : List ℕ) (k s : ℕ) → s < k → getD (growthsBelow g y k) s 0 ≡ growth g y s
 unfolding growthsBelow
 at-growthsBelow g y zero s h = absurd (omega arith)
 at-growthsBelow g y (suc k) s h =
@@ -116,10 +116,10 @@ at-growthsBelow g y (suc k) s h =
     (λ e. rw e (getD-at (growthsBelow g y k) (growth g y k) [] 0 k (length-growthsBelow g y k)))
     (λ e. List·getD-append (growthsBelow g y k) (growth g y k ∷ []) 0 s (omega (arith, length-growthsBelow g y k)) ∙ at-growthsBelow g y k s (omega arith))
 
-pub length-tableFromDistances : (g : Graph) (y : List ℕ) → length (tableFromDistances g y) ≡ sides g
+pub length-tableFromDistances : (g : WeightedGraph) (y : List ℕ) → length (tableFromDistances g y) ≡ sides g
 unfolding tableFromDistances
 length-tableFromDistances g y = length-growthsBelow g y (sides g)
 
-pub at-tableFromDistances : (g : Graph) (y : List ℕ) (s : ℕ) → s < sides g → getD (tableFromDistances g y) s 0 ≡ growth g y s
+pub at-tableFromDistances : (g : WeightedGraph) (y : List ℕ) (s : ℕ) → s < sides g → getD (tableFromDistances g y) s 0 ≡ growth g y s
 unfolding tableFromDistances
 at-tableFromDistances g y s h = at-growthsBelow g y (sides g) s h

@@ -10,10 +10,10 @@ use borrow.Author.Tests.{eqb-true, eqb-false, eq-eqb, ne-eqb, lt-ltb, ltb-true, 
 use Rattle.graph.specs.Basic.{if_then_else_, all, only, member, distinct, allBelow}
 use Rattle.graph.specs.State.{State, NodeClass, defectVertex, blossom, removed, classOf, vertexCount, edgeCount, sideCount, nodeCount, growStateOf, withActive, stay}
 use Rattle.graph.specs.Sound.{nodeOrNone, storedDefect, edgeSound, vertexSound, sideSound, classSound, parentSound, overSound, ownLists, nodeSound, entriesOf, entries, activeSound, sound}
-use Rattle.graph.specs.Active.{joinedTo, joinActive, activated, isActive, renewed, activeIn}
+use Rattle.graph.specs.Active.{joinedTo, joinActive, activated, isActive, renewed, activeIn, ActiveAll}
 use Rattle.graph.specs.laws.State.{and-left, and-right, if-both, if-cases}
 use Rattle.graph.specs.laws.Members.{both, all-weaker, all-snoc, all-only, all-member, member-only, only-member, member-head, member-append-left, member-append-right, distinct-only, distinct-snoc, all-below-at, all-below-from}
-use Rattle.graph.specs.laws.Shape.{Shape}
+use Rattle.graph.specs.Shape.{Shape}
 
 -- ---- what the test says
 
@@ -38,7 +38,9 @@ unfolding activeSound
 active-kept c d e le h =
     rw e
     (both (all (λ n. ltb n (nodeCount d)) (c .active)) (distinct (c .active))
-    (all-weaker (λ n. ltb n (nodeCount c)) (λ n. ltb n (nodeCount d)) (λ x t. let b : x < nodeCount c = ltb-true _ _ t in lt-ltb x (nodeCount d) (omega arith)) (c .active) (active-inside c h))
+    (all-weaker (λ n. ltb n (nodeCount c)) (λ n. ltb n (nodeCount d))
+    (λ x t. let b : x < nodeCount c = ltb-true _ _ t in lt-ltb x (nodeCount d) (omega arith)) (c .active)
+    (active-inside c h))
     (active-once c h))
 
 joined-ok : (k : ℕ) (l : List ℕ) (n : ℕ) → n < k → ListOk k l → ListOk k (joinedTo l n)
@@ -68,7 +70,9 @@ pub activated-sound : (c : State) (n x : ℕ) → n < nodeCount c → activeSoun
 unfolding activeSound activated withActive
 activated-sound c n x b h =
     let r : ListOk (nodeCount c) (if eqb (growStateOf c n) stay && not (eqb x stay) then joinedTo (c .active) n else c .active) =
-    if-both (ListOk (nodeCount c)) (eqb (growStateOf c n) stay && not (eqb x stay)) (joined-ok (nodeCount c) (c .active) n b (active-inside c h, active-once c h)) (active-inside c h, active-once c h) in
+    if-both (ListOk (nodeCount c)) (eqb (growStateOf c n) stay && not (eqb x stay))
+    (joined-ok (nodeCount c) (c .active) n b (active-inside c h, active-once c h))
+    (active-inside c h, active-once c h) in
     both (all (λ m. ltb m (nodeCount c)) _) (distinct _) (r .0) (r .1)
 
 pub renewed-sound : (c : State) → activeSound c ≡ true → activeSound (renewed c) ≡ true
@@ -93,17 +97,18 @@ node-same c l n = rw (class-same c l n (classOf c n)) refl
 pub with-active-sound : (c : State) (l : List ℕ) → sound c ≡ true → activeSound (withActive c l) ≡ true → sound (withActive c l) ≡ true
 unfolding sound entries entriesOf edgeSound vertexSound sideSound storedDefect nodeOrNone withActive
 with-active-sound c l h a =
-    let rest : Bool = leb (nodeCount c) (c .nodeLimit) && leb (entries c) (c .storeLimit) && allBelow (edgeSound c) (edgeCount c) && allBelow (vertexSound c) (vertexCount c) && allBelow (sideSound c) (sideCount c) in
+    let rest : Bool =
+    leb (nodeCount c) (c .nodeLimit) && leb (entries c) (c .storeLimit) && allBelow (edgeSound c) (edgeCount c)
+    && allBelow (vertexSound c) (vertexCount c) && allBelow (sideSound c) (sideCount c) in
     let nodes : Bool = allBelow (nodeSound c) (nodeCount c) in
     let nodes' : Bool = allBelow (nodeSound (withActive c l)) (nodeCount c) in
     let h₁ : rest && nodes ≡ true = and-left (rest && nodes) (activeSound c) h in
-    let k : nodes' ≡ true = all-below-from (nodeSound (withActive c l)) (nodeCount c) (λ n b. node-same c l n ∙ all-below-at (nodeSound c) (nodeCount c) n (and-right rest nodes h₁) b) in
+    let k : nodes' ≡ true =
+    all-below-from (nodeSound (withActive c l)) (nodeCount c)
+    (λ n b. node-same c l n ∙ all-below-at (nodeSound c) (nodeCount c) n (and-right rest nodes h₁) b) in
     both (rest && nodes') (activeSound (withActive c l)) (both rest nodes' (and-left rest nodes h₁) k) a
 
 -- ---- who stands in it: every node that is not in Stay
-
-abbrev pub ActiveAll : State → Type 0
-ActiveAll c = (n : ℕ) → n < nodeCount c → growStateOf c n ≢ stay → member n (c .active) ≡ true
 
 pub renewed-all : (c : State) → ActiveAll c → ActiveAll (renewed c)
 unfolding renewed withActive isActive

@@ -7,30 +7,12 @@ use lib.ListN.{length, set, getD, take, drop, length-drop}
 use lib.Seq.{getD-take, getD-drop, ext-getD, length-take-le, drop-drop}
 use Rattle.graph.specs.Layout.{stackFrom, boundaries, stacks}
 use Rattle.graph.specs.Form.{startsFrom, totalFrom}
+use Rattle.graph.specs.inner.Cut.{sumOfLists, startAt, restAt, Agree}
 
 -- ---- sums
 
--- how long all lists are, of b and o entries each
-unfoldable pub sumOf : List ℕ → List ℕ → ℕ
-sumOf [] os = 0
-sumOf (b ∷ bs) [] = 0
-sumOf (b ∷ bs) (o ∷ os) = b + o + sumOf bs os
-
--- where list n starts, and how much stands behind it
-unfoldable pub startAt : List ℕ → List ℕ → ℕ → ℕ
-startAt [] os n = 0
-startAt (b ∷ bs) [] n = 0
-startAt (b ∷ bs) (o ∷ os) zero = 0
-startAt (b ∷ bs) (o ∷ os) (suc n) = b + o + startAt bs os n
-
-unfoldable pub restAt : List ℕ → List ℕ → ℕ → ℕ
-restAt [] os n = 0
-restAt (b ∷ bs) [] n = 0
-restAt (b ∷ bs) (o ∷ os) zero = sumOf bs os
-restAt (b ∷ bs) (o ∷ os) (suc n) = restAt bs os n
-
-pub total-sum : (a : ℕ) (bs os : List ℕ) → totalFrom a bs os ≡ a + sumOf bs os
-unfolding totalFrom sumOf
+pub total-sum : (a : ℕ) (bs os : List ℕ) → totalFrom a bs os ≡ a + sumOfLists bs os
+unfolding totalFrom sumOfLists
 total-sum a [] os = omega arith
 total-sum a (b ∷ bs) [] = omega arith
 total-sum a (b ∷ bs) (o ∷ os) = total-sum (a + b + o) bs os ∙ omega arith
@@ -48,8 +30,8 @@ starts-length a [] os h = refl
 starts-length a (b ∷ bs) [] h = omega arith
 starts-length a (b ∷ bs) (o ∷ os) h = let ih : length (startsFrom (a + b + o) bs os) ≡ length bs = starts-length (a + b + o) bs os (omega arith) in omega arith
 
-pub parts-sum : (bs os : List ℕ) (n : ℕ) → n < length bs → n < length os → startAt bs os n + getD bs n 0 + getD os n 0 + restAt bs os n ≡ sumOf bs os
-unfolding sumOf startAt restAt
+pub parts-sum : (bs os : List ℕ) (n : ℕ) → n < length bs → n < length os → startAt bs os n + getD bs n 0 + getD os n 0 + restAt bs os n ≡ sumOfLists bs os
+unfolding sumOfLists startAt restAt
 parts-sum [] os n h k = absurd (omega arith)
 parts-sum (b ∷ bs) [] n h k = absurd (omega arith)
 parts-sum (b ∷ bs) (o ∷ os) zero h k = omega arith
@@ -57,8 +39,9 @@ parts-sum (b ∷ bs) (o ∷ os) (suc n) h k = let ih = parts-sum bs os n (omega 
 
 -- ---- with the lengths of list n changed
 
-pub sum-set : (bs os : List ℕ) (n k o : ℕ) → n < length bs → n < length os → sumOf (set bs n k) (set os n o) + (getD bs n 0 + getD os n 0) ≡ sumOf bs os + (k + o)
-unfolding sumOf
+pub sum-set : (bs os : List ℕ) (n k o : ℕ) → n < length bs → n < length os
+    → sumOfLists (set bs n k) (set os n o) + (getD bs n 0 + getD os n 0) ≡ sumOfLists bs os + (k + o)
+unfolding sumOfLists
 sum-set [] os n k o h j = absurd (omega arith)
 sum-set (b ∷ bs) [] n k o h j = absurd (omega arith)
 sum-set (b ∷ bs) (c ∷ os) zero k o h j = omega arith
@@ -74,7 +57,8 @@ start-set-le (b ∷ bs) (c ∷ os) zero k o (suc x) h = absurd (omega arith)
 start-set-le (b ∷ bs) (c ∷ os) (suc n) k o zero h = refl
 start-set-le (b ∷ bs) (c ∷ os) (suc n) k o (suc x) h = let ih = start-set-le bs os n k o x (omega arith) in omega arith
 
-pub start-set-gt : (bs os : List ℕ) (n k o x : ℕ) → n < x → x < length bs → x < length os → startAt (set bs n k) (set os n o) x + (getD bs n 0 + getD os n 0) ≡ startAt bs os x + (k + o)
+pub start-set-gt : (bs os : List ℕ) (n k o x : ℕ) → n < x → x < length bs → x < length os
+    → startAt (set bs n k) (set os n o) x + (getD bs n 0 + getD os n 0) ≡ startAt bs os x + (k + o)
 unfolding startAt
 start-set-gt [] os n k o x h i j = absurd (omega arith)
 start-set-gt (b ∷ bs) [] n k o x h i j = absurd (omega arith)
@@ -92,10 +76,6 @@ start-behind (b ∷ bs) (c ∷ os) zero (suc x) h i j = omega arith
 start-behind (b ∷ bs) (c ∷ os) (suc n) (suc x) h i j = let ih = start-behind bs os n x (omega arith) (omega arith) (omega arith) in omega arith
 
 -- ---- a store cut into lists
-
--- two stores agree up to place n
-abbrev pub Agree : ℕ → List ℕ → List ℕ → Type 0
-Agree n x y = (p : ℕ) → p < n → getD x p 0 ≡ getD y p 0
 
 agree-drop : (m n : ℕ) (x y : List ℕ) → Agree (m + n) x y → Agree n (drop m x) (drop m y)
 agree-drop m n x y h p k = getD-drop m x p 0 ∙ h (m + p) (omega arith) ∙ sym (getD-drop m y p 0)
@@ -118,13 +98,15 @@ module _ {A : Type 0} (f : ℕ → ℕ → List ℕ → A) where
   Local = (b o : ℕ) (x y : List ℕ) → b + o ≤ length x → b + o ≤ length y → Agree (b + o) x y → f b o x ≡ f b o y
 
   module _ (loc : Local) where
-    cut-same : (bs os x y : List ℕ) → sumOf bs os ≤ length x → sumOf bs os ≤ length y → Agree (sumOf bs os) x y → cut bs os x ≡ cut bs os y
-    unfolding cut sumOf
+    cut-same : (bs os x y : List ℕ) → sumOfLists bs os ≤ length x → sumOfLists bs os ≤ length y → Agree (sumOfLists bs os) x y → cut bs os x ≡ cut bs os y
+    unfolding cut sumOfLists
     cut-same [] os x y hx hy h = refl
     cut-same (b ∷ bs) [] x y hx hy h = refl
     cut-same (b ∷ bs) (o ∷ os) x y hx hy h =
         let p : f b o x ≡ f b o y = loc b o x y (omega arith) (omega arith) (λ p k. h p (omega arith)) in
-        let q : cut bs os (drop (b + o) x) ≡ cut bs os (drop (b + o) y) = cut-same bs os (drop (b + o) x) (drop (b + o) y) (rw (length-drop (b + o) x) (omega arith)) (rw (length-drop (b + o) y) (omega arith)) (agree-drop (b + o) (sumOf bs os) x y h) in
+        let q : cut bs os (drop (b + o) x) ≡ cut bs os (drop (b + o) y) =
+        cut-same bs os (drop (b + o) x) (drop (b + o) y) (rw (length-drop (b + o) x) (omega arith))
+        (rw (length-drop (b + o) y) (omega arith)) (agree-drop (b + o) (sumOfLists bs os) x y h) in
         cc
 
     pub cut-replaced : (bs os : List ℕ) (n k c : ℕ) (l l' new : List ℕ)
@@ -132,16 +114,18 @@ module _ {A : Type 0} (f : ℕ → ℕ → List ℕ → A) where
         → Agree (startAt bs os n) l' l
         → Agree (k + c) (drop (startAt bs os n) l') new
         → Agree (restAt bs os n) (drop (startAt bs os n + (k + c)) l') (drop (startAt bs os n + (getD bs n 0 + getD os n 0)) l)
-        → sumOf bs os ≤ length l → sumOf (set bs n k) (set os n c) ≤ length l' → k + c ≤ length new
+        → sumOfLists bs os ≤ length l → sumOfLists (set bs n k) (set os n c) ≤ length l' → k + c ≤ length new
         → cut (set bs n k) (set os n c) l' ≡ set (cut bs os l) n (f k c new)
-    unfolding cut sumOf startAt restAt
+    unfolding cut sumOfLists startAt restAt
     cut-replaced [] os n k c l l' new hb ho before inner after hl hl' hn = absurd (omega arith)
     cut-replaced (b ∷ bs) [] n k c l l' new hb ho before inner after hl hl' hn = absurd (omega arith)
     cut-replaced (b ∷ bs) (o ∷ os) zero k c l l' new hb ho before inner after hl hl' hn =
         let z₁ : 0 + (k + c) ≡ k + c = omega arith in
         let z₂ : 0 + (b + o) ≡ b + o = omega arith in
         let p : f k c l' ≡ f k c new = loc k c l' new (omega arith) hn inner in
-        let q : cut bs os (drop (k + c) l') ≡ cut bs os (drop (b + o) l) = cut-same bs os (drop (k + c) l') (drop (b + o) l) (rw (length-drop (k + c) l') (omega arith)) (rw (length-drop (b + o) l) (omega arith)) (rw (z₁, z₂) at after) in
+        let q : cut bs os (drop (k + c) l') ≡ cut bs os (drop (b + o) l) =
+        cut-same bs os (drop (k + c) l') (drop (b + o) l) (rw (length-drop (k + c) l') (omega arith))
+        (rw (length-drop (b + o) l) (omega arith)) (rw (z₁, z₂) at after) in
         cc
     cut-replaced (b ∷ bs) (o ∷ os) (suc n) k c l l' new hb ho before inner after hl hl' hn =
         let a : ℕ = startAt bs os n in
@@ -177,4 +161,7 @@ pub boundary-local : Local (λ b o l. take b l)
 boundary-local b o x y hx hy h = agree-take b x y (omega arith) (omega arith) (λ p k. h p (omega arith))
 
 pub stack-local : Local (λ b o l. stackFrom (take o (drop b l)))
-stack-local b o x y hx hy h = ap stackFrom (agree-take o (drop b x) (drop b y) (rw (length-drop b x) (omega arith)) (rw (length-drop b y) (omega arith)) (agree-drop b o x y h))
+stack-local b o x y hx hy h =
+    ap stackFrom
+    (agree-take o (drop b x) (drop b y) (rw (length-drop b x) (omega arith)) (rw (length-drop b y) (omega arith))
+    (agree-drop b o x y h))

@@ -3,21 +3,20 @@
 use Prim.Native.Nat.{ℕ, zero, suc, _+_, _*_, _/_, _%_, _≤_, _<_}
 use native.Mathlib.Omega.{arith}
 use mathlib.Core.Path.{_≡_, refl, sym, ap, _∙_}
-use mathlib.Core.Bool.{Bool, true}
 use mathlib.Core.List.{List, [], _∷_, map}
 use lib.IntN.{ℤ}
 use lib.Dec.{ltb, leb}
-use lib.ListN.{length, set, getD, take, List·getD-map}
+use lib.ListN.{set, getD, take, List·getD-map}
 use lib.Seq.{getD-take, take-set-lt, map-set-same}
 use borrow.Author.Tests.{lt-ltb, ltb-true, leb-true}
-use Rattle.graph.specs.Basic.{all}
 use Rattle.graph.specs.laws.Members.{all-at}
-use Rattle.graph.specs.State.{State, NodeClass, defectVertex, vertexCount, edgeCount, sideCount, nodeCount, endAt, weightAt, virtualAt, defectAt, classOf, growStateOf, parentOf, dualOf, withVertices, withSides, withNodes, withGrowth, withHolder, withGrandson, withDefect, withVertexHolder, withVertexGrandson, withClass, withGrowState, withParent, withDual}
+use Rattle.graph.specs.State.{defectVertex, vertexCount, edgeCount, sideCount, nodeCount, endAt, weightAt, virtualAt, defectAt, classOf, growStateOf, parentOf, dualOf, withVertices, withSides, withNodes, withGrowth, withHolder, withGrandson, withDefect, withVertexHolder, withVertexGrandson, withClass, withGrowState, withParent, withDual}
 use Rattle.graph.specs.Open.{weightLimit}
 use Rattle.graph.specs.Rows.{rows, offset}
-use Rattle.graph.specs.Layout.{vOf, countOf, rowsOf, row, classFrom, stateFrom, stateOf}
-use Rattle.graph.specs.Form.{Laid, Listed, Wired, Formed, Becomes, Rowed}
-use Rattle.graph.specs.laws.Row.{header-get, rows-length, becomes-row}
+use Rattle.graph.specs.Layout.{rowsOf, row, classFrom, stateFrom, stateOf}
+use Rattle.graph.specs.Form.{Laid, Listed, Wired, Formed}
+use Rattle.graph.specs.inner.Form.{Rowed, Becomes}
+use Rattle.graph.specs.laws.Row.{header-get, becomes-row}
 
 -- ---- sides and edges
 
@@ -25,7 +24,13 @@ pub end-below : (b : List ℤ) (s : ℕ) → Formed b → s < sideCount (stateOf
 unfolding Laid Wired stateOf stateFrom offset
 end-below b s f h =
     let e = header-get b 0 (omega arith) in
-    omega (arith, f .laid .counted .vertices, e, ltb-true (getD (row (rowsOf b) 5) s 0) (getD (row (rowsOf b) 0) 0 0) (all-at (λ x. ltb x (getD (row (rowsOf b) 0) 0 0)) (row (rowsOf b) 5) s (f .wired .ends) h))
+    omega (
+      arith,
+      f .laid .counted .vertices,
+      e,
+      ltb-true (getD (row (rowsOf b) 5) s 0) (getD (row (rowsOf b) 0) 0 0)
+          (all-at (λ x. ltb x (getD (row (rowsOf b) 0) 0 0)) (row (rowsOf b) 5) s (f .wired .ends) h),
+    )
 
 pub weight-below : (b : List ℤ) (e : ℕ) → Formed b → e < edgeCount (stateOf b) → weightAt (stateOf b) e ≤ 1000000
 unfolding Wired stateOf stateFrom
@@ -68,7 +73,9 @@ map-set f (y ∷ l) zero x = refl
 map-set f (y ∷ l) (suc i) x = ap (λ r. f y ∷ r) (map-set f l i x)
 
 -- the defect flag alone: the other flag stays
-pub defect-put : {b₀ b : List ℤ} (v x : ℕ) → Formed b₀ → Rowed 1 b₀ b (set (row (rowsOf b₀) 1) v (getD (row (rowsOf b₀) 1) v 0 % 2 + 2 * x)) → Becomes b₀ b (withDefect (stateOf b₀) v x)
+pub defect-put : {b₀ b : List ℤ} (v x : ℕ) → Formed b₀
+    → Rowed 1 b₀ b (set (row (rowsOf b₀) 1) v (getD (row (rowsOf b₀) 1) v 0 % 2 + 2 * x))
+    → Becomes b₀ b (withDefect (stateOf b₀) v x)
 unfolding Listed Wired rowsOf rows stateOf stateFrom withDefect withVertices
 defect-put {b₀} {b} v x f q =
     let l : List ℕ = row (rowsOf b₀) 1 in
@@ -90,8 +97,14 @@ module _ (b : List ℤ) (q : Laid b) (n : ℕ) (h : n < nodeCount (stateOf b)) w
   class-read =
       let k : ℕ = getD (row (rowsOf b) 0) 4 0 in
       let v : vertexCount (stateOf b) ≡ getD (row (rowsOf b) 0) 0 0 = q .counted .vertices ∙ sym (header-get b 0 (omega arith)) in
-      let first : classFrom (getD (row (rowsOf b) 0) 0 0) 0 ≡ defectVertex 0 = unfold classFrom in rw (lt-ltb 0 (getD (row (rowsOf b) 0) 0 0) (omega (arith, header-get b 0 (omega arith)))) in
-      rw (v, ← getD-take k (row (rowsOf b) 11) n 0 below-count, ← List·getD-map (classFrom (getD (row (rowsOf b) 0) 0 0)) (take k (row (rowsOf b) 11)) n 0, first)
+      let first : classFrom (getD (row (rowsOf b) 0) 0 0) 0 ≡ defectVertex 0 = unfold classFrom in
+      rw (lt-ltb 0 (getD (row (rowsOf b) 0) 0 0) (omega (arith, header-get b 0 (omega arith)))) in
+      rw (
+        v,
+        ← getD-take k (row (rowsOf b) 11) n 0 below-count,
+        ← List·getD-map (classFrom (getD (row (rowsOf b) 0) 0 0)) (take k (row (rowsOf b) 11)) n 0,
+        first,
+      )
 
   pub grow-state-read : getD (row (rowsOf b) 12) n 0 ≡ growStateOf (stateOf b) n
   unfolding stateOf stateFrom
@@ -108,7 +121,9 @@ module _ (b : List ℤ) (q : Laid b) (n : ℕ) (h : n < nodeCount (stateOf b)) w
 module _ {b₀ b : List ℤ} (n x : ℕ) (f : Formed b₀) (h : n < nodeCount (stateOf b₀)) where
   pub grow-state-put : Rowed 12 b₀ b (set (row (rowsOf b₀) 12) n x) → Becomes b₀ b (withGrowState (stateOf b₀) n x)
   unfolding Listed Wired rowsOf rows stateOf stateFrom withGrowState withNodes
-  grow-state-put q = becomes-row q (f .listed) (f .wired) (rw (take-set-lt (getD (row (rowsOf b₀) 0) 4 0) (row (rowsOf b₀) 12) n x (below-count b₀ (f .laid) n h)))
+  grow-state-put q =
+      becomes-row q (f .listed) (f .wired)
+      (rw (take-set-lt (getD (row (rowsOf b₀) 0) 4 0) (row (rowsOf b₀) 12) n x (below-count b₀ (f .laid) n h)))
 
   pub class-put : Rowed 11 b₀ b (set (row (rowsOf b₀) 11) n x)
       → Becomes b₀ b (withClass (stateOf b₀) n (classFrom (vertexCount (stateOf b₀)) x))
@@ -118,7 +133,11 @@ module _ {b₀ b : List ℤ} (n x : ℕ) (f : Formed b₀) (h : n < nodeCount (s
       let v : vertexCount (stateOf b₀) ≡ getD (row (rowsOf b₀) 0) 0 0 =
       f .laid .counted .vertices ∙ sym (header-get b₀ 0 (omega arith)) in
       becomes-row q (f .listed) (f .wired)
-      (rw (v, take-set-lt k (row (rowsOf b₀) 11) n x (below-count b₀ (f .laid) n h), map-set (classFrom (getD (row (rowsOf b₀) 0) 0 0)) (take k (row (rowsOf b₀) 11)) n x))
+      (rw (
+        v,
+        take-set-lt k (row (rowsOf b₀) 11) n x (below-count b₀ (f .laid) n h),
+        map-set (classFrom (getD (row (rowsOf b₀) 0) 0 0)) (take k (row (rowsOf b₀) 11)) n x,
+      ))
 
   pub parent-put : Rowed 13 b₀ b (set (row (rowsOf b₀) 13) n x) → Becomes b₀ b (withParent (stateOf b₀) n x)
   unfolding Listed Wired rowsOf rows stateOf stateFrom withParent withNodes

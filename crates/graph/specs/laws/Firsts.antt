@@ -65,7 +65,11 @@ pushed-joins (x ∷ l) n = ap (λ (k : List ℕ). x ∷ only (other x) k) (unfol
         let i : member n (x ∷ only (other x) k) ≡ true = member-tail n x (only (other x) k) (only-member (other x) k n h (rw (ne-eqb n x e) refl)) in
         unfold joinedTo in (rw (i, h) refl))
         (λ h.
-        let i : member n (x ∷ only (other x) k) ≡ false = by-test (member n (x ∷ only (other x) k)) (λ j. member-cons n x (only (other x) k) j (λ v. absurd (e v)) (λ v. clash (member n k) (member-only (other x) k n v .0) h)) (λ j. j) in
+        let i : member n (x ∷ only (other x) k) ≡ false =
+        by-test (member n (x ∷ only (other x) k))
+        (λ j. member-cons n x (only (other x) k) j (λ v. absurd (e v))
+        (λ v. clash (member n k) (member-only (other x) k n v .0) h))
+        (λ j. j) in
         unfold joinedTo in (rw (i, h, only-append (other x) k (n ∷ []), one) refl)))
 
 -- renewal may keep the first before or after it drops nodes

@@ -17,8 +17,10 @@ use Rattle.graph.specs.Rows.{offset}
 use Rattle.graph.specs.Layout.{stateOf, stateFrom, rowsOf, row, classFrom, stretches, boundaries, stacks, countOf, nOf}
 use Rattle.graph.specs.Form.{Laid, Wired, Formed}
 use Rattle.graph.specs.laws.Members.{all-from}
-use Rattle.graph.specs.laws.Shape.{Shape, sides-of-out}
-use Rattle.graph.specs.laws.Row.{Stands, rows-length, rows-get, header-get}
+use Rattle.graph.specs.laws.Shape.{sides-of-out}
+use Rattle.graph.specs.Shape.{Shape}
+use Rattle.graph.specs.laws.Row.{rows-length, rows-get, header-get}
+use Rattle.graph.specs.inner.Found.{InRow}
 
 length-stretches : (fs l : List ℕ) → length (stretches fs l) ≡ length fs
 unfolding stretches
@@ -62,7 +64,8 @@ laid-shape b q =
       growth = rows-length b 6 (omega arith) ∙ sym (k .sides);
       holder = rows-length b 7 (omega arith) ∙ sym (k .sides);
       grandson = rows-length b 8 (omega arith) ∙ sym (k .sides);
-      class = length-map (take count (row (rowsOf b) 11)) (classFrom (getD (row (rowsOf b) 0) 0 0)) ∙ cut-length b (row (rowsOf b) 11) q (rows-length b 11 (omega arith));
+      class = length-map (take count (row (rowsOf b) 11)) (classFrom (getD (row (rowsOf b) 0) 0 0))
+          ∙ cut-length b (row (rowsOf b) 11) q (rows-length b 11 (omega arith));
       parent = cut-length b (row (rowsOf b) 13) q (rows-length b 13 (omega arith));
       dual = cut-length b (row (rowsOf b) 14) q (rows-length b 14 (omega arith));
       boundary = length-boundaries (take count (row (rowsOf b) 16)) (take count (row (rowsOf b) 17)) (row (rowsOf b) 18) (nodeCount (stateOf b)) bs os;
@@ -100,7 +103,7 @@ formed-sides b f v = rw (f .wired .sides) (each (row (rowsOf b) 5) (below (getD 
     each ends (u ∷ vs) (suc v) = each ends vs v
 
 -- place i of the active list
-pub active-entry : (b : List ℤ) (i p : ℕ) → i < length (stateOf b .active) → Stands b 19 i p → wordAt b p ≡ getD (stateOf b .active) i 0
+pub active-entry : (b : List ℤ) (i p : ℕ) → i < length (stateOf b .active) → InRow b 19 i p → wordAt b p ≡ getD (stateOf b .active) i 0
 unfolding stateOf stateFrom
 active-entry b i p h s =
     let k : ℕ = getD (row (rowsOf b) 0) 5 0 in

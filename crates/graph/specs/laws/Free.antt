@@ -5,23 +5,25 @@ use native.Mathlib.Decide.{ℕ-discrete as decEq}
 use mathlib.Core.Path.{_≡_, refl, sym, ap, _∙_}
 use mathlib.Core.Logic.{_≢_, by-cases}
 use mathlib.Core.Bool.{Bool, true, false, _&&_, _||_}
-use mathlib.Core.List.{List, [], _∷_, map}
-use lib.IntN.{ℤ, pos}
+use mathlib.Core.List.{List, [], _∷_}
+use lib.IntN.{ℤ}
 use lib.Dec.{leb, eqb}
 use lib.ListN.{length, take, drop, set, getD, length-set}
 use lib.Seq.{getD-set-same, getD-set-other, take-set-le, drop-set-add}
 use borrow.Author.Tests.{eqb-true, leb-true}
 use Rattle.graph.specs.Sound.{entries}
-use Rattle.graph.specs.Layout.{vOf, eOf, nOf, lOf, countOf, activeCountOf, sizesOf, rowsOf, row, boundaries, stacks, stackFrom, stateFrom, stateOf, sized, packed, blockSound, memoryFits, blockRefusal, memoryRefusal}
+use Rattle.graph.specs.Layout.{countOf, activeCountOf, sizesOf, rowsOf, row, boundaries, stacks, stateFrom, stateOf, sized, packed, blockSound, memoryFits, blockRefusal, memoryRefusal}
 use Rattle.graph.specs.State.{nodeCount}
 use Rattle.graph.specs.Word.{toNat, wordAt}
 use Rattle.graph.specs.Rows.{offset}
 use Rattle.graph.specs.Form.{Laid, Formed}
 use Rattle.graph.specs.Free.{freePlace}
-use Rattle.graph.specs.laws.Cut.{sumOf, total-sum}
+use Rattle.graph.specs.laws.Cut.{total-sum}
+use Rattle.graph.specs.inner.Cut.{sumOfLists}
 use Rattle.graph.specs.laws.Members.{or-cases}
 use Rattle.graph.specs.laws.State.{and-left, and-right}
-use Rattle.graph.specs.laws.Row.{word-other, Stands, rowsWith, rows-any, rows-count, header-get}
+use Rattle.graph.specs.laws.Row.{word-other, rowsWith, rows-any, rows-count, header-get}
+use Rattle.graph.specs.inner.Found.{InRow}
 use Rattle.graph.specs.laws.Used.{entries-total}
 
 -- ---- the lists of the nodes are read from the front of the store
@@ -29,16 +31,16 @@ use Rattle.graph.specs.laws.Used.{entries-total}
 drop-behind : (n : ℕ) (l : List ℕ) (i j x : ℕ) → i ≡ n + j → drop n (set l i x) ≡ set (drop n l) j x
 drop-behind n l i j x e = rw e (drop-set-add n l j x)
 
-boundaries-front : (bs os l : List ℕ) (i x : ℕ) → sumOf bs os ≤ i → boundaries bs os (set l i x) ≡ boundaries bs os l
-unfolding boundaries sumOf
+boundaries-front : (bs os l : List ℕ) (i x : ℕ) → sumOfLists bs os ≤ i → boundaries bs os (set l i x) ≡ boundaries bs os l
+unfolding boundaries sumOfLists
 boundaries-front [] os l i x h = refl
 boundaries-front (b ∷ bs) [] l i x h = refl
 boundaries-front (b ∷ bs) (o ∷ os) l i x h =
     let d = drop-behind (b + o) l i (i - (b + o)) x (omega arith) in
     rw (take-set-le b l i x (omega arith), d, boundaries-front bs os (drop (b + o) l) (i - (b + o)) x (omega arith)) refl
 
-stacks-front : (bs os l : List ℕ) (i x : ℕ) → sumOf bs os ≤ i → stacks bs os (set l i x) ≡ stacks bs os l
-unfolding stacks sumOf
+stacks-front : (bs os l : List ℕ) (i x : ℕ) → sumOfLists bs os ≤ i → stacks bs os (set l i x) ≡ stacks bs os l
+unfolding stacks sumOfLists
 stacks-front [] os l i x h = refl
 stacks-front (b ∷ bs) [] l i x h = refl
 stacks-front (b ∷ bs) (o ∷ os) l i x h =
@@ -128,7 +130,7 @@ module _ (r : List (List ℕ)) (k i x : ℕ) where
     active = ap (take (getD (row r 0) 5 0)) (row-other 19 (λ z. omega arith));
   }
 
-  store-alike : k ≡ 18 → sumOf (take (getD (row r 0) 4 0) (row r 16)) (take (getD (row r 0) 4 0) (row r 17)) ≤ i → k < length r → ReadAlike r with
+  store-alike : k ≡ 18 → sumOfLists (take (getD (row r 0) 4 0) (row r 16)) (take (getD (row r 0) 4 0) (row r 17)) ≤ i → k < length r → ReadAlike r with
   store-alike e h l = record {
     header = λ j b. ap (λ z. getD z j 0) (row-other 0 (λ z. omega arith));
     fixed = λ j b d. row-other j (λ z. omega arith);
@@ -192,7 +194,7 @@ free-behind b (suc k) i p e h = omega arith
 
 -- ---- the block
 
-module _ (b : List ℤ) (f : Formed b) (k i p : ℕ) (s : Stands b k i p) (free : freePlace b k i ≡ true) (z : ℤ) where
+module _ (b : List ℤ) (f : Formed b) (k i p : ℕ) (s : InRow b k i p) (free : freePlace b k i ≡ true) (z : ℤ) where
   behind : 6 ≤ p
   behind = free-behind b k i p (s .place) free
 
@@ -214,13 +216,31 @@ module _ (b : List ℤ) (f : Formed b) (k i p : ℕ) (s : Stands b k i p) (free 
   unfolding packed
   free-word-packed =
       let c : getD (row (rowsOf b) 0) 4 0 ≡ countOf b = header-get b 4 (omega arith) in
-      let n : (j : ℕ) → 11 ≤ j → j ≤ 17 → take (countOf b) (row (rowsOf (set b p z)) j) ≡ take (countOf b) (row (rowsOf b) j) = λ j l h. rw c at (alike .nodes j l h) in
-      rw (word-same 3 (omega arith), word-same 4 (omega arith), n 15 (omega arith) (omega arith), n 16 (omega arith) (omega arith), n 17 (omega arith) (omega arith)) refl
+      let n : (j : ℕ) → 11 ≤ j → j ≤ 17
+      → take (countOf b) (row (rowsOf (set b p z)) j) ≡ take (countOf b) (row (rowsOf b) j) =
+      λ j l h. rw c at (alike .nodes j l h) in
+      rw (
+        word-same 3 (omega arith),
+        word-same 4 (omega arith),
+        n 15 (omega arith) (omega arith),
+        n 16 (omega arith) (omega arith),
+        n 17 (omega arith) (omega arith),
+      )
+      refl
 
   free-word-sound : blockSound (set b p z) ≡ blockSound b
   unfolding blockSound
   free-word-sound =
-      rw (word-same 4 (omega arith), word-same 5 (omega arith), word-same 2 (omega arith), free-word-packed, alike .fixed 4 (omega arith) (omega arith), word-same 1 (omega arith), free-word-state) refl
+      rw (
+        word-same 4 (omega arith),
+        word-same 5 (omega arith),
+        word-same 2 (omega arith),
+        free-word-packed,
+        alike .fixed 4 (omega arith) (omega arith),
+        word-same 1 (omega arith),
+        free-word-state,
+      )
+      refl
 
   -- with any word z at a free place the block is refused as before, and holds the same state
   pub free-word-unread : (t : List ℤ) → (memoryRefusal (set b p z) t ≡ memoryRefusal b t) × (stateOf (set b p z) ≡ stateOf b)

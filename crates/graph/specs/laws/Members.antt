@@ -7,11 +7,11 @@ use mathlib.Core.Path.{_≡_, refl, sym, ap, _∙_}
 use mathlib.Core.Logic.{_≢_}
 use mathlib.Core.Bool.{Bool, true, false, _&&_, _||_, not}
 use mathlib.Core.List.{List, [], _∷_, _++_, map, append-nil}
-use lib.Dec.{eqb, leb, ltb}
+use lib.Dec.{eqb, ltb}
 use lib.ListN.{length, getD, drop, length-append, drop-of-length-le}
 use lib.Seq.{drop-cons}
-use borrow.Author.Tests.{eqb-true, eqb-false, eq-eqb, ne-eqb, ltb-true, ltb-false, lt-ltb, le-ltb, leb-true, not-true, not-false}
-use Rattle.graph.specs.Basic.{if_then_else_, all, any, only, member, below, distinct, allBelow}
+use borrow.Author.Tests.{eqb-true, eqb-false, eq-eqb, ne-eqb, ltb-true, lt-ltb, not-true}
+use Rattle.graph.specs.Basic.{all, any, only, member, below, distinct, allBelow}
 use Rattle.graph.specs.laws.State.{if-cases, and-left, and-right}
 
 -- ---- tests
@@ -102,7 +102,9 @@ module _ {A : Type 0} (p : A → Bool) where
   pub only-all : (xs : List A) → all p (only p xs) ≡ true
   unfolding all only
   only-all [] = refl
-  only-all (x ∷ xs) = let ih : all p (only p xs) ≡ true = only-all xs in if-cases (λ l. all p l ≡ true) (p x) (λ e. both (p x) (all p (only p xs)) e ih) (λ e. ih)
+  only-all (x ∷ xs) =
+      let ih : all p (only p xs) ≡ true = only-all xs in
+      if-cases (λ l. all p l ≡ true) (p x) (λ e. both (p x) (all p (only p xs)) e ih) (λ e. ih)
 
   pub length-only : (xs : List A) → length (only p xs) ≤ length xs
   unfolding only
@@ -112,12 +114,16 @@ module _ {A : Type 0} (p : A → Bool) where
 pub all-map : {A B : Type 0} (q : B → Bool) (f : A → B) (l : List A) → all (λ x. q (f x)) l ≡ true → all q (map f l) ≡ true
 unfolding all
 all-map q f [] h = refl
-all-map q f (x ∷ xs) h = both (q (f x)) (all q (map f xs)) (and-left (q (f x)) (all (λ y. q (f y)) xs) h) (all-map q f xs (and-right (q (f x)) (all (λ y. q (f y)) xs) h))
+all-map q f (x ∷ xs) h =
+    both (q (f x)) (all q (map f xs)) (and-left (q (f x)) (all (λ y. q (f y)) xs) h)
+    (all-map q f xs (and-right (q (f x)) (all (λ y. q (f y)) xs) h))
 
 pub all-unmap : {A B : Type 0} (q : B → Bool) (f : A → B) (l : List A) → all q (map f l) ≡ true → all (λ x. q (f x)) l ≡ true
 unfolding all
 all-unmap q f [] h = refl
-all-unmap q f (x ∷ xs) h = both (q (f x)) (all (λ y. q (f y)) xs) (and-left (q (f x)) (all q (map f xs)) h) (all-unmap q f xs (and-right (q (f x)) (all q (map f xs)) h))
+all-unmap q f (x ∷ xs) h =
+    both (q (f x)) (all (λ y. q (f y)) xs) (and-left (q (f x)) (all q (map f xs)) h)
+    (all-unmap q f xs (and-right (q (f x)) (all q (map f xs)) h))
 
 -- two tests that all entries pass
 pub all-both : {A : Type 0} (p q : A → Bool) (l : List A) → all p l ≡ true → all q l ≡ true → all (λ x. p x && q x) l ≡ true
@@ -156,11 +162,15 @@ none-member p (y ∷ ys) x h m = member-cons x y ys m (λ e. rw e (any-none p y 
 
 pub member-append : {P : Type 0} (x : ℕ) (xs ys : List ℕ) → member x (xs ++ ys) ≡ true → (member x xs ≡ true → P) → (member x ys ≡ true → P) → P
 member-append x [] ys h p q = q h
-member-append {P} x (z ∷ xs) ys h p q = member-cons x z (xs ++ ys) h (λ e. p (rw e (member-head z xs))) (λ e. member-append {P = P} x xs ys e (λ r. p (member-tail x z xs r)) q)
+member-append {P} x (z ∷ xs) ys h p q =
+    member-cons x z (xs ++ ys) h (λ e. p (rw e (member-head z xs)))
+    (λ e. member-append {P = P} x xs ys e (λ r. p (member-tail x z xs r)) q)
 
 pub member-append-left : (x : ℕ) (xs ys : List ℕ) → member x xs ≡ true → member x (xs ++ ys) ≡ true
 member-append-left x [] ys h = member-nil x h
-member-append-left x (z ∷ xs) ys h = member-cons x z xs h (λ e. rw e (member-head z (xs ++ ys))) (λ r. member-tail x z (xs ++ ys) (member-append-left x xs ys r))
+member-append-left x (z ∷ xs) ys h =
+    member-cons x z xs h (λ e. rw e (member-head z (xs ++ ys)))
+    (λ r. member-tail x z (xs ++ ys) (member-append-left x xs ys r))
 
 pub member-append-right : (x : ℕ) (xs ys : List ℕ) → member x ys ≡ true → member x (xs ++ ys) ≡ true
 member-append-right x [] ys h = h
@@ -192,7 +202,8 @@ pub member-only : (p : ℕ → Bool) (l : List ℕ) (x : ℕ) → member x (only
 unfolding only
 member-only p [] x h = member-nil x h
 member-only p (y ∷ ys) x h = by-test (p y)
-    (λ e. member-cons x y (only p ys) (rw e at h) (λ r. (rw r (member-head y ys), rw r e)) (λ r. let k = member-only p ys x r in (member-tail x y ys (k .0), k .1)))
+    (λ e. member-cons x y (only p ys) (rw e at h) (λ r. (rw r (member-head y ys), rw r e))
+    (λ r. let k = member-only p ys x r in (member-tail x y ys (k .0), k .1)))
     (λ e. let k = member-only p ys x (rw e at h) in (member-tail x y ys (k .0), k .1))
 
 pub only-member : (p : ℕ → Bool) (l : List ℕ) (x : ℕ) → member x l ≡ true → p x ≡ true → member x (only p l) ≡ true
@@ -212,19 +223,31 @@ length-below (suc n) = length-append (below n) (n ∷ []) ∙ rw (length-below n
 pub member-below : (n x : ℕ) → x < n → member x (below n) ≡ true
 unfolding below
 member-below zero x h = absurd (omega arith)
-member-below (suc n) x h = elim (decEq x n) [ yes e ↦ rw e (member-append-right n (below n) (n ∷ []) (member-head n [])) | no e ↦ member-append-left x (below n) (n ∷ []) (member-below n x (omega arith)) ]
+member-below (suc n) x h =
+    elim
+    (decEq x n) [
+      | yes e ↦ rw e (member-append-right n (below n) (n ∷ []) (member-head n []))
+      | no e ↦ member-append-left x (below n) (n ∷ []) (member-below n x (omega arith))
+    ]
 
 pub below-member : (n x : ℕ) → member x (below n) ≡ true → x < n
 unfolding below
 below-member zero x h = member-nil x h
-below-member (suc n) x h = member-append x (below n) (n ∷ []) h (λ r. let k : x < n = below-member n x r in omega arith) (λ r. member-cons x n [] r (λ e. omega arith) (λ q. member-nil x q))
+below-member (suc n) x h =
+    member-append x (below n) (n ∷ []) h (λ r. let k : x < n = below-member n x r in omega arith)
+    (λ r. member-cons x n [] r (λ e. omega arith) (λ q. member-nil x q))
 
 -- ---- allBelow
 
 pub all-below-at : (p : ℕ → Bool) (n i : ℕ) → allBelow p n ≡ true → i < n → p i ≡ true
 unfolding allBelow
 all-below-at p zero i h l = absurd (omega arith)
-all-below-at p (suc n) i h l = elim (decEq i n) [ yes e ↦ rw e (and-right (allBelow p n) (p n) h) | no e ↦ all-below-at p n i (and-left (allBelow p n) (p n) h) (omega arith) ]
+all-below-at p (suc n) i h l =
+    elim
+    (decEq i n) [
+      | yes e ↦ rw e (and-right (allBelow p n) (p n) h)
+      | no e ↦ all-below-at p n i (and-left (allBelow p n) (p n) h) (omega arith)
+    ]
 
 pub all-below-from : (p : ℕ → Bool) (n : ℕ) → ((i : ℕ) → i < n → p i ≡ true) → allBelow p n ≡ true
 unfolding allBelow
@@ -246,7 +269,9 @@ unfolding distinct
 distinct-tail x l h = and-right (not (member x l)) (distinct l) h
 
 pub not-member-append : (x : ℕ) (xs ys : List ℕ) → member x xs ≡ false → member x ys ≡ false → member x (xs ++ ys) ≡ false
-not-member-append x xs ys h k = by-test (member x (xs ++ ys)) (λ e. member-append x xs ys e (λ r. clash (member x xs) r h) (λ r. clash (member x ys) r k)) (λ e. e)
+not-member-append x xs ys h k =
+    by-test (member x (xs ++ ys))
+    (λ e. member-append x xs ys e (λ r. clash (member x xs) r h) (λ r. clash (member x ys) r k)) (λ e. e)
 
 pub not-member-single : (x y : ℕ) → x ≢ y → member x (y ∷ []) ≡ false
 unfolding member any
@@ -258,20 +283,26 @@ distinct-snoc [] x h k = unfold distinct member any in refl
 distinct-snoc (y ∷ ys) x h k =
     let apart : y ≢ x = λ e. clash (member x (y ∷ ys)) (rw (← e) (member-head y ys)) k in
     let out : member x ys ≡ false = by-test (member x ys) (λ e. clash (member x (y ∷ ys)) (member-tail x y ys e) k) (λ e. e) in
-    distinct-cons y (ys ++ (x ∷ [])) (not-member-append y ys (x ∷ []) (distinct-head y ys h) (not-member-single y x apart)) (distinct-snoc ys x (distinct-tail y ys h) out)
+    distinct-cons y (ys ++ (x ∷ []))
+    (not-member-append y ys (x ∷ []) (distinct-head y ys h) (not-member-single y x apart))
+    (distinct-snoc ys x (distinct-tail y ys h) out)
 
 pub distinct-only : (p : ℕ → Bool) (l : List ℕ) → distinct l ≡ true → distinct (only p l) ≡ true
 unfolding only
 distinct-only p [] h = h
 distinct-only p (x ∷ xs) h =
     let ih : distinct (only p xs) ≡ true = distinct-only p xs (distinct-tail x xs h) in
-    let out : member x (only p xs) ≡ false = by-test (member x (only p xs)) (λ e. clash (member x xs) (member-only p xs x e .0) (distinct-head x xs h)) (λ e. e) in
+    let out : member x (only p xs) ≡ false =
+    by-test (member x (only p xs)) (λ e. clash (member x xs) (member-only p xs x e .0) (distinct-head x xs h))
+    (λ e. e) in
     if-cases (λ l. distinct l ≡ true) (p x) (λ e. distinct-cons x (only p xs) out ih) (λ e. ih)
 
 pub distinct-below : (n : ℕ) → distinct (below n) ≡ true
 unfolding below
 distinct-below zero = unfold distinct in refl
-distinct-below (suc n) = distinct-snoc (below n) n (distinct-below n) (by-test (member n (below n)) (λ e. let k : n < n = below-member n n e in absurd (omega arith)) (λ e. e))
+distinct-below (suc n) =
+    distinct-snoc (below n) n (distinct-below n)
+    (by-test (member n (below n)) (λ e. let k : n < n = below-member n n e in absurd (omega arith)) (λ e. e))
 
 -- one entry out of the middle, or moved behind the front
 pub distinct-middle : (xs : List ℕ) (y : ℕ) (ys : List ℕ) → distinct (xs ++ (y ∷ ys)) ≡ true → distinct (xs ++ ys) ≡ true

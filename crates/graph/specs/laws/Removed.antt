@@ -3,7 +3,7 @@ use Prim.Native.Nat.{ℕ, _-_}
 use native.Mathlib.Decide.{decLt}
 use native.Mathlib.Omega.{arith}
 use mathlib.Core.Path.{_≡_, refl}
-use mathlib.Core.Bool.{true, false, _||_, not}
+use mathlib.Core.Bool.{true, false}
 use lib.Dec.{eqb}
 use lib.ListN.{length, List·getD-eq-default}
 use borrow.Author.Tests.{not-true}
@@ -11,7 +11,7 @@ use Rattle.graph.specs.Basic.{allBelow}
 use Rattle.graph.specs.State.{State, Graph, NodeClass, defectVertex, blossom, removed, vertexCount, sideCount, nodeCount, holderAt, vertexHolderAt, classOf, parentOf}
 use Rattle.graph.specs.Sound.{isRemoved, liveOrNone, firstLive, nodeLive, soundRemoved}
 use Rattle.graph.specs.Open.{blankState}
-use Rattle.graph.specs.Scans.{live}
+use Rattle.graph.specs.inner.Scans.{live}
 use Rattle.graph.specs.laws.Members.{by-test, all-below-at, all-below-from}
 
 module _ (c : State) (z : length (c .nodes .class) ≡ nodeCount c) (h : allBelow (live c) (nodeCount c) ≡ true) where

@@ -4,14 +4,16 @@ use native.Mathlib.Omega.{arith}
 use mathlib.Core.Path.{_≡_, refl, sym, ap, _∙_}
 use mathlib.Core.Logic.{_≢_}
 use mathlib.Core.List.{List, [], _∷_, map}
-use lib.IntN.{ℤ, pos, negsuc}
+use lib.IntN.{ℤ, pos}
 use lib.ListN.{length, set, getD, take, drop, length-set, length-take, length-drop, length-map, List·getD-map}
 use lib.Seq.{getD-take, getD-drop, getD-set-same, getD-set-other, set-set, set-getD, take-set-lt, take-set-le, drop-set-lt, drop-set-add}
-use Rattle.graph.specs.State.{State, vertexCount, edgeCount, sideCount, nodeCount}
+use Rattle.graph.specs.State.{State}
 use Rattle.graph.specs.Word.{toNat, wordAt}
 use Rattle.graph.specs.Rows.{rows, offset}
-use Rattle.graph.specs.Layout.{vOf, eOf, nOf, lOf, countOf, activeCountOf, sizesOf, blockLength, rowsOf, row, stateFrom, stateOf}
-use Rattle.graph.specs.Form.{Sized, Counted, LaidOut, Laid, PackedRows, GraphRows, Listed, Wired, Formed, Becomes, Rowed}
+use Rattle.graph.specs.Layout.{vOf, eOf, nOf, lOf, countOf, activeCountOf, sizesOf, rowsOf, row, stateFrom, stateOf}
+use Rattle.graph.specs.Form.{Sized, Counted, Laid, PackedRows, GraphRows, Listed, Wired, Formed}
+use Rattle.graph.specs.inner.Form.{Rowed, Becomes}
+use Rattle.graph.specs.inner.Found.{InRow, Found}
 
 -- ---- rows
 
@@ -26,7 +28,8 @@ module _ {A : Type 0} where
       rw z (row-get ns (drop n w) k i d h ∙ getD-drop n w (offset ns k + i) d)
 
   -- a number set in a row
-  pub row-set : (ns : List ℕ) (w : List A) (k i : ℕ) (x : A) → i < getD ns k 0 → rows ns (set w (offset ns k + i) x) ≡ set (rows ns w) k (set (getD (rows ns w) k []) i x)
+  pub row-set : (ns : List ℕ) (w : List A) (k i : ℕ) (x : A) → i < getD ns k 0
+      → rows ns (set w (offset ns k + i) x) ≡ set (rows ns w) k (set (getD (rows ns w) k []) i x)
   unfolding rows offset
   row-set [] w k i x h = absurd (omega arith)
   row-set (n ∷ ns) w zero i x h =
@@ -34,7 +37,8 @@ module _ {A : Type 0} where
       rw (z, take-set-lt n w i x h, drop-set-lt n w i x h)
   row-set (n ∷ ns) w (suc k) i x h =
       let z : n + offset ns k + i ≡ n + (offset ns k + i) = omega arith in
-      rw (z, take-set-le n w (n + (offset ns k + i)) x (omega arith), drop-set-add n w (offset ns k + i) x) (ap (λ r. take n w ∷ r) (row-set ns (drop n w) k i x h))
+      rw (z, take-set-le n w (n + (offset ns k + i)) x (omega arith), drop-set-add n w (offset ns k + i) x)
+      (ap (λ r. take n w ∷ r) (row-set ns (drop n w) k i x h))
 
   -- how long a row is
   pub row-length : (ns : List ℕ) (w : List A) (k : ℕ) → offset ns k + getD ns k 0 ≤ length w → length (getD (rows ns w) k []) ≡ getD ns k 0
@@ -54,36 +58,22 @@ numbers-any [] i z = refl
 numbers-any (y ∷ b) zero z = refl
 numbers-any (y ∷ b) (suc i) z = ap (λ r. toNat y ∷ r) (numbers-any b i z)
 
-pub numbers-set : (b : List ℤ) (i x : ℕ) → map toNat (set b i (pos x)) ≡ set (map toNat b) i x
-unfolding toNat
-numbers-set b i x = numbers-any b i (pos x)
-
 pub numbers-get : (b : List ℤ) (i : ℕ) → getD (map toNat b) i 0 ≡ wordAt b i
 unfolding wordAt toNat
 numbers-get b i = List·getD-map toNat b i (pos 0)
 
 -- ---- place i of row k is the word at p
 
-pub record Stands (b : List ℤ) (k i p : ℕ) : Type 0 where
-  pub place : p ≡ offset (sizesOf b) k + i
-  pub within : i < getD (sizesOf b) k 0
-
-pub rows-get : (b : List ℤ) (k i p : ℕ) → Stands b k i p → wordAt b p ≡ getD (row (rowsOf b) k) i 0
+pub rows-get : (b : List ℤ) (k i p : ℕ) → InRow b k i p → wordAt b p ≡ getD (row (rowsOf b) k) i 0
 unfolding rowsOf
 rows-get b k i p s = rw (s .place) (sym (row-get (sizesOf b) (map toNat b) k i 0 (s .within) ∙ numbers-get b (offset (sizesOf b) k + i)))
-
--- the word at p is place i of row k, behind the header's five sizes and counts
-pub record Found (b : List ℤ) (k i p : ℕ) : Type 0 where
-  pub stands : Stands b k i p
-  pub within : p < length b
-  pub behind : 16 ≤ p
 
 -- the rows of b with x at place i of row k
 abbrev pub rowsWith : List ℤ → ℕ → ℕ → ℕ → List (List ℕ)
 rowsWith b k i x = set (rowsOf b) k (set (row (rowsOf b) k) i x)
 
 -- any word, behind the four sizes
-pub rows-any : (b : List ℤ) (k i p : ℕ) (z : ℤ) → Stands b k i p → 4 ≤ p → rowsOf (set b p z) ≡ rowsWith b k i (toNat z)
+pub rows-any : (b : List ℤ) (k i p : ℕ) (z : ℤ) → InRow b k i p → 4 ≤ p → rowsOf (set b p z) ≡ rowsWith b k i (toNat z)
 unfolding rowsOf
 rows-any b k i p z s h =
     rw (
@@ -96,7 +86,7 @@ rows-any b k i p z s h =
     )
     (row-set (sizesOf b) (map toNat b) k i (toNat z) (s .within))
 
-pub rows-put : (b : List ℤ) (k i p x : ℕ) → Stands b k i p → 4 ≤ p → rowsOf (set b p (pos x)) ≡ rowsWith b k i x
+pub rows-put : (b : List ℤ) (k i p x : ℕ) → InRow b k i p → 4 ≤ p → rowsOf (set b p (pos x)) ≡ rowsWith b k i x
 unfolding toNat
 rows-put b k i p x = rows-any b k i p (pos x)
 
@@ -107,7 +97,16 @@ sized-put b p x z h =
     let w₂ = word-other b p 2 (pos x) (omega arith) in
     let w₃ = word-other b p 3 (pos x) (omega arith) in
     let w₄ = length-set b p (pos x) in
-    record { v-min = omega arith; v-max = omega arith; e-min = omega arith; e-max = omega arith; n-min = omega arith; n-max = omega arith; l-max = omega arith; len = omega arith }
+    record {
+      v-min = omega arith;
+      v-max = omega arith;
+      e-min = omega arith;
+      e-max = omega arith;
+      n-min = omega arith;
+      n-max = omega arith;
+      l-max = omega arith;
+      len = omega arith;
+    }
 
 -- ---- the counts
 
@@ -149,7 +148,16 @@ laid-of b z h a = record { sized = z; counted = counted-of b z h a }
 
 pub formed-of : (b : List ℤ) → Laid b → PackedRows (rowsOf b) → GraphRows (rowsOf b) → Formed b
 unfolding Laid Listed Wired
-formed-of b q p g = record { vertices-max = omega arith; sides-max = omega arith; pairs = omega arith; nodes-max = omega arith; laid = q; listed = p; wired = g }
+formed-of b q p g =
+    record {
+      vertices-max = omega arith;
+      sides-max = omega arith;
+      pairs = omega arith;
+      nodes-max = omega arith;
+      laid = q;
+      listed = p;
+      wired = g;
+    }
 
 -- ---- where the rows of each section begin
 
@@ -165,7 +173,7 @@ times-below (suc (suc (suc (suc (suc (suc zero)))))) x h = omega arith
 times-below (suc (suc (suc (suc (suc (suc (suc k))))))) x h = absurd (omega arith)
 
 module _ (b : List ℤ) (z : Sized b) where
-  found : {k i p : ℕ} → Stands b k i p → (16 ≤ p) × (p < length b) → Found b k i p
+  found : {k i p : ℕ} → InRow b k i p → (16 ≤ p) × (p < length b) → Found b k i p
   found s h = record { stands = s; within = h .1; behind = h .0 }
 
   pub vertex-found : (k v : ℕ) → k < 4 → v < vOf b → Found b (1 + k) v (16 + k * vOf b + v)
@@ -239,7 +247,8 @@ unfolding stateOf
 state-of-rows b r e = rw e
 
 -- a row written: the block stays in form and holds the state of the rows with that row changed
-pub becomes-row : {k : ℕ} {b₀ b : List ℤ} {w : List ℕ} {c : State} → Rowed k b₀ b w → PackedRows (set (rowsOf b₀) k w) → GraphRows (set (rowsOf b₀) k w) → stateFrom (set (rowsOf b₀) k w) ≡ c → Becomes b₀ b c
+pub becomes-row : {k : ℕ} {b₀ b : List ℤ} {w : List ℕ} {c : State} → Rowed k b₀ b w → PackedRows (set (rowsOf b₀) k w)
+    → GraphRows (set (rowsOf b₀) k w) → stateFrom (set (rowsOf b₀) k w) ≡ c → Becomes b₀ b c
 becomes-row {k} {b₀} {b} {w} {c} q p g e = record {
   formed = formed-of b (q .laid) (rw (q .rows) p) (rw (q .rows) g);
   state = state-of-rows b (set (rowsOf b₀) k w) (q .rows) ∙ e;
@@ -253,7 +262,16 @@ becomes-row {k} {b₀} {b} {w} {c} q p g e = record {
 -- ---- one change after another
 
 pub becomes-then : {b₀ b₁ b₂ : List ℤ} {c d : State} → Becomes b₀ b₁ c → Becomes b₁ b₂ d → Becomes b₀ b₂ d
-becomes-then p q = record { formed = q .formed; state = q .state; vertices = q .vertices ∙ p .vertices; edges = q .edges ∙ p .edges; sides = q .sides ∙ p .sides; nodes = q .nodes ∙ p .nodes; len = q .len ∙ p .len }
+becomes-then p q =
+    record {
+      formed = q .formed;
+      state = q .state;
+      vertices = q .vertices ∙ p .vertices;
+      edges = q .edges ∙ p .edges;
+      sides = q .sides ∙ p .sides;
+      nodes = q .nodes ∙ p .nodes;
+      len = q .len ∙ p .len;
+    }
 
 pub becomes-none : (b : List ℤ) (c : State) → Formed b → stateOf b ≡ c → Becomes b b c
 becomes-none b c f e = record { formed = f; state = e; vertices = refl; edges = refl; sides = refl; nodes = refl; len = refl }
@@ -275,4 +293,15 @@ rowed-then {k} {b₀} {b₁} {b₂} {l₁} {l₂} p q = record {
 }
 
 pub rowed-none : (k : ℕ) (b : List ℤ) → Laid b → Rowed k b b (row (rowsOf b) k)
-rowed-none k b q = record { laid = q; rows = sym (set-getD (rowsOf b) k []); vertices = refl; edges = refl; sides = refl; nodes = refl; node-limit = refl; store-limit = refl; len = refl }
+rowed-none k b q =
+    record {
+      laid = q;
+      rows = sym (set-getD (rowsOf b) k []);
+      vertices = refl;
+      edges = refl;
+      sides = refl;
+      nodes = refl;
+      node-limit = refl;
+      store-limit = refl;
+      len = refl;
+    }

@@ -18,11 +18,13 @@ use Rattle.graph.specs.Sound.{isDefect, isRemoved, edgeSound, vertexSoun
 use Rattle.graph.specs.laws.State.{and-left, and-right, by-parity}
 use Rattle.graph.specs.laws.Class.{is-removed}
 use Rattle.graph.specs.laws.Members.{all-below-at, all-snoc}
-use Rattle.graph.specs.laws.Shape.{SoundEdge, edge-facts}
+use Rattle.graph.specs.laws.Shape.{edge-facts}
+use Rattle.graph.specs.Shape.{SoundEdge}
 use Rattle.graph.specs.Layout.{rowsOf, row, classFrom, stateFrom, stateOf}
-use Rattle.graph.specs.Form.{Laid, sidesOk}
+use Rattle.graph.specs.Form.{Laid}
+use Rattle.graph.specs.inner.Form.{sidesOk}
 use Rattle.graph.specs.laws.Row.{header-get}
-use Rattle.graph.specs.Scans.{vertexNumbers, nodeNumbers, wiredAt}
+use Rattle.graph.specs.inner.Scans.{vertexNumbers, nodeNumbers, wiredAt}
 
 pub and-false : (t : Bool) → t && false ≡ false
 and-false true = refl
@@ -98,10 +100,13 @@ vertices-both c (suc n) = rw (vertices-both c n) (swap (allBelow (vertexNumbers 
     swap false b x y = refl
 
 -- every end is a vertex where all edges are sound
-pub ends-of : (b : List ℤ) → Laid b → allBelow (edgeSound (stateOf b)) (edgeCount (stateOf b)) ≡ true → (s : ℕ) → s < sideCount (stateOf b) → endAt (stateOf b) s < vertexCount (stateOf b)
+pub ends-of : (b : List ℤ) → Laid b → allBelow (edgeSound (stateOf b)) (edgeCount (stateOf b)) ≡ true → (s : ℕ)
+    → s < sideCount (stateOf b) → endAt (stateOf b) s < vertexCount (stateOf b)
 unfolding Laid
 ends-of b q h s k =
-    let f : SoundEdge (stateOf b) (s / 2) = edge-facts (stateOf b) (s / 2) (all-below-at (edgeSound (stateOf b)) (edgeCount (stateOf b)) (s / 2) h (omega (arith, k, q .counted))) in
+    let f : SoundEdge (stateOf b) (s / 2) =
+    edge-facts (stateOf b) (s / 2)
+    (all-below-at (edgeSound (stateOf b)) (edgeCount (stateOf b)) (s / 2) h (omega (arith, k, q .counted))) in
     by-parity (endAt (stateOf b) s < vertexCount (stateOf b)) s
     (λ e. let z : 2 * (s / 2) ≡ s = omega arith in rw z at (f .left))
     (λ e. let z : 2 * (s / 2) + 1 ≡ s = omega arith in rw z at (f .right))
@@ -109,7 +114,8 @@ ends-of b q h s k =
 -- ---- nodes
 
 -- word n of a row over nodes, cut at their number
-pub node-get : (b : List ℤ) (k n : ℕ) → Laid b → n < nodeCount (stateOf b) → getD (take (getD (row (rowsOf b) 0) 4 0) (row (rowsOf b) k)) n 0 ≡ getD (row (rowsOf b) k) n 0
+pub node-get : (b : List ℤ) (k n : ℕ) → Laid b → n < nodeCount (stateOf b)
+    → getD (take (getD (row (rowsOf b) 0) 4 0) (row (rowsOf b) k)) n 0 ≡ getD (row (rowsOf b) k) n 0
 unfolding Laid
 node-get b k n q h = getD-take (getD (row (rowsOf b) 0) 4 0) (row (rowsOf b) k) n 0 (omega (arith, h, q .counted .nodes, header-get b 4 (omega arith)))
 
@@ -120,11 +126,13 @@ class-map v (x ∷ l) zero h = refl
 class-map v (x ∷ l) (suc n) h = class-map v l n h
 
 -- the class of node n, as it is stored
-pub class-get : (b : List ℤ) (n : ℕ) → Laid b → n < nodeCount (stateOf b) → classOf (stateOf b) n ≡ classFrom (vertexCount (stateOf b)) (getD (row (rowsOf b) 11) n 0)
+pub class-get : (b : List ℤ) (n : ℕ) → Laid b → n < nodeCount (stateOf b)
+    → classOf (stateOf b) n ≡ classFrom (vertexCount (stateOf b)) (getD (row (rowsOf b) 11) n 0)
 unfolding Laid stateOf stateFrom
 class-get b n q h =
     let e : getD (row (rowsOf b) 0) 0 0 ≡ vertexCount (stateOf b) = header-get b 0 (omega arith) ∙ sym (q .counted .vertices) in
-    class-map (getD (row (rowsOf b) 0) 0 0) (take (getD (row (rowsOf b) 0) 4 0) (row (rowsOf b) 11)) n (omega (arith, q .sized .v-min, header-get b 0 (omega arith)))
+    class-map (getD (row (rowsOf b) 0) 0 0) (take (getD (row (rowsOf b) 0) 4 0) (row (rowsOf b) 11)) n
+    (omega (arith, q .sized .v-min, header-get b 0 (omega arith)))
     ∙ rw (e, node-get b 11 n q h)
 
 is-defect : (v x : ℕ) → isDefect (classFrom v x) ≡ ltb x v
@@ -142,7 +150,8 @@ pub removed-node : (b : List ℤ) (n : ℕ) → Laid b → n < nodeCount (stateO
 removed-node b n q h = rw (class-get b n q h) (is-removed (vertexCount (stateOf b)) (getD (row (rowsOf b) 11) n 0))
 
 -- a node is a defect node where its class word is a vertex
-pub defect-node : (b : List ℤ) (n : ℕ) → Laid b → n < nodeCount (stateOf b) → isDefect (classOf (stateOf b) n) ≡ ltb (getD (row (rowsOf b) 11) n 0) (vertexCount (stateOf b))
+pub defect-node : (b : List ℤ) (n : ℕ) → Laid b → n < nodeCount (stateOf b)
+    → isDefect (classOf (stateOf b) n) ≡ ltb (getD (row (rowsOf b) 11) n 0) (vertexCount (stateOf b))
 defect-node b n q h = rw (class-get b n q h) (is-defect (vertexCount (stateOf b)) (getD (row (rowsOf b) 11) n 0))
 
 -- its class is sound where that word x is a vertex, V + 1024, or V + a node below it

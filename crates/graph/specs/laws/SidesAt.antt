@@ -4,23 +4,24 @@ use native.Mathlib.Omega.{arith}
 use native.Mathlib.Decide.{decLt}
 use native.Mathlib.Numerals.{add-one}
 use mathlib.Core.Path.{_≡_, refl, sym, ap, _∙_}
-use mathlib.Core.Bool.{Bool, true, false, _&&_}
+use mathlib.Core.Bool.{true}
 use mathlib.Core.List.{List, [], _∷_, map}
 use lib.IntN.{ℤ}
-use lib.Dec.{ltb, leb}
+use lib.Dec.{leb}
 use lib.ListN.{length, getD, take, drop, length-drop, List·getD-eq-default}
 use lib.Seq.{getD-take, getD-drop, length-take-le}
 use borrow.Author.Tests.{leb-true, lt-ltb, le-ltb}
-use Rattle.graph.specs.Basic.{if_then_else_, below}
+use Rattle.graph.specs.Basic.{below}
 use Rattle.graph.specs.laws.State.{and-left, and-right}
 use Rattle.graph.specs.laws.Members.{member-at}
 use Rattle.graph.specs.laws.Shape.{sides-of-out}
 use Rattle.graph.specs.Open.{sidesOf}
-use Rattle.graph.specs.State.{State, vertexCount, sideCount, sidesAt}
-use Rattle.graph.specs.Rows.{rows, offset}
+use Rattle.graph.specs.State.{vertexCount, sideCount, sidesAt}
+use Rattle.graph.specs.Rows.{offset}
 use Rattle.graph.specs.Layout.{vOf, eOf, rowsOf, row, stretches, risingTo, stateFrom, stateOf}
 use Rattle.graph.specs.Form.{LaidOut, Laid, Wired}
 use Rattle.graph.specs.laws.Row.{rows-length, header-get}
+use Rattle.graph.specs.inner.SidesAt.{Rising, firstWord, lastWord}
 
 pub stretches-at : (fs l : List ℕ) (v : ℕ) → v < length fs → getD (stretches fs l) v [] ≡ take (getD fs (suc v) (length l) - getD fs v 0) (drop (getD fs v 0) l)
 unfolding stretches
@@ -51,25 +52,16 @@ getD-any [] i d e h = absurd (omega arith)
 getD-any (x ∷ l) zero d e h = refl
 getD-any (x ∷ l) (suc i) d e h = getD-any l i d e (omega arith)
 
--- the firsts do not fall
-abbrev pub Rising : List ℤ → Type 0
-Rising b = risingTo (row (rowsOf b) 4) (2 * eOf b) ≡ true
-
-abbrev pub firstWord : List ℤ → ℕ → ℕ
-firstWord b v = getD (row (rowsOf b) 4) v 0
-
--- where the sides at v end: where those at the next vertex begin, or at the end of all
-unfoldable pub lastWord : List ℤ → ℕ → ℕ
-lastWord b v = if ltb (v + 1) (vertexCount (stateOf b)) then firstWord b (v + 1) else sideCount (stateOf b)
-
 pub last-is : (b : List ℤ) (v : ℕ) → Laid b → v < vertexCount (stateOf b) → lastWord b v ≡ getD (row (rowsOf b) 4) (suc v) (sideCount (stateOf b))
 unfolding Laid offset lastWord
 last-is b v q h =
     let fs : List ℕ = row (rowsOf b) 4 in
     let e : length fs ≡ vOf b = rows-length b 4 (omega arith) in
     elim (decLt (v + 1) (vertexCount (stateOf b))) [
-      | yes k ↦ rw (lt-ltb (v + 1) (vertexCount (stateOf b)) k, add-one) (getD-any fs (suc v) 0 (sideCount (stateOf b)) (omega (arith, e, k, q .counted .vertices)))
-      | no k ↦ rw (le-ltb (v + 1) (vertexCount (stateOf b)) (omega arith)) (sym (List·getD-eq-default fs (sideCount (stateOf b)) {n = suc v} (omega (arith, e, k, q .counted .vertices))))
+      | yes k ↦ rw (lt-ltb (v + 1) (vertexCount (stateOf b)) k, add-one)
+          (getD-any fs (suc v) 0 (sideCount (stateOf b)) (omega (arith, e, k, q .counted .vertices)))
+      | no k ↦ rw (le-ltb (v + 1) (vertexCount (stateOf b)) (omega arith))
+          (sym (List·getD-eq-default fs (sideCount (stateOf b)) {n = suc v} (omega (arith, e, k, q .counted .vertices))))
     ]
 
 laid-out : (b : List ℤ) → Laid b → LaidOut b
@@ -88,7 +80,10 @@ pub laid-sides : (b : List ℤ) → Laid b → sideCount (stateOf b) ≤ 8192
 unfolding Laid
 laid-sides b q = omega arith
 
-sides-stretch : (b : List ℤ) (v : ℕ) → v < length (row (rowsOf b) 4) → sidesAt (stateOf b) v ≡ take (getD (row (rowsOf b) 4) (suc v) (length (row (rowsOf b) 9)) - firstWord b v) (drop (firstWord b v) (row (rowsOf b) 9))
+sides-stretch : (b : List ℤ) (v : ℕ) → v < length (row (rowsOf b) 4)
+    → sidesAt (stateOf b) v
+    ≡ take (getD (row (rowsOf b) 4) (suc v) (length (row (rowsOf b) 9)) - firstWord b v)
+    (drop (firstWord b v) (row (rowsOf b) 9))
 unfolding stateOf stateFrom
 sides-stretch b v h = stretches-at (row (rowsOf b) 4) (row (rowsOf b) 9) v h
 
@@ -108,16 +103,25 @@ around-of b v q rs h =
     let l₉ : length l ≡ 2 * eOf b = at-length b q in
     let p : lastWord b v ≡ getD fs (suc v) (2 * eOf b) = last-is b v q h ∙ ap (getD fs (suc v)) (z .counted .sides) in
     let r = rising-at fs (2 * eOf b) v rs (omega (arith, l₄, h, z .counted .vertices)) in
-    let x : sidesAt (stateOf b) v ≡ take (lastWord b v - firstWord b v) (drop (firstWord b v) l) = rw (p, ← l₉) (sides-stretch b v (omega (arith, l₄, h, z .counted .vertices))) in
+    let x : sidesAt (stateOf b) v ≡ take (lastWord b v - firstWord b v) (drop (firstWord b v) l) =
+    rw (p, ← l₉) (sides-stretch b v (omega (arith, l₄, h, z .counted .vertices))) in
     record {
       rising = omega (arith, p, r .0);
       within = omega (arith, p, r .1, z .counted .sides);
       list = x;
-      size = ap length x ∙ length-take-le (lastWord b v - firstWord b v) (drop (firstWord b v) l) (rw (length-drop (firstWord b v) l) (omega (arith, p, r .1, l₉)));
+      size = ap length x
+          ∙ length-take-le (lastWord b v - firstWord b v) (drop (firstWord b v) l)
+          (rw (length-drop (firstWord b v) l) (omega (arith, p, r .1, l₉)));
     }
 
-pub side-entry : (b : List ℤ) (v i : ℕ) → Around b v → i < lastWord b v - firstWord b v → getD (row (rowsOf b) 9) (firstWord b v + i) 0 ≡ getD (sidesAt (stateOf b) v) i 0
-side-entry b v i q j = rw (q .list, getD-take (lastWord b v - firstWord b v) (drop (firstWord b v) (row (rowsOf b) 9)) i 0 j, getD-drop (firstWord b v) (row (rowsOf b) 9) i 0)
+pub side-entry : (b : List ℤ) (v i : ℕ) → Around b v → i < lastWord b v - firstWord b v
+    → getD (row (rowsOf b) 9) (firstWord b v + i) 0 ≡ getD (sidesAt (stateOf b) v) i 0
+side-entry b v i q j =
+    rw (
+      q .list,
+      getD-take (lastWord b v - firstWord b v) (drop (firstWord b v) (row (rowsOf b) 9)) i 0 j,
+      getD-drop (firstWord b v) (row (rowsOf b) 9) i 0,
+    )
 
 -- ---- of a block in form
 

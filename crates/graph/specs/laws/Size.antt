@@ -54,4 +54,13 @@ sized-of b h =
     let y = sizesOk (vOf b) (eOf b) (nOf b) (lOf b) in
     let z = eqb (length b) (blockLength (vOf b) (eOf b) (nOf b) (lOf b)) in
     let s = sizes-in (vOf b) (eOf b) (nOf b) (lOf b) (and-right x y (and-left (x && y) z h)) in
-    record { v-min = s .v-min; v-max = s .v-max; e-min = s .e-min; e-max = s .e-max; n-min = s .n-min; n-max = s .n-max; l-max = s .l-max; len = eqb-true _ _ (and-right (x && y) z h) }
+    record {
+      v-min = s .v-min;
+      v-max = s .v-max;
+      e-min = s .e-min;
+      e-max = s .e-max;
+      n-min = s .n-min;
+      n-max = s .n-max;
+      l-max = s .l-max;
+      len = eqb-true _ _ (and-right (x && y) z h);
+    }

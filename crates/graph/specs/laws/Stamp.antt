@@ -19,7 +19,7 @@ use Rattle.graph.specs.Open.{dualLimit}
 use Rattle.graph.specs.Sound.{overSound, ownLists}
 use Rattle.graph.specs.laws.Opened.{getD-zeros}
 use Rattle.graph.specs.Layout.{overgrownFrom}
-use Rattle.graph.specs.Scans.{sideHeld, vertexHeld, overgrownVertices, onceAll, AtMost, Carry, Stamped, Stamps}
+use Rattle.graph.specs.inner.Scans.{sideHeld, vertexHeld, overgrownVertices, onceAll, AtMost, Carry, Stamped, Stamps}
 use Rattle.graph.specs.laws.Scan.{and-false, list-at, list-fails}
 
 -- ---- lists
@@ -134,14 +134,19 @@ pub own-both : (c : State) (n : ℕ) → ownLists c n ≡ onceAll (sideHeld c n)
 unfolding ownLists onceAll sideHeld vertexHeld
 own-both c n =
     rw (all-mapped (vertexHeld c n) (λ (o : Overgrown). o .vertex) (overgrownOf c n))
-    (sym (own-swap (distinct (boundaryOf c n)) (distinct (overgrownVertices c n)) (all (sideHeld c n) (boundaryOf c n)) (all (vertexHeld c n) (overgrownVertices c n))))
+    (sym
+    (own-swap (distinct (boundaryOf c n)) (distinct (overgrownVertices c n)) (all (sideHeld c n) (boundaryOf c n))
+    (all (vertexHeld c n) (overgrownVertices c n))))
 
 -- where a stack holds vertices, entry i of their list is one
-pub overgrown-below : (c : State) (n i : ℕ) (d : Overgrown) → all (overSound c) (overgrownOf c n) ≡ true → i < length (overgrownOf c n) → getD (overgrownOf c n) i d .vertex < vertexCount c
+pub overgrown-below : (c : State) (n i : ℕ) (d : Overgrown) → all (overSound c) (overgrownOf c n) ≡ true
+    → i < length (overgrownOf c n) → getD (overgrownOf c n) i d .vertex < vertexCount c
 unfolding overSound
 overgrown-below c n i d h k =
     let o : Overgrown = getD (overgrownOf c n) i d in
-    ltb-true (o .vertex) (vertexCount c) (and-left (ltb (o .vertex) (vertexCount c)) (leb (o .amount) dualLimit) (list-at (overSound c) (overgrownOf c n) i d h k))
+    ltb-true (o .vertex) (vertexCount c)
+    (and-left (ltb (o .vertex) (vertexCount c)) (leb (o .amount) dualLimit)
+    (list-at (overSound c) (overgrownOf c n) i d h k))
 
 pub overgrown-vertex : (c : State) (n i : ℕ) → getD (overgrownVertices c n) i 0 ≡ getD (overgrownOf c n) i (overgrownFrom 0) .vertex
 unfolding overgrownFrom
@@ -163,4 +168,10 @@ stamps-none c m k h j = record {
 
 -- a node that stamps nothing
 pub stamps-still : (c : State) (n : ℕ) (sides vertices : List ℕ) → Stamps c n sides vertices → Stamps c (n + 1) sides vertices
-stamps-still c n sides vertices s = record { sides-room = s .sides-room; vertices-room = s .vertices-room; sides-most = λ x. omega (arith, s .sides-most x); vertices-most = λ x. omega (arith, s .vertices-most x) }
+stamps-still c n sides vertices s =
+    record {
+      sides-room = s .sides-room;
+      vertices-room = s .vertices-room;
+      sides-most = λ x. omega (arith, s .sides-most x);
+      vertices-most = λ x. omega (arith, s .vertices-most x);
+    }

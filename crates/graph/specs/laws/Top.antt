@@ -1,22 +1,25 @@
 -- The top of a node's overgrown stack: its amount set, where no other list changes, and its amount read.
-use Prim.Native.Nat.{ℕ, zero, suc, _+_, _-_, _*_, _/_, _%_, _≤_, _<_}
+use Prim.Native.Nat.{ℕ, suc, _+_, _-_, _*_, _/_, _%_, _≤_, _<_}
 use native.Mathlib.Omega.{arith}
 use native.Mathlib.Decide.{ℕ-discrete as decEq, decLt}
 use mathlib.Core.Path.{_≡_, refl, sym, ap, _∙_}
-use mathlib.Core.List.{List, [], _∷_, _++_, map, reverse, reverse-cons}
+use mathlib.Core.List.{List, [], _∷_, _++_, reverse, reverse-cons}
 use lib.IntN.{ℤ}
-use lib.ListN.{length, set, getD, take, drop, length-set, length-take, length-drop}
-use lib.Seq.{getD-take, getD-drop, getD-set-same, getD-set-other, ext-getD, length-take-le, take-suc, take-all, take-at, set-at, set-getD}
+use lib.ListN.{length, set, getD, take, drop, length-set, length-drop}
+use lib.Seq.{getD-take, getD-drop, getD-set-same, getD-set-other, ext-getD, length-take-le, take-suc, take-all, set-at, set-getD}
 use borrow.Author.Tests.{lt-ltb, le-ltb, eq-eqb, ne-eqb}
-use Rattle.graph.specs.State.{State, Overgrown, nodeCount, boundaryOf, overgrownOf, withNodes, withOvergrown}
-use Rattle.graph.specs.Rows.{rows, offset}
-use Rattle.graph.specs.Layout.{rowsOf, row, classFrom, overgrownFrom, stackFrom, boundaries, stacks, stateFrom, stateOf}
-use Rattle.graph.specs.Form.{Laid, Listed, Wired, Formed, Becomes, Rowed}
+use Rattle.graph.specs.State.{Overgrown, nodeCount, boundaryOf, overgrownOf, withNodes, withOvergrown}
+use Rattle.graph.specs.Rows.{rows}
+use Rattle.graph.specs.Layout.{rowsOf, classFrom, overgrownFrom, stackFrom, boundaries, stacks, stateFrom, stateOf}
+use Rattle.graph.specs.Form.{Listed, Wired, Formed}
+use Rattle.graph.specs.inner.Form.{Rowed, Becomes}
 use Rattle.graph.specs.Node.{withTop, topAmount, classNumber}
 use Rattle.graph.specs.laws.Row.{becomes-row}
-use Rattle.graph.specs.laws.List.{startWord, blenWord, olenWord, storeOf, store-length, Lists, lists-of}
-use Rattle.graph.specs.laws.Cut.{sumOf, startAt, restAt, parts-sum, Agree, agree-take, Local, cut, cut-replaced, boundaries-cut, stacks-cut, boundary-local, stack-local}
-use Rattle.graph.specs.laws.Used.{blens, olens, count-is, length-bs, length-os, blen-is, olen-is, start-is, sum-entries, entries-within}
+use Rattle.graph.specs.laws.List.{store-length, Lists, lists-of}
+use Rattle.graph.specs.inner.Lists.{storeOf, olenWord, blenWord, startWord}
+use Rattle.graph.specs.laws.Cut.{parts-sum, agree-take, Local, cut, cut-replaced, boundaries-cut, stacks-cut, boundary-local, stack-local}
+use Rattle.graph.specs.inner.Cut.{startAt, sumOfLists, olens, blens}
+use Rattle.graph.specs.laws.Used.{length-bs, length-os, blen-is, olen-is, start-is, sum-entries, entries-within}
 
 -- ---- a stack in words, its top last
 
@@ -43,7 +46,8 @@ stack-top l m x h =
 
 -- ---- the store with that word changed
 
-module _ (b₀ b : List ℤ) (n x p : ℕ) (f : Formed b₀) (h : n < nodeCount (stateOf b₀)) (some : 0 < olenWord b₀ n) (at : p ≡ startWord b₀ n + blenWord b₀ n + (olenWord b₀ n - 1)) where
+module _ (b₀ b : List ℤ) (n x p : ℕ) (f : Formed b₀) (h : n < nodeCount (stateOf b₀)) (some : 0 < olenWord b₀ n)
+    (at : p ≡ startWord b₀ n + blenWord b₀ n + (olenWord b₀ n - 1)) where
   bs : List ℕ
   bs = blens b₀
 
@@ -79,7 +83,7 @@ module _ (b₀ b : List ℤ) (n x p : ℕ) (f : Formed b₀) (h : n < nodeCount 
   unfolding l'
   size' = length-set l p (x * 1024 + getD l p 0 % 1024)
 
-  used : sumOf bs os ≤ length l
+  used : sumOfLists bs os ≤ length l
   unfolding bs os
   used = omega (arith, size, sum-entries b₀ (f .laid) (f .listed), entries-within b₀ (f .laid) (f .listed))
 
@@ -96,20 +100,23 @@ module _ (b₀ b : List ℤ) (n x p : ℕ) (f : Formed b₀) (h : n < nodeCount 
   inside-os = omega (arith, length-os b₀ (f .laid) (f .listed), h)
 
   -- of each node the part g of its lists, where node n alone is touched
-  parts-now : {A : Type 0} (g : ℕ → ℕ → List ℕ → A) → Local g → cut g bs os l' ≡ set (cut g bs os l) n (g (blenWord b₀ n) (olenWord b₀ n) (drop (startWord b₀ n) l'))
+  parts-now : {A : Type 0} (g : ℕ → ℕ → List ℕ → A) → Local g
+      → cut g bs os l' ≡ set (cut g bs os l) n (g (blenWord b₀ n) (olenWord b₀ n) (drop (startWord b₀ n) l'))
   parts-now g loc =
       let k : ℕ = blenWord b₀ n in
       let o : ℕ = olenWord b₀ n in
       let a : ℕ = startWord b₀ n in
       let s : set bs n k ≡ bs = rw (← k-is) (set-getD bs n 0) in
       let t : set os n o ≡ os = rw (← o-is) (set-getD os n 0) in
-      let whole : sumOf (set bs n k) (set os n o) ≤ length l' = rw (s, t, size') used in
+      let whole : sumOfLists (set bs n k) (set os n o) ≤ length l' = rw (s, t, size') used in
       let sum = parts-sum bs os n inside-bs inside-os in
       let r : cut g (set bs n k) (set os n o) l' ≡ set (cut g bs os l) n (g k o (drop a l')) =
       cut-replaced g loc bs os n k o l l' (drop a l') inside-bs inside-os
       (λ i z. other i (λ e. omega (arith, a-is, at)))
       (λ i z. rw a-is)
-      (λ i z. rw (a-is, k-is, o-is) (getD-drop (a + (k + o)) l' i 0 ∙ other (a + (k + o) + i) (λ e. omega (arith, at, some)) ∙ sym (getD-drop (a + (k + o)) l i 0)))
+      (λ i z. rw (a-is, k-is, o-is)
+      (getD-drop (a + (k + o)) l' i 0 ∙ other (a + (k + o) + i) (λ e. omega (arith, at, some))
+      ∙ sym (getD-drop (a + (k + o)) l i 0)))
       used whole (rw (length-drop a l', size') (omega (arith, used, sum, a-is, k-is, o-is))) in
       ap (λ z. cut g z os l') (sym s) ∙ ap (λ z. cut g (set bs n k) z l') (sym t) ∙ r
 
@@ -118,7 +125,8 @@ module _ (b₀ b : List ℤ) (n x p : ℕ) (f : Formed b₀) (h : n < nodeCount 
   boundary-now =
       let k : ℕ = blenWord b₀ n in
       let a : ℕ = startWord b₀ n in
-      agree-take k (drop a l') (drop a l) (rw (length-drop a l', size') (omega (arith, size, lists .within))) (rw (length-drop a l) (omega (arith, size, lists .within)))
+      agree-take k (drop a l') (drop a l) (rw (length-drop a l', size') (omega (arith, size, lists .within)))
+      (rw (length-drop a l) (omega (arith, size, lists .within)))
       (λ i z. getD-drop a l' i 0 ∙ other (a + i) (λ e. omega (arith, at)) ∙ sym (getD-drop a l i 0))
       ∙ unfold l in sym (lists .boundary)
 
@@ -127,16 +135,22 @@ module _ (b₀ b : List ℤ) (n x p : ℕ) (f : Formed b₀) (h : n < nodeCount 
 
   words-length : length words ≡ olenWord b₀ n
   unfolding words
-  words-length = length-take-le (olenWord b₀ n) (drop (startWord b₀ n + blenWord b₀ n) l) (rw (length-drop (startWord b₀ n + blenWord b₀ n) l) (omega (arith, size, lists .within)))
+  words-length =
+      length-take-le (olenWord b₀ n) (drop (startWord b₀ n + blenWord b₀ n) l)
+      (rw (length-drop (startWord b₀ n + blenWord b₀ n) l) (omega (arith, size, lists .within)))
 
   word-at : (i : ℕ) → i < olenWord b₀ n → getD words i 0 ≡ getD l (startWord b₀ n + blenWord b₀ n + i) 0
   unfolding words
   word-at i z = getD-take (olenWord b₀ n) (drop (startWord b₀ n + blenWord b₀ n) l) i 0 z ∙ getD-drop (startWord b₀ n + blenWord b₀ n) l i 0
 
-  word-now : (i : ℕ) → i < olenWord b₀ n → getD (take (olenWord b₀ n) (drop (blenWord b₀ n) (drop (startWord b₀ n) l'))) i 0 ≡ getD l' (startWord b₀ n + blenWord b₀ n + i) 0
+  word-now : (i : ℕ) → i < olenWord b₀ n
+      → getD (take (olenWord b₀ n) (drop (blenWord b₀ n) (drop (startWord b₀ n) l'))) i 0
+      ≡ getD l' (startWord b₀ n + blenWord b₀ n + i) 0
   word-now i z =
       let e : startWord b₀ n + (blenWord b₀ n + i) ≡ startWord b₀ n + blenWord b₀ n + i = omega arith in
-      getD-take (olenWord b₀ n) (drop (blenWord b₀ n) (drop (startWord b₀ n) l')) i 0 z ∙ getD-drop (blenWord b₀ n) (drop (startWord b₀ n) l') i 0 ∙ getD-drop (startWord b₀ n) l' (blenWord b₀ n + i) 0 ∙ ap (λ j. getD l' j 0) e
+      getD-take (olenWord b₀ n) (drop (blenWord b₀ n) (drop (startWord b₀ n) l')) i 0 z
+      ∙ getD-drop (blenWord b₀ n) (drop (startWord b₀ n) l') i 0 ∙ getD-drop (startWord b₀ n) l' (blenWord b₀ n + i) 0
+      ∙ ap (λ j. getD l' j 0) e
 
   length-now : length (take (olenWord b₀ n) (drop (blenWord b₀ n) (drop (startWord b₀ n) l'))) ≡ olenWord b₀ n
   length-now =
@@ -144,7 +158,8 @@ module _ (b₀ b : List ℤ) (n x p : ℕ) (f : Formed b₀) (h : n < nodeCount 
       (rw (length-drop (blenWord b₀ n) (drop (startWord b₀ n) l'), length-drop (startWord b₀ n) l', size') (omega (arith, size, lists .within)))
 
   -- of its stack the last word alone
-  stack-now : take (olenWord b₀ n) (drop (blenWord b₀ n) (drop (startWord b₀ n) l')) ≡ set words (olenWord b₀ n - 1) (x * 1024 + getD words (olenWord b₀ n - 1) 0 % 1024)
+  stack-now : take (olenWord b₀ n) (drop (blenWord b₀ n) (drop (startWord b₀ n) l'))
+      ≡ set words (olenWord b₀ n - 1) (x * 1024 + getD words (olenWord b₀ n - 1) 0 % 1024)
   unfolding l'
   stack-now =
       let o : ℕ = olenWord b₀ n in
@@ -160,7 +175,8 @@ module _ (b₀ b : List ℤ) (n x p : ℕ) (f : Formed b₀) (h : n < nodeCount 
             let then : getD l' (startWord b₀ n + blenWord b₀ n + i) 0 ≡ y = rw (here, v) (getD-set-same l p (x * 1024 + getD l p 0 % 1024) 0 within) in
             let last : getD (set words (o - 1) y) i 0 ≡ y = rw e (getD-set-same words (o - 1) y 0 (omega (arith, words-length, some))) in
             word-now i m ∙ then ∙ sym last
-        | no e ↦ word-now i m ∙ other (startWord b₀ n + blenWord b₀ n + i) (λ q. e (omega (arith, at, q, some))) ∙ sym (word-at i m) ∙ sym (getD-set-other words (o - 1) i y 0 e)
+        | no e ↦ word-now i m ∙ other (startWord b₀ n + blenWord b₀ n + i) (λ q. e (omega (arith, at, q, some)))
+            ∙ sym (word-at i m) ∙ sym (getD-set-other words (o - 1) i y 0 e)
       ])
 
   stack-is : stackFrom words ≡ overgrownOf (stateOf b₀) n
@@ -179,7 +195,8 @@ module _ (b₀ b : List ℤ) (n x p : ℕ) (f : Formed b₀) (h : n < nodeCount 
       stacks-cut bs os l' ∙ parts-now (λ b o l. stackFrom (take o (drop b l))) stack-local
       ∙ rw (← stacks-cut bs os l, stack-now, stack-top words (olenWord b₀ n - 1) x m, stack-is)
 
-  pub top-put : Rowed 18 b₀ b (set (storeOf b₀) p (x * 1024 + getD (storeOf b₀) p 0 % 1024)) → Becomes b₀ b (withOvergrown (stateOf b₀) n (withTop x (overgrownOf (stateOf b₀) n)))
+  pub top-put : Rowed 18 b₀ b (set (storeOf b₀) p (x * 1024 + getD (storeOf b₀) p 0 % 1024))
+      → Becomes b₀ b (withOvergrown (stateOf b₀) n (withTop x (overgrownOf (stateOf b₀) n)))
   unfolding Listed Wired rowsOf rows stateOf stateFrom withOvergrown withNodes bs os l l'
   top-put q = becomes-row q (f .listed) (f .wired) (rw (boundaries-now, stacks-now))
 

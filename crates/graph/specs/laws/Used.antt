@@ -14,18 +14,13 @@ use Rattle.graph.specs.Layout.{rowsOf, row, stateOf}
 use Rattle.graph.specs.Form.{Laid, Listed, totalFrom}
 use Rattle.graph.specs.laws.Row.{header-get, rows-length}
 use Rattle.graph.specs.laws.Sums.{sum-same}
-use Rattle.graph.specs.laws.List.{startWord, blenWord, olenWord, store-max, lists-of}
-use Rattle.graph.specs.laws.Cut.{sumOf, startAt, restAt, total-sum, starts-at, parts-sum, start-behind}
-
--- the lengths of the nodes' lists
-abbrev pub blens : List ℤ → List ℕ
-blens b = take (getD (row (rowsOf b) 0) 4 0) (row (rowsOf b) 16)
-
-abbrev pub olens : List ℤ → List ℕ
-olens b = take (getD (row (rowsOf b) 0) 4 0) (row (rowsOf b) 17)
+use Rattle.graph.specs.laws.List.{store-max, lists-of}
+use Rattle.graph.specs.inner.Lists.{olenWord, blenWord, startWord}
+use Rattle.graph.specs.laws.Cut.{total-sum, starts-at, parts-sum, start-behind}
+use Rattle.graph.specs.inner.Cut.{restAt, startAt, sumOfLists, blens, olens, Split}
 
 rest-last : (bs os : List ℕ) (n : ℕ) → n + 1 ≡ length bs → n + 1 ≡ length os → restAt bs os n ≡ 0
-unfolding restAt sumOf
+unfolding restAt sumOfLists
 rest-last [] os n h k = refl
 rest-last (b ∷ bs) [] n h k = refl
 rest-last (b ∷ []) (o ∷ os) zero h k = refl
@@ -39,25 +34,21 @@ unfolding sumBelow
 sum-first f zero = omega arith
 sum-first f (suc n) = let ih : sumBelow f n + f n ≡ f 0 + sumBelow (λ i. f (suc i)) n = sum-first f n in omega arith
 
-sum-lists : (bs os : List ℕ) → length bs ≡ length os → sumBelow (λ i. getD bs i 0 + getD os i 0) (length bs) ≡ sumOf bs os
-unfolding sumOf sumBelow
+sum-lists : (bs os : List ℕ) → length bs ≡ length os → sumBelow (λ i. getD bs i 0 + getD os i 0) (length bs) ≡ sumOfLists bs os
+unfolding sumOfLists sumBelow
 sum-lists [] os h = refl
 sum-lists (b ∷ bs) [] h = absurd (omega arith)
-sum-lists (b ∷ bs) (o ∷ os) h = sum-first (λ i. getD (b ∷ bs) i 0 + getD (o ∷ os) i 0) (length bs) ∙ (let ih : sumBelow (λ i. getD bs i 0 + getD os i 0) (length bs) ≡ sumOf bs os = sum-lists bs os (omega arith) in omega arith)
+sum-lists (b ∷ bs) (o ∷ os) h =
+    sum-first (λ i. getD (b ∷ bs) i 0 + getD (o ∷ os) i 0) (length bs)
+    ∙
+    (let ih : sumBelow (λ i. getD bs i 0 + getD os i 0) (length bs) ≡ sumOfLists bs os = sum-lists bs os (omega arith) in
+    omega arith)
 
 pub entries-none : (c : State) → nodeCount c ≡ 0 → entries c ≡ 0
 unfolding entries sumBelow
 entries-none c h = rw h
 
 -- ---- where the lists stand
-
--- node n: where its lists start, how many words they have, and how many stand behind them
-pub record Split (b : List ℤ) (n a y rest : ℕ) : Type 0 where
-  pub below : n < nodeCount (stateOf b)
-  pub is-start : a ≡ startAt (blens b) (olens b) n
-  pub is-old : y ≡ getD (blens b) n 0 + getD (olens b) n 0
-  pub is-rest : rest ≡ restAt (blens b) (olens b) n
-  pub sum : a + y + rest ≡ sumOf (blens b) (olens b)
 
 module _ (b : List ℤ) (q : Laid b) (f : Listed b) where
   pub count-is : getD (row (rowsOf b) 0) 4 0 ≡ nodeCount (stateOf b)
@@ -87,16 +78,25 @@ module _ (b : List ℤ) (q : Laid b) (f : Listed b) where
       ∙ omega arith
 
   -- all lists have as many words as there are entries
-  pub sum-entries : sumOf (blens b) (olens b) ≡ entries (stateOf b)
+  pub sum-entries : sumOfLists (blens b) (olens b) ≡ entries (stateOf b)
   unfolding entries entriesOf
   sum-entries =
       sym (sum-lists (blens b) (olens b) (length-bs ∙ sym length-os))
       ∙ ap (sumBelow (λ i. getD (blens b) i 0 + getD (olens b) i 0)) length-bs
-      ∙ sum-same (λ i. getD (blens b) i 0 + getD (olens b) i 0) (λ n. length (boundaryOf (stateOf b) n) + length (overgrownOf (stateOf b) n)) (nodeCount (stateOf b))
+      ∙ sum-same (λ i. getD (blens b) i 0 + getD (olens b) i 0)
+      (λ n. length (boundaryOf (stateOf b) n) + length (overgrownOf (stateOf b) n)) (nodeCount (stateOf b))
       (λ i h. let l = lists-of b i q f h in omega (arith, l .boundary-length, l .overgrown-length, blen-is i h, olen-is i h))
 
   parts : (n : ℕ) → n < nodeCount (stateOf b) → startWord b n + (blenWord b n + olenWord b n) + restAt (blens b) (olens b) n ≡ entries (stateOf b)
-  parts n h = omega (arith, sum-entries, parts-sum (blens b) (olens b) n (omega (arith, length-bs)) (omega (arith, length-os)), start-is n h, blen-is n h, olen-is n h)
+  parts n h =
+      omega (
+        arith,
+        sum-entries,
+        parts-sum (blens b) (olens b) n (omega (arith, length-bs)) (omega (arith, length-os)),
+        start-is n h,
+        blen-is n h,
+        olen-is n h,
+      )
 
   -- and the next list would start behind them
   pub entries-total : (n : ℕ) → n ≡ nodeCount (stateOf b) → entries (stateOf b) ≡ totalFrom 0 (take n (row (rowsOf b) 16)) (take n (row (rowsOf b) 17))
@@ -112,7 +112,8 @@ module _ (b : List ℤ) (q : Laid b) (f : Listed b) where
       let z = rest-last (blens b) (olens b) n (omega (arith, length-bs)) (omega (arith, length-os)) in
       omega (arith, parts n (omega arith), z)
 
-  pub split-of : (n a y rest : ℕ) → n < nodeCount (stateOf b) → a ≡ startWord b n → y ≡ blenWord b n + olenWord b n → a + y + rest ≡ entries (stateOf b) → Split b n a y rest
+  pub split-of : (n a y rest : ℕ) → n < nodeCount (stateOf b) → a ≡ startWord b n → y ≡ blenWord b n + olenWord b n
+      → a + y + rest ≡ entries (stateOf b) → Split b n a y rest
   split-of n a y rest h ea ey er = record {
     below = h;
     is-start = ea ∙ start-is n h;

@@ -20,10 +20,12 @@ use Rattle.graph.specs.laws.State.{and-left, and-right}
 use Rattle.graph.specs.Layout.{eOf, rowsOf, row, risingTo, stateOf}
 use Rattle.graph.specs.Form.{Laid}
 use Rattle.graph.specs.laws.Row.{rows-length}
-use Rattle.graph.specs.laws.SidesAt.{firstWord, last-is}
-use Rattle.graph.specs.Scans.{risesAt, wiredAt, standsAt, countedAt}
+use Rattle.graph.specs.laws.SidesAt.{last-is}
+use Rattle.graph.specs.inner.SidesAt.{firstWord}
+use Rattle.graph.specs.inner.Scans.{risesAt, wiredAt, standsAt, countedAt}
 use Rattle.graph.specs.laws.Scan.{all-fails, all-same, all-front}
-use Rattle.graph.specs.laws.Walk.{met, Walked, walked-more, walked-fails, walked-full, walked-all, walked-short}
+use Rattle.graph.specs.laws.Walk.{Walked, walked-more, walked-fails, walked-full, walked-all, walked-short}
+use Rattle.graph.specs.inner.Counts.{met}
 
 -- ---- the firsts
 
@@ -38,7 +40,8 @@ unfolding risesAt Laid offset
 rises-rising b q =
     let fs : List ℕ = row (rowsOf b) 4 in
     let l : length fs ≡ vertexCount (stateOf b) = rows-length b 4 (omega arith) ∙ sym (q .counted .vertices) in
-    all-same (risesAt b) (λ v. leb (getD fs v 0) (getD fs (suc v) (2 * eOf b))) (vertexCount (stateOf b)) (λ v h. ap (leb (firstWord b v)) (last-is b v q h ∙ ap (getD fs (suc v)) (q .counted .sides)))
+    all-same (risesAt b) (λ v. leb (getD fs v 0) (getD fs (suc v) (2 * eOf b))) (vertexCount (stateOf b))
+    (λ v h. ap (leb (firstWord b v)) (last-is b v q h ∙ ap (getD fs (suc v)) (q .counted .sides)))
     ∙ rw (← l) (rising-all (2 * eOf b) fs)
 
 -- ---- the sides at each vertex
@@ -62,9 +65,17 @@ pub record StandsAt (c : State) (v i s : ℕ) : Type 0 where
 
 pub stands-of : (c : State) (v i s : ℕ) → standsAt c v i s ≡ true → StandsAt c v i s
 unfolding standsAt
-stands-of c v i s h = record { place = ltb-true i (length (sidesAt c v)) (and-left (ltb i (length (sidesAt c v))) (eqb (getD (sidesAt c v) i 0) s) h); side = eqb-true (getD (sidesAt c v) i 0) s (and-right (ltb i (length (sidesAt c v))) (eqb (getD (sidesAt c v) i 0) s) h) }
+stands-of c v i s h =
+    record {
+      place = ltb-true i (length (sidesAt c v))
+          (and-left (ltb i (length (sidesAt c v))) (eqb (getD (sidesAt c v) i 0) s) h);
+      side = eqb-true (getD (sidesAt c v) i 0) s
+          (and-right (ltb i (length (sidesAt c v))) (eqb (getD (sidesAt c v) i 0) s) h);
+    }
 
-pub walk-more : (c : State) (s : ℕ) (next : List ℕ) → Walk c s next → endAt c s < length next → standsAt c (endAt c s) (getD next (endAt c s) 0) s ≡ true → Walk c (s + 1) (set next (endAt c s) (getD next (endAt c s) 0 + 1))
+pub walk-more : (c : State) (s : ℕ) (next : List ℕ) → Walk c s next → endAt c s < length next
+    → standsAt c (endAt c s) (getD next (endAt c s) 0) s ≡ true
+    → Walk c (s + 1) (set next (endAt c s) (getD next (endAt c s) 0 + 1))
 walk-more c s next w h e =
     let q = stands-of c (endAt c s) (getD next (endAt c s) 0) s e in
     rw add-one (walked-more (c .graph .end) (sidesAt c) s next w h (q .place) (q .side))
@@ -77,11 +88,18 @@ not-same xs ys n = go (same xs ys) refl
     go true e = absurd (n (same-eq xs ys e))
     go false e = refl
 
-pub walk-fails : (c : State) (s : ℕ) (next : List ℕ) → Walk c s next → s < sideCount c → endAt c s < vertexCount c → endAt c s < length next → standsAt c (endAt c s) (getD next (endAt c s) 0) s ≡ false → false ≡ allBelow (wiredAt c) (vertexCount c)
+pub walk-fails : (c : State) (s : ℕ) (next : List ℕ) → Walk c s next → s < sideCount c → endAt c s < vertexCount c
+    → endAt c s < length next → standsAt c (endAt c s) (getD next (endAt c s) 0) s ≡ false
+    → false ≡ allBelow (wiredAt c) (vertexCount c)
 unfolding wiredAt standsAt
-walk-fails c s next w l u h e = sym (all-fails (wiredAt c) (vertexCount c) (endAt c s) u (not-same _ _ (go (ltb (getD next (endAt c s) 0) (length (sidesAt c (endAt c s)))) refl e)))
+walk-fails c s next w l u h e =
+    sym
+    (all-fails (wiredAt c) (vertexCount c) (endAt c s) u
+    (not-same _ _ (go (ltb (getD next (endAt c s) 0) (length (sidesAt c (endAt c s)))) refl e)))
   where
-    go : (t : Bool) → ltb (getD next (endAt c s) 0) (length (sidesAt c (endAt c s))) ≡ t → t && eqb (getD (sidesAt c (endAt c s)) (getD next (endAt c s) 0) 0) s ≡ false → sidesAt c (endAt c s) ≢ sidesOf (c .graph .end) (endAt c s)
+    go : (t : Bool) → ltb (getD next (endAt c s) 0) (length (sidesAt c (endAt c s))) ≡ t
+        → t && eqb (getD (sidesAt c (endAt c s)) (getD next (endAt c s) 0) 0) s ≡ false
+        → sidesAt c (endAt c s) ≢ sidesOf (c .graph .end) (endAt c s)
     go true a b = walked-fails (c .graph .end) (sidesAt c) s next w l h (eqb-false _ _ b)
     go false a b = walked-full (c .graph .end) (sidesAt c) s next w l h (ltb-false _ _ a)
 

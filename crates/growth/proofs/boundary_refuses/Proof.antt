@@ -1,4 +1,4 @@
-use Rattle.graph.specs.Form.{sidesOk}
+use Rattle.graph.specs.inner.Form.{sidesOk}
 use borrow.Author.Needs.{needs}
 use Rattle.growth.proofs.boundary_refuses.Statement.{statement}
 use Rattle.growth.proofs.boundary_refuses.Tie as tie

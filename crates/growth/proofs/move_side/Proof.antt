@@ -1,5 +1,3 @@
-use native.Mathlib.Omega.{arith}
-use mathlib.Core.Path.{_≡_}
 use Rattle.growth.specs.Growth.{moveSide}
 use borrow.Author.Needs.{needs}
 use Rattle.growth.proofs.move_side.Statement.{statement}
@@ -12,7 +10,9 @@ move-number-requires : tie.Need-move-number-requires
 move-number-requires c κs = let s = c .before .before .before in rw (c .before .growth .ensures .0) (s .pre .2)
 
 set-growth-requires : tie.Need-set-growth-requires
-set-growth-requires c κs = let s = c .before .before .before .before in (s .pre .0, s .pre .1, rw (c .move-number .ensures, c .before .before .growth .ensures .0) (s .pre .3))
+set-growth-requires c κs =
+    let s = c .before .before .before .before in
+    (s .pre .0, s .pre .1, rw (c .move-number .ensures, c .before .before .growth .ensures .0) (s .pre .3))
 
 same-length : tie.Need-same-length
 same-length c = search needs

@@ -1,5 +1,5 @@
 use borrow.Author.Tests.{eq-eqb, ne-eqb}
-use Rattle.growth.specs.Moving.{numberRefuses}
+use Rattle.growth.specs.inner.Moving.{numberRefuses}
 use borrow.Author.Needs.{needs}
 use Rattle.growth.proofs.number_refuses.Statement.{statement}
 use Rattle.growth.proofs.number_refuses.Tie as tie

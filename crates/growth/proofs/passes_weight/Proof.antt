@@ -17,7 +17,15 @@ add-grown : tie.Need-add-grown
 add-grown c = search needs
 
 add-grown-2 : tie.Need-add-grown-2
-add-grown-2 c = let s = c .before .before .before in omega (arith, s .pre .1 .growths (s .args .s), s .pre .1 .growths (c .before .before .opposite .result), c .before .growth .ensures .0, c .growth2 .ensures .0)
+add-grown-2 c =
+    let s = c .before .before .before in
+    omega (
+      arith,
+      s .pre .1 .growths (s .args .s),
+      s .pre .1 .growths (c .before .before .opposite .result),
+      c .before .growth .ensures .0,
+      c .growth2 .ensures .0,
+    )
 
 holder-requires : tie.Need-holder-requires
 holder-requires c κs = search needs

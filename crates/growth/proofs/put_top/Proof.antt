@@ -5,7 +5,10 @@ use Rattle.growth.proofs.put_top.Statement.{statement}
 use Rattle.growth.proofs.put_top.Tie as tie
 
 set-amount-requires : tie.Need-set-amount-requires
-set-amount-requires c κs = let s = c .before .before .before in let p = s .pre .2 in (s .pre .0, s .pre .1, omega (arith, p .stack, c .before .if1 .taken), p .small (c .before .if1 .taken))
+set-amount-requires c κs =
+    let s = c .before .before .before in
+    let p = s .pre .2 in
+    (s .pre .0, s .pre .1, omega (arith, p .stack, c .before .if1 .taken), p .small (c .before .if1 .taken))
 
 same-length : tie.Need-same-length
 same-length c = search needs

@@ -1,5 +1,5 @@
-use mathlib.Core.Path.{_≡_, sym, _∙_}
-use Rattle.growth.specs.Moving.{refuses}
+use mathlib.Core.Path.{sym, _∙_}
+use Rattle.growth.specs.inner.Moving.{refuses}
 use borrow.Author.Needs.{needs}
 use Rattle.growth.proofs.refuses.Statement.{statement}
 use Rattle.growth.proofs.refuses.Tie as tie

@@ -1,5 +1,5 @@
 use borrow.Author.Tests.{eq-eqb, ne-eqb}
-use Rattle.growth.specs.Moving.{sideRefuses}
+use Rattle.growth.specs.inner.Moving.{sideRefuses}
 use borrow.Author.Needs.{needs}
 use Rattle.growth.proofs.side_refuses.Statement.{statement}
 use Rattle.growth.proofs.side_refuses.Tie as tie
@@ -22,11 +22,21 @@ returns c = rw (eq-eqb (c .before .before .args .k) 10 (c .before .if1 .taken)) 
 
 returns-2 : tie.Need-returns-2
 unfolding sideRefuses
-returns-2 c = rw (ne-eqb (c .before .before .before .args .k) 10 (c .before .before .if1 .left), eq-eqb (c .before .before .before .args .k) 12 (c .before .if2 .taken), c .growth .ensures .0)
+returns-2 c =
+    rw (
+      ne-eqb (c .before .before .before .args .k) 10 (c .before .before .if1 .left),
+      eq-eqb (c .before .before .before .args .k) 12 (c .before .if2 .taken),
+      c .growth .ensures .0,
+    )
 
 returns-3 : tie.Need-returns-3
 unfolding sideRefuses
-returns-3 c = rw (ne-eqb (c .before .before .before .args .k) 10 (c .before .before .if1 .left), ne-eqb (c .before .before .before .args .k) 12 (c .before .if2 .left), c .growth2 .ensures .0)
+returns-3 c =
+    rw (
+      ne-eqb (c .before .before .before .args .k) 10 (c .before .before .if1 .left),
+      ne-eqb (c .before .before .before .args .k) 12 (c .before .if2 .left),
+      c .growth2 .ensures .0,
+    )
 
 pub side-refuses-spec : {M : Type 1} → statement M
 side-refuses-spec =

@@ -39,7 +39,9 @@ grow-accepted c n d l u h =
     let e = any (λ s. ltb growthLimit (growthAt c s + l)) (boundaryOf c n) in
     let q = or-neither-left (a || b) e (p₂ .0) in
     record {
-      within = λ s m ne. ltb-false _ _ (not-both (not (eqb (holderAt c (opposite s)) (n + 1))) (ltb (weightOver c s) (grownOver c s + l)) (none-member (passesWeight c n l) (boundaryOf c n) s (p₁ .0) m) (rw (ne-eqb _ _ ne)));
+      within = λ s m ne. ltb-false _ _
+          (not-both (not (eqb (holderAt c (opposite s)) (n + 1))) (ltb (weightOver c s) (grownOver c s + l))
+          (none-member (passesWeight c n l) (boundaryOf c n) s (p₁ .0) m) (rw (ne-eqb _ _ ne)));
       dual = ltb-false _ _ (or-neither-left a b q);
       top = or-neither-right a b q;
       growth = λ s m. ltb-false _ _ (none-member (λ s. ltb growthLimit (growthAt c s + l)) (boundaryOf c n) s (or-neither-right (a || b) e (p₂ .0)) m);

@@ -16,13 +16,14 @@ use Rattle.graph.specs.State.{State, Overgrown, up, growthAt, dualOf, boundaryO
 use Rattle.graph.specs.Node.{Movable, NodeMovable, moved, movedTop, grownNode, nodeAt, topAmount, withTop}
 use Rattle.graph.specs.declared.dual_node.DualNode.{DualNode}
 use Rattle.graph.specs.Layout.{stateOf}
-use Rattle.graph.specs.Form.{Formed, Becomes, sidesOk}
+use Rattle.graph.specs.Form.{Formed}
+use Rattle.graph.specs.inner.Form.{Becomes, sidesOk}
 use Rattle.graph.specs.Open.{dualLimit, growthLimit}
 use Rattle.graph.specs.laws.State.{fold-more}
 use Rattle.graph.specs.laws.Row.{becomes-none, becomes-then}
 use Rattle.graph.specs.laws.Members.{by-test, clash, member-at, member-cons, distinct-head, distinct-tail}
 use Rattle.growth.specs.Growth.{passesLimit, fallsShort, growCheck, topIs, movedStack, moveSide, growApply}
-use Rattle.growth.specs.Moving.{numberRefuses, nodeRefuses, sideRefuses, refuses, moveNode, TopMoves, TopPut, SidesMovable, Growing, Prepared}
+use Rattle.growth.specs.inner.Moving.{numberRefuses, nodeRefuses, sideRefuses, refuses, moveNode, TopMoves, TopPut, SidesMovable, Growing, PreparedToMove}
 use Rattle.growth.specs.laws.Accepted.{GrowAccepted, grow-accepted, ShrinkAccepted, shrink-accepted}
 use Rattle.growth.specs.laws.Growth.{sides-moved, move-out}
 
@@ -69,12 +70,13 @@ moved-down : (d l x : ℕ) → d ≢ up → moved d l x ≡ x - l
 unfolding moved
 moved-down d l x e = rw (ne-eqb d up e)
 
-pub growing-of : (c : State) (n d l : ℕ) → Prepared c n → growCheck c n d l ≡ 0 → Growing c n d l
+pub growing-of : (c : State) (n d l : ℕ) → PreparedToMove c n → growCheck c n d l ≡ 0 → Growing c n d l
 growing-of c n d l p ok =
     elim (decEq d up) [
       | yes e ↦
           let g : GrowAccepted c n l = grow-accepted c n d l (eq-eqb d up e) ok in
-          let top : length (overgrownOf c n) ≢ 0 → topAmount (overgrownOf c n) + l ≤ dualLimit = λ h. ltb-false _ _ (sym (top-some (λ a. ltb dualLimit (a + l)) (overgrownOf c n) h) ∙ g .top) in
+          let top : length (overgrownOf c n) ≢ 0 → topAmount (overgrownOf c n) + l ≤ dualLimit =
+          λ h. ltb-false _ _ (sym (top-some (λ a. ltb dualLimit (a + l)) (overgrownOf c n) h) ∙ g .top) in
           record {
             dual = record { rises = λ u. omega (arith, g .dual); falls = λ u. absurd (u e) };
             dual-small = rw (moved-up d l (dualOf c n) e) (g .dual);
@@ -88,7 +90,8 @@ growing-of c n d l p ok =
           }
       | no e ↦
           let g : ShrinkAccepted c n l = shrink-accepted c n d l (ne-eqb d up e) ok in
-          let top : length (overgrownOf c n) ≢ 0 → l ≤ topAmount (overgrownOf c n) = λ h. ltb-false _ _ (sym (top-some (λ a. ltb a l) (overgrownOf c n) h) ∙ g .top) in
+          let top : length (overgrownOf c n) ≢ 0 → l ≤ topAmount (overgrownOf c n) =
+          λ h. ltb-false _ _ (sym (top-some (λ a. ltb a l) (overgrownOf c n) h) ∙ g .top) in
           record {
             dual = record { rises = λ u. absurd (e u); falls = λ u. g .dual };
             dual-small = rw (moved-down d l (dualOf c n) e) (omega (arith, p .readable .duals n));
@@ -109,7 +112,9 @@ unfolding withTop movedTop topAmount movedStack
 stack-moved d l [] = refl
 stack-moved d l (x ∷ o) = rw (ne-eqb (suc (length o)) 0 (λ e. absurd (omega arith)))
 
-top-fits : (c : State) (n d l : ℕ) → TopMoves c n d l → length (overgrownOf c n) ≢ 0 → topAmount (overgrownOf c n) < 9007199254740992 → movedTop d l (length (overgrownOf c n)) (topAmount (overgrownOf c n)) < 9007199254740992
+top-fits : (c : State) (n d l : ℕ) → TopMoves c n d l → length (overgrownOf c n) ≢ 0
+    → topAmount (overgrownOf c n) < 9007199254740992
+    → movedTop d l (length (overgrownOf c n)) (topAmount (overgrownOf c n)) < 9007199254740992
 unfolding movedTop
 top-fits c n d l g h k =
     rw (ne-eqb (length (overgrownOf c n)) 0 h)
@@ -119,7 +124,8 @@ top-fits c n d l g h k =
     ])
 
 -- a stack without entries is put back as it is
-pub top-still : (b : List ℤ) (n : ℕ) (x : DualNode) → Formed b → TopPut (stateOf b) n x → x .overgrown ≡ 0 → Becomes b b (withOvergrown (stateOf b) n (withTop (x .top) (overgrownOf (stateOf b) n)))
+pub top-still : (b : List ℤ) (n : ℕ) (x : DualNode) → Formed b → TopPut (stateOf b) n x → x .overgrown ≡ 0
+    → Becomes b b (withOvergrown (stateOf b) n (withTop (x .top) (overgrownOf (stateOf b) n)))
 unfolding withOvergrown withNodes withTop
 top-still b n x f p h =
     let e : withTop (x .top) (overgrownOf (stateOf b) n) ≡ overgrownOf (stateOf b) n = none (overgrownOf (stateOf b) n) (sym (p .stack) ∙ h) in
@@ -159,7 +165,9 @@ module _ (c : State) (n d l : ℕ) (g : Growing c n d l) where
     unfolding moveNode withDual withNodes
     grown-state = rw (grown-dual, grown-top, stack-moved d l (overgrownOf c n))
 
-    pub dual-then-top : {b₀ b₁ b : List ℤ} → Becomes b₀ b₁ (withDual c n (x .dual)) → Becomes b₁ b (withOvergrown (stateOf b₁) n (withTop (x .top) (overgrownOf (stateOf b₁) n))) → Becomes b₀ b (moveNode c n d l)
+    pub dual-then-top : {b₀ b₁ b : List ℤ} → Becomes b₀ b₁ (withDual c n (x .dual))
+        → Becomes b₁ b (withOvergrown (stateOf b₁) n (withTop (x .top) (overgrownOf (stateOf b₁) n)))
+        → Becomes b₀ b (moveNode c n d l)
     dual-then-top p q = rw (← grown-state) (becomes-then p (rw (p .state) at q))
 
 -- ---- the sides
@@ -197,9 +205,14 @@ module _ (b₀ b : List ℤ) (n d l i : ℕ) (p : Becomes b₀ b (movedTo (state
     next-movable s e = rw (e, same-boundary, same-growth) (g .side _ (member-at (boundaryOf (stateOf b₀) n) i 0 k))
 
     pub next-small : (s : ℕ) → s ≡ getD (boundaryOf (stateOf b) n) i 0 → moved d l (growthAt (stateOf b) s) < 9223372036854775808
-    next-small s e = rw (e, same-boundary, same-growth) (let h : moved d l (growthAt (stateOf b₀) (getD (boundaryOf (stateOf b₀) n) i 0)) ≤ growthLimit = g .side-small _ (member-at (boundaryOf (stateOf b₀) n) i 0 k) in omega arith)
+    next-small s e =
+        rw (e, same-boundary, same-growth)
+        (let h : moved d l (growthAt (stateOf b₀) (getD (boundaryOf (stateOf b₀) n) i 0))
+        ≤ growthLimit = g .side-small _ (member-at (boundaryOf (stateOf b₀) n) i 0 k) in
+        omega arith)
 
-    pub next-moved : (b' : List ℤ) (s : ℕ) → s ≡ getD (boundaryOf (stateOf b) n) i 0 → Becomes b b' (moveSide d l (stateOf b) s) → Becomes b₀ b' (movedTo (stateOf b₀) n d l (i + 1))
+    pub next-moved : (b' : List ℤ) (s : ℕ) → s ≡ getD (boundaryOf (stateOf b) n) i 0
+        → Becomes b b' (moveSide d l (stateOf b) s) → Becomes b₀ b' (movedTo (stateOf b₀) n d l (i + 1))
     next-moved b' s e q = record {
       formed = q .formed;
       state = q .state ∙ rw (e, same-boundary, p .state) (sym (fold-more (moveSide d l) (stateOf b₀) (boundaryOf (stateOf b₀) n) i 0 k));
@@ -215,7 +228,9 @@ pub none-moved : (b : List ℤ) (n d l : ℕ) → Formed b → Becomes b b (move
 unfolding fold
 none-moved b n d l f = record { formed = f; state = refl; vertices = refl; edges = refl; sides = refl; nodes = refl; len = refl }
 
-pub all-moved : (b₀ b : List ℤ) (n d l i : ℕ) → length (boundaryOf (stateOf b₀) n) ≤ i → Becomes b₀ b (movedTo (stateOf b₀) n d l i) → Becomes b₀ b (fold (moveSide d l) (stateOf b₀) (boundaryOf (stateOf b₀) n))
+pub all-moved : (b₀ b : List ℤ) (n d l i : ℕ) → length (boundaryOf (stateOf b₀) n) ≤ i
+    → Becomes b₀ b (movedTo (stateOf b₀) n d l i)
+    → Becomes b₀ b (fold (moveSide d l) (stateOf b₀) (boundaryOf (stateOf b₀) n))
 all-moved b₀ b n d l i h p = rw (take-all i (boundaryOf (stateOf b₀) n) h) at p
 
 -- the sides after the node
@@ -223,7 +238,9 @@ pub sides-after : (c : State) (n d l : ℕ) → SidesMovable c n d l → SidesMo
 unfolding moveNode withDual withOvergrown withNodes sidesOk
 sides-after c n d l g = record { sides = g .sides; once = g .once; side = g .side; side-small = g .side-small }
 
-pub node-then-sides : (b₀ b₁ b : List ℤ) (n d l : ℕ) → Becomes b₀ b₁ (moveNode (stateOf b₀) n d l) → Becomes b₁ b (fold (moveSide d l) (stateOf b₁) (boundaryOf (stateOf b₁) n)) → Becomes b₀ b (growApply (stateOf b₀) n d l)
+pub node-then-sides : (b₀ b₁ b : List ℤ) (n d l : ℕ) → Becomes b₀ b₁ (moveNode (stateOf b₀) n d l)
+    → Becomes b₁ b (fold (moveSide d l) (stateOf b₁) (boundaryOf (stateOf b₁) n))
+    → Becomes b₀ b (growApply (stateOf b₀) n d l)
 unfolding growApply moveNode withDual withOvergrown withNodes
 node-then-sides b₀ b₁ b n d l p q = record {
   formed = q .formed;

@@ -1,19 +1,18 @@
 -- What a scan that ends free says of each boundary side.
 use Prim.Native.Nat.{ℕ, zero, suc, _+_, _-_, _/_, _≤_, _<_, min}
 use native.Mathlib.Omega.{arith}
-use mathlib.Core.Path.{_≡_, refl, sym, ap, _∙_}
+use mathlib.Core.Path.{_≡_, refl, sym}
 use mathlib.Core.Logic.{_≢_}
-use mathlib.Core.Bool.{Bool, true, false, _&&_, _||_, not}
+use mathlib.Core.Bool.{Bool, true, false, _&&_}
 use mathlib.Core.List.{List, [], _∷_}
 use lib.IntN.{ℤ, pos, negsuc, negℤ, subℕ}
 use lib.Dec.{eqb, leb, ltb}
-use borrow.Author.Tests.{eqb-true, eqb-false, eq-eqb, ne-eqb, leb-true, le-leb, lt-ltb, le-ltb, ltb-true, ltb-false}
-use Rattle.graph.specs.Basic.{if_then_else_, fold, any, all, member}
-use Rattle.graph.specs.State.{State, opposite, passable, holderAt, endAt, growStateOf, boundaryOf, grownOver, weightOver, growing, shrinking, up}
+use borrow.Author.Tests.{eqb-false, ne-eqb, leb-true, le-leb, ltb-false}
+use Rattle.graph.specs.Basic.{fold, all, member}
+use Rattle.graph.specs.State.{State, opposite, passable, holderAt, endAt, growStateOf, boundaryOf, grownOver, weightOver, growing, shrinking}
 use Rattle.graph.specs.laws.State.{and-left, and-right, if-cases}
-use Rattle.graph.specs.laws.Members.{both, by-test, clash, or-cases, or-left, or-right, all-member, member-head, member-tail}
-use Rattle.length.specs.declared.Answer.{Answer}
-use Rattle.length.specs.Scan.{half, isZero, lesser, Look, skip, room, meets, gapOf, lookPeer, lookFree, lookHeld, lookGrow, look, Scan, open-ended, within, over, joined, scanStep}
+use Rattle.graph.specs.laws.Members.{both, by-test, clash}
+use Rattle.update_length.specs.Scan.{half, isZero, lesser, Look, skip, room, meets, gapOf, lookPeer, lookFree, lookHeld, lookGrow, look, Scan, open-ended, within, over, withLook, scanStep}
 
 -- ---- lengths
 
@@ -37,10 +36,12 @@ unfolding longAs lesser
 lesser-long m (pos a) (pos b) h = let k : m ≤ min a b = leb-true m (min a b) h in both (leb m a) (leb m b) (le-leb m a (omega arith)) (le-leb m b (omega arith))
 lesser-long m (pos a) (negsuc b) h = clash true refl (sym h)
 lesser-long m (negsuc a) (pos b) h = clash true refl (sym h)
-lesser-long m (negsuc a) (negsuc b) h = if-cases (λ (z : ℤ). longAs m z ≡ true → false && longAs m (negsuc b) ≡ true) (leb a b) (λ e k. clash true refl (sym k)) (λ e k. clash true refl (sym k)) h
+lesser-long m (negsuc a) (negsuc b) h =
+    if-cases (λ (z : ℤ). longAs m z ≡ true → false && longAs m (negsuc b) ≡ true) (leb a b) (λ e k. clash true refl (sym k))
+    (λ e k. clash true refl (sym k)) h
 
-join-long : (m : ℕ) (r : Scan) (k : Look) → scanLong m (joined r k) ≡ true → scanLong m r && lookLong m k ≡ true
-unfolding scanLong lookLong joined
+join-long : (m : ℕ) (r : Scan) (k : Look) → scanLong m (withLook r k) ≡ true → scanLong m r && lookLong m k ≡ true
+unfolding scanLong lookLong withLook
 join-long m (over a) k h = clash true refl (sym h)
 join-long m open-ended skip h = refl
 join-long m open-ended (room x) h = h
@@ -50,14 +51,16 @@ join-long m (within b) (room x) h = lesser-long m b x h
 join-long m (within b) (meets a) h = clash true refl (sym h)
 
 -- a scan that ends at least at m met only sides that say so
-pub scan-long : (m : ℕ) (c : State) (n d : ℕ) (r : Scan) (l : List ℕ) → scanLong m (fold (scanStep c n d) r l) ≡ true → scanLong m r && all (λ s. lookLong m (look c n d s)) l ≡ true
+pub scan-long : (m : ℕ) (c : State) (n d : ℕ) (r : Scan) (l : List ℕ) → scanLong m (fold (scanStep c n d) r l) ≡ true
+    → scanLong m r && all (λ s. lookLong m (look c n d s)) l ≡ true
 unfolding fold all scanStep
 scan-long m c n d r [] h = both (scanLong m r) true h refl
 scan-long m c n d r (s ∷ l) h =
     let k : Look = look c n d s in
-    let ih : scanLong m (joined r k) && all (λ s. lookLong m (look c n d s)) l ≡ true = scan-long m c n d (joined r k) l h in
-    let e : scanLong m r && lookLong m k ≡ true = join-long m r k (and-left (scanLong m (joined r k)) _ ih) in
-    both (scanLong m r) _ (and-left (scanLong m r) (lookLong m k) e) (both (lookLong m k) _ (and-right (scanLong m r) (lookLong m k) e) (and-right (scanLong m (joined r k)) _ ih))
+    let ih : scanLong m (withLook r k) && all (λ s. lookLong m (look c n d s)) l ≡ true = scan-long m c n d (withLook r k) l h in
+    let e : scanLong m r && lookLong m k ≡ true = join-long m r k (and-left (scanLong m (withLook r k)) _ ih) in
+    both (scanLong m r) _ (and-left (scanLong m r) (lookLong m k) e)
+    (both (lookLong m k) _ (and-right (scanLong m r) (lookLong m k) e) (and-right (scanLong m (withLook r k)) _ ih))
 
 -- ---- a side with room for m, above 0
 
@@ -103,7 +106,8 @@ held-long m c n s p ne q h =
 abbrev pub NoShrinkAcross : State → ℕ → Type 0
 NoShrinkAcross c n = (s p : ℕ) → member s (boundaryOf c n) ≡ true → holderAt c (opposite s) ≡ p + 1 → p ≢ n → growStateOf c p ≢ shrinking
 
-pub grow-long : (m : ℕ) (c : State) (n s : ℕ) → NoShrinkAcross c n → member s (boundaryOf c n) ≡ true → 0 < m → lookLong m (lookGrow c n s) ≡ true → holderAt c (opposite s) ≢ n + 1 → grownOver c s + m ≤ weightOver c s
+pub grow-long : (m : ℕ) (c : State) (n s : ℕ) → NoShrinkAcross c n → member s (boundaryOf c n) ≡ true → 0 < m
+    → lookLong m (lookGrow c n s) ≡ true → holderAt c (opposite s) ≢ n + 1 → grownOver c s + m ≤ weightOver c s
 unfolding lookGrow gapOf
 grow-long m c n s f i q h ne =
     let h₁ = rw (ne-eqb (holderAt c (opposite s)) (n + 1) ne) at h in

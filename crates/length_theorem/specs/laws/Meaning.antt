@@ -1,27 +1,25 @@
 -- The scan of the prepared state, told of the run.
-use Prim.Native.Nat.{ℕ, zero, suc, _+_, _≤_, _<_}
+use Prim.Native.Nat.{ℕ, suc, _+_, _≤_, _<_}
 use native.Mathlib.Omega.{arith}
-use mathlib.Core.Path.{_≡_, refl, sym, ap, subst, _∙_}
-use mathlib.Core.Logic.{_≢_, _⊎_, inl, inr, ⊎-elim}
-use mathlib.Core.Bool.{Bool, true, false}
+use mathlib.Core.Path.{_≡_, refl, sym, subst, _∙_}
+use mathlib.Core.Logic.{_≢_, _⊎_}
+use mathlib.Core.Bool.{Bool, true}
 use mathlib.Core.List.{List}
 use lib.IntN.{ℤ, pos}
 use borrow.Author.Tests.{le-leb}
-use Rattle.graph.specs.Basic.{fold, member}
-use Rattle.graph.specs.State.{State, defectVertex, opposite, nodeCount, endAt, holderAt, vertexHolderAt, classOf, growStateOf, dualOf, boundaryOf, grownOver, weightOver, virtualAt, growing, shrinking, up}
+use Rattle.graph.specs.Basic.{fold}
+use Rattle.graph.specs.State.{State, defectVertex, opposite, nodeCount, endAt, holderAt, classOf, growStateOf, dualOf, boundaryOf, grownOver, weightOver, virtualAt, growing, shrinking, up}
 use Rattle.graph.specs.Open.{Edge}
-use Rattle.graph.specs.laws.Members.{clash}
-use Rattle.length.specs.declared.Answer.{Answer}
-use Rattle.length.specs.declared.Answer.the-variants.{NonZeroGrow, Unlimited, Conflicting, TouchingVirtual, Refused}
-use Rattle.length.specs.Scan.{Look, meets, lookGrow, look, Scan, open-ended, within, over, scanStep, isEmpty, scanAnswer, scanBoundary, scan}
+use Rattle.update_length.specs.declared.Answer.{Answer}
+use Rattle.update_length.specs.declared.Answer.the-variants.{NonZeroGrow, Unlimited, Conflicting, TouchingVirtual, Refused}
+use Rattle.update_length.specs.Scan.{meets, lookGrow, look, Scan, open-ended, within, over, scanStep, isEmpty, scanAnswer, scanBoundary, scan}
 use Rattle.reachable.specs.laws.prepare.Preparation.{invariant-numbers}
-use Rattle.distance.specs.Graph.{Virtual, Walk}
 use Rattle.distance.specs.Distance.{unreachable, dist}
 use Rattle.distance.specs.laws.Distance.{unreachable-is, dist-walk}
 use Rattle.opened_graph.specs.OpenedGraph.{openedGraph, PositiveWeights}
-use Rattle.table.specs.Runs.{Run, end}
-use Rattle.table.specs.laws.Runs.{defects-only}
-use Rattle.table.specs.laws.Depth.{DefectsOnly, holder-below, vertex-inside}
+use Rattle.table_theorem.specs.Runs.{Run, end}
+use Rattle.table_theorem.specs.laws.Runs.{defects-only}
+use Rattle.table_theorem.specs.laws.Depth.{DefectsOnly, vertex-inside}
 use Rattle.length_theorem.specs.Meaning.{Obstacle, conflicts, touches, growingLength, DefectAt, NoneShrinks, Tight, with-node, with-virtual, ConflictMeans, VirtualMeans, Keeps, FreeBy}
 use Rattle.length_theorem.specs.laws.Long.{longAs, scanLong}
 use Rattle.length_theorem.specs.laws.Met.{Closed, Saw, conflict, virtual, unprepared, Met, saw, Ended, nothing-near, free-by, ended-at, scan-ended}
@@ -95,7 +93,10 @@ module _ {v : ℕ} {edges : List Edge} {virtuals : List ℕ} (positive : Positiv
 
   -- what the side says at which the scan ended
   met-saw : {a : Answer} (m : Met ready n up (boundaryOf ready n) a) → Saw ready n (m .side) (meets a)
-  met-saw m = subst (Saw ready n (m .side)) (looks (m .side) ∙ m .says) (saw ready n (m .side) (boundary-within (openedGraph v edges virtuals) ready only-defects n x inside class-is (m .side) (m .listed)))
+  met-saw m =
+      subst (Saw ready n (m .side)) (looks (m .side) ∙ m .says)
+      (saw ready n (m .side)
+      (boundary-within (openedGraph v edges virtuals) ready only-defects n x inside class-is (m .side) (m .listed)))
     where
       looks : (s : ℕ) → lookGrow ready n s ≡ look ready n up s
       looks s = unfold look in refl
@@ -166,7 +167,8 @@ module _ {v : ℕ} {edges : List Edge} {virtuals : List ℕ} (positive : Positiv
         record {
           nodes = λ p z k ne d walk.
               rw (← dual-same r n n (at .inside), ← dual-same r n p (d .inside))
-              (keeps-node g ready only-defects n x inside class-is none-ready l above long p z k ne (rw (count-same r n) (d .inside)) (class-same r n p (d .inside) ∙ d .class) walk);
+              (keeps-node g ready only-defects n x inside class-is none-ready l above long p z k ne
+              (rw (count-same r n) (d .inside)) (class-same r n p (d .inside) ∙ d .class) walk);
           touching = λ u k b marked walk.
               rw (← dual-same r n n (at .inside)) (keeps-virtual g ready only-defects n x inside class-is none-ready l above long u k marked walk);
         }

@@ -1,19 +1,19 @@
 -- What a growing scan meets: the side at which it ended, and what that side says.
-use Prim.Native.Nat.{ℕ, zero, suc, _+_, _-_, _/_, _≤_, _<_, min}
+use Prim.Native.Nat.{ℕ, zero, suc, _+_, _-_, _/_, _≤_, min}
 use native.Mathlib.Omega.{arith}
-use mathlib.Core.Path.{_≡_, refl, sym, ap, _∙_}
+use mathlib.Core.Path.{_≡_, refl, sym, ap}
 use mathlib.Core.Logic.{_≢_, _⊎_, inl, inr, ⊎-elim}
-use mathlib.Core.Bool.{Bool, true, false, not}
+use mathlib.Core.Bool.{Bool, true, false}
 use mathlib.Core.List.{List, [], _∷_}
-use lib.IntN.{ℤ, pos, negsuc, subℕ}
-use lib.Dec.{eqb, ltb}
+use lib.IntN.{pos, negsuc}
+use lib.Dec.{eqb}
 use borrow.Author.Tests.{eqb-true, eqb-false, ne-eqb, le-ltb}
-use Rattle.graph.specs.Basic.{if_then_else_, fold, member}
-use Rattle.graph.specs.State.{State, opposite, passable, endAt, holderAt, virtualAt, growStateOf, boundaryOf, grownOver, weightOver, growing, shrinking, up}
+use Rattle.graph.specs.Basic.{fold, member}
+use Rattle.graph.specs.State.{State, opposite, passable, endAt, holderAt, virtualAt, growStateOf, grownOver, weightOver, growing, shrinking, up}
 use Rattle.graph.specs.laws.Members.{by-test, clash, member-head, member-tail}
-use Rattle.length.specs.declared.Answer.{Answer}
-use Rattle.length.specs.declared.Answer.the-variants.{Conflicting, TouchingVirtual, Refused}
-use Rattle.length.specs.Scan.{half, isZero, lesser, Look, skip, room, meets, gapOf, lookPeer, lookFree, lookHeld, lookGrow, look, Scan, open-ended, within, over, joined, scanStep}
+use Rattle.update_length.specs.declared.Answer.{Answer}
+use Rattle.update_length.specs.declared.Answer.the-variants.{Conflicting, TouchingVirtual, Refused}
+use Rattle.update_length.specs.Scan.{half, isZero, lesser, Look, skip, room, meets, gapOf, lookPeer, lookFree, lookHeld, lookGrow, look, Scan, open-ended, within, over, withLook, scanStep}
 
 -- ---- where it ended
 
@@ -27,8 +27,8 @@ further : {c : State} {n d s : ℕ} {l : List ℕ} {a : Answer} → Met c n d l 
 further {s = s} {l = l} m = record { side = m .side; listed = member-tail (m .side) s l (m .listed); says = m .says }
 
 -- of one step
-joined-over : (r : Scan) (k : Look) (a : Answer) → joined r k ≡ over a → (r ≡ over a) ⊎ (k ≡ meets a)
-unfolding joined
+joined-over : (r : Scan) (k : Look) (a : Answer) → withLook r k ≡ over a → (r ≡ over a) ⊎ (k ≡ meets a)
+unfolding withLook
 joined-over (over b) k a h = inl h
 joined-over open-ended skip a h = inl h
 joined-over open-ended (room x) a h = absurd (no h)
@@ -66,7 +66,7 @@ scan-met c n d r (s ∷ l) a h =
     ⊎-elim
     (λ e. ⊎-elim inl (λ k. inr (record { side = s; listed = member-head s l; says = k })) (joined-over r (look c n d s) a e))
     (λ (m : Met c n d l a). inr (further m))
-    (scan-met c n d (joined r (look c n d s)) l a h)
+    (scan-met c n d (withLook r (look c n d s)) l a h)
 
 -- ---- what one side says
 
@@ -137,8 +137,8 @@ aboveZero (within (pos (suc l))) = true
 aboveZero (within (negsuc l)) = false
 aboveZero (over a) = true
 
-joined-above : (c : State) (n s : ℕ) (r : Scan) (k : Look) → aboveZero r ≡ true → Saw c n s k → aboveZero (joined r k) ≡ true
-unfolding aboveZero joined lesser
+joined-above : (c : State) (n s : ℕ) (r : Scan) (k : Look) → aboveZero r ≡ true → Saw c n s k → aboveZero (withLook r k) ≡ true
+unfolding aboveZero withLook lesser
 joined-above c n s (over a) k h w = refl
 joined-above c n s open-ended skip h w = refl
 joined-above c n s open-ended (room x) h (left l) = refl
@@ -160,7 +160,8 @@ scan-above : (c : State) (n : ℕ) (r : Scan) (l : List ℕ) → aboveZero r ≡
 unfolding fold scanStep look
 scan-above c n r [] h f = h
 scan-above c n r (s ∷ l) h f =
-    scan-above c n (joined r (lookGrow c n s)) l (joined-above c n s r (lookGrow c n s) h (saw c n s (f s (member-head s l)))) (λ t m. f t (member-tail t s l m))
+    scan-above c n (withLook r (lookGrow c n s)) l
+    (joined-above c n s r (lookGrow c n s) h (saw c n s (f s (member-head s l)))) (λ t m. f t (member-tail t s l m))
 
 -- what a growing scan of the list ends with
 pub data Ended (c : State) (n : ℕ) (l : List ℕ) : Scan → Type 0 where

@@ -1,30 +1,26 @@
 -- A length that prepares first is a length in the state after one call more: the preparation. Nodes and history are the same there.
 use Prim.Native.Nat.{ℕ, _+_, _<_}
-use native.Mathlib.Omega.{arith}
 use mathlib.Core.Path.{_≡_, refl, sym, ap, _∙_}
 use mathlib.Core.Logic.{_≢_}
-use mathlib.Core.Bool.{Bool, true, false, _&&_}
+use mathlib.Core.Bool.{true}
 use mathlib.Core.List.{List, [], _∷_, _++_}
-use lib.IntN.{ℤ, pos}
+use lib.IntN.{pos}
 use lib.Dec.{eqb, ltb}
-use lib.ListN.{length}
 use borrow.Author.Tests.{eqb-true}
-use Rattle.graph.specs.Basic.{if_then_else_}
-use Rattle.graph.specs.State.{State, nodeCount, classOf, growStateOf, dualOf, boundaryOf, up}
+use Rattle.graph.specs.State.{State, nodeCount, classOf, growStateOf, dualOf, up}
 use Rattle.graph.specs.Open.{Edge}
 use Rattle.graph.specs.laws.Members.{by-test}
 use Rattle.pass.specs.Prepare.{prepareNode}
-use Rattle.length.specs.declared.Answer.{Answer}
-use Rattle.length.specs.declared.Answer.the-variants.{Refused}
-use Rattle.length.specs.Answer.{Reply, says}
-use Rattle.length.specs.Scan.{scan}
+use Rattle.update_length.specs.declared.Answer.the-variants.{Refused}
+use Rattle.update_length.specs.Answer.{Reply, says}
+use Rattle.update_length.specs.Scan.{scan}
 use Rattle.calls.specs.Refuse.{storeShort, nodeRefusal, unless}
-use Rattle.calls.specs.Calls.{Call, Prepare, respond, response, prepareDualNodeGrowth, readied, maxUpdateLength}
+use Rattle.calls.specs.Calls.{Prepare, respond, response, prepareDualNodeGrowth, readied, maxUpdateLength}
 use Rattle.reachable.specs.Reachable.{after}
-use Rattle.table.specs.History.{entryAt, recorded, historyFrom, noBlossom, noBlossoms}
-use Rattle.table.specs.Runs.{Run, start, end, history, SameNodes}
-use Rattle.table.specs.Theorems.{nodes-are-recorded}
-use Rattle.table.specs.laws.Append.{after-append, history-append, blossoms-append}
+use Rattle.table_theorem.specs.History.{recorded, historyFrom, noBlossom, noBlossoms}
+use Rattle.table_theorem.specs.Runs.{Run, start, end, history, SameNodes}
+use Rattle.table_theorem.specs.Theorems.{nodes-are-recorded}
+use Rattle.table_theorem.specs.laws.Append.{after-append, history-append, blossoms-append}
 use Rattle.length_theorem.specs.Meaning.{growingLength}
 
 -- a reply that is no refusal

@@ -1,33 +1,29 @@
 -- What the scan of a prepared node says of distances: in a state without blossoms, with positive weights, whose sides are all prepared.
-use Prim.Native.Nat.{ℕ, zero, suc, _+_, _-_, _≤_, _<_}
+use Prim.Native.Nat.{ℕ, _+_, _-_, _≤_, _<_}
 use native.Mathlib.Omega.{arith}
 use native.Mathlib.Decide.{ℕ-discrete as decEq}
-use mathlib.Core.Path.{_≡_, refl, sym, ap, subst, _∙_}
+use mathlib.Core.Path.{_≡_, sym, ap, _∙_}
 use mathlib.Core.Logic.{_≢_, _⊎_, inl, inr, ⊎-elim, by-cases}
-use mathlib.Core.Bool.{Bool, true, false, _&&_}
-use mathlib.Core.List.{List}
-use lib.IntN.{ℤ, pos}
-use lib.ListN.{length}
-use Rattle.graph.specs.Basic.{fold, member, all}
+use mathlib.Core.Bool.{true}
+use Rattle.graph.specs.Basic.{fold, member}
 use Rattle.graph.specs.State.{State, defectVertex, opposite, vertexCount, sideCount, nodeCount, endAt, growthAt, holderAt, vertexHolderAt, virtualAt, classOf, growStateOf, dualOf, boundaryOf, grownOver, weightOver, growing, shrinking, up}
 use Rattle.graph.specs.laws.State.{opposite-opposite, and-right}
 use Rattle.graph.specs.laws.Members.{all-member}
-use Rattle.length.specs.declared.Answer.the-variants.{Conflicting, TouchingVirtual}
-use Rattle.length.specs.Scan.{Look, meets, lookGrow, look, open-ended, scanStep}
+use Rattle.update_length.specs.Scan.{lookGrow, look, open-ended, scanStep}
 use Rattle.reachable.specs.laws.prepare.Preparation.{invariant-numbers}
 use Rattle.reachable.specs.laws.state.Numbers.{numbers-end}
 use Rattle.reachable.specs.laws.WithoutBlossoms.{side-holder, border-listed, border-side}
-use Rattle.distance.specs.Graph.{Graph, sides, near, across, weight, Virtual, Walk, step}
+use Rattle.distance.specs.Graph.{WeightedGraph, sides, near, across, weight, Virtual, Walk}
 use Rattle.distance.specs.Distance.{unreachable, dist}
 use Rattle.distance.specs.laws.Distance.{unreachable-is, dist-sym, dist-triangle, dist-edge, dist-least, walk-reached}
 use Rattle.distance.specs.laws.Leaving.{Leaving}
 use Rattle.opened_graph.specs.laws.Graph.{opposite-inside}
-use Rattle.table.specs.laws.Depth.{DefectNode, DefectsOnly, holder-below, vertex-inside, depth-is, far-off}
-use Rattle.table.specs.laws.Feasible.{leaves-at, left-inside, left-near, left-far, room-far, room-apart, leaving, nodes-apart}
+use Rattle.table_theorem.specs.laws.Depth.{DefectsOnly, holder-below, vertex-inside, depth-is, far-off}
+use Rattle.table_theorem.specs.laws.Feasible.{leaves-at, left-inside, left-near, left-far, room-far, room-apart, leaving, nodes-apart}
 use Rattle.length_theorem.specs.laws.Long.{scanLong, lookLong, scan-long, grow-long}
 use Rattle.length_theorem.specs.laws.Met.{Closed, Within}
 
-module _ (g : Graph) (c : State) (p : DefectsOnly g c) (n x : ℕ) (b : n < nodeCount c) (at : classOf c n ≡ defectVertex x) where
+module _ (g : WeightedGraph) (c : State) (p : DefectsOnly g c) (n x : ℕ) (b : n < nodeCount c) (at : classOf c n ≡ defectVertex x) where
   -- ---- the listed sides
 
   -- a listed side stands at a vertex that the node holds
@@ -94,7 +90,8 @@ module _ (g : Graph) (c : State) (p : DefectsOnly g c) (n x : ℕ) (b : n < node
         far-grown : dist g z (across g s) + growthAt c (opposite s) ≡ dualOf c q
         far-grown =
             let e : endAt c (opposite s) ≡ across g s = p .graph .across-is s in
-            let d : dist g z (across g s) ≡ p .good .labels .depth (endAt c (opposite s)) = ap (dist g z) (sym e) ∙ depth-is g c p q z in-q to (endAt c (opposite s)) far in
+            let d : dist g z (across g s) ≡ p .good .labels .depth (endAt c (opposite s)) =
+            ap (dist g z) (sym e) ∙ depth-is g c p q z in-q to (endAt c (opposite s)) far in
             omega (arith, border-side c (p .good) (p .outer) q z in-q to (opposite s) (opposite-below s in-s) far back .0)
 
         -- the walk over the edge is at least as long as the distance

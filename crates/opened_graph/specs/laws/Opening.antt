@@ -18,7 +18,6 @@ use Rattle.graph.specs.laws.Shape.{length-ends}
 use Rattle.graph.specs.laws.Opened.{getD-tabled, EndsAt, ends-at, accepted}
 use Rattle.distance.specs.Graph.{WellFormed, Positive, near, across, weight}
 use Rattle.distance.specs.Nearest.{VirtualInReach, ReachesVirtual}
-use Rattle.distance.specs.laws.Distance.{walk-reached}
 use Rattle.opened_graph.specs.OpenedGraph.{openedGraph, SameVertices, PositiveWeights}
 use Rattle.opened_graph.specs.laws.Graph.{opposite-same, SameGraph}
 
@@ -36,9 +35,13 @@ size-within v e n l h =
     leb-true v 1024 (and-right a b h₅)
 
 -- the graph depends only on which vertices are virtual
-pub one-graph : (v : ℕ) (edges : List Edge) (virtuals others : List ℕ) → SameVertices v virtuals others → openedGraph v edges virtuals ≡ openedGraph v edges others
+pub one-graph : (v : ℕ) (edges : List Edge) (virtuals others : List ℕ) → SameVertices v virtuals others
+    → openedGraph v edges virtuals ≡ openedGraph v edges others
 unfolding openedGraph
-one-graph v edges virtuals others same = ap (λ (l : List ℕ). record { size = v; ends = endsOf edges; weights = map (λ (e : Edge). e .weight) edges; virtual = l }) flags
+one-graph v edges virtuals others same =
+    ap
+    (λ (l : List ℕ). record { size = v; ends = endsOf edges; weights = map (λ (e : Edge). e .weight) edges; virtual = l })
+    flags
   where
     flag : (a : ℕ) → a < v → flagIn virtuals a ≡ flagIn others a
     flag a b = unfold flagIn in (rw (same a b))
@@ -88,7 +91,9 @@ module _ (v : ℕ) (edges : List Edge) (virtuals : List ℕ) where
           (λ q. let r : 2 * (t / 2) + 1 ≡ t = omega arith in rw r at (edge-of t h .right));
       apart = λ t h. rw (← opposite-same t) (by-parity (getD (endsOf edges) t 0 ≢ getD (endsOf edges) (opposite t) 0) t
           (λ q. let r : 2 * (t / 2) ≡ t = omega arith in rw (opposite-even t q) (rw r at (edge-of t h .differ)))
-          (λ q. let r : 2 * (t / 2) + 1 ≡ t = omega arith in let k : 2 * (t / 2) ≡ t - 1 = omega arith in rw (opposite-odd t q) (λ z. rw (r, k) at (edge-of t h .differ) (sym z))));
+          (λ q. let r : 2 * (t / 2) + 1 ≡ t = omega arith in
+          let k : 2 * (t / 2) ≡ t - 1 = omega arith in
+          rw (opposite-odd t q) (λ z. rw (r, k) at (edge-of t h .differ) (sym z))));
       light = λ t h. edge-of t h .weight;
       small = size-within v e n l (accepted v e n l edges virtuals fits opening .sizes);
     }

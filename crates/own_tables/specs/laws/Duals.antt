@@ -9,13 +9,13 @@ use lib.IntN.{pos}
 use lib.ListN.{length}
 use borrow.Author.Tests.{eq-eqb, ne-eqb}
 use Rattle.graph.specs.Word.{toNat}
-use Rattle.table.specs.History.{Entry, History, entryAt, dualAt, natural}
-use Rattle.table_check.specs.Verdict.{dualOf}
+use Rattle.table_theorem.specs.History.{Entry, History, entryAt, dualAt, natural}
+use Rattle.table_check.specs.Verdict.{givenDualOf}
 
 -- where no dual variable is below 0
 pub duals-agree : (h : History) (a : ℕ) → ((n : ℕ) → n < length h → entryAt h n .y ≡ pos (natural (entryAt h n .y)))
-    → dualOf (map (λ (x : Entry). x .vertex) h) (map toNat (map (λ (x : Entry). x .y) h)) a ≡ natural (dualAt h a)
-unfolding dualOf dualAt natural toNat
+    → givenDualOf (map (λ (x : Entry). x .vertex) h) (map toNat (map (λ (x : Entry). x .y) h)) a ≡ natural (dualAt h a)
+unfolding givenDualOf dualAt natural toNat
 duals-agree [] a f = refl
 duals-agree (x ∷ h) a f =
     by-cases (ℕ-discrete a (x .vertex))

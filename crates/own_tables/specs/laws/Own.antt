@@ -19,9 +19,10 @@ use Rattle.graph.specs.Open.{Edge, dualLimit, growthLimit, sizesOk, edgeOk}
 use Rattle.graph.specs.Opening.{edgesIn}
 use Rattle.graph.specs.laws.Size.{SizesIn, sizes-in}
 use Rattle.graph.specs.laws.Scan.{list-from}
-use Rattle.graph.specs.laws.Opened.{getD-tabled, Accepted, accepted}
+use Rattle.graph.specs.laws.Opened.{getD-tabled, accepted}
+use Rattle.graph.specs.inner.Opened.{OpeningAccepted}
 use Rattle.graph.specs.laws.Members.{both, by-test, length-below, distinct-cons}
-use Rattle.memory.specs.laws.Open.{edges-count}
+use Rattle.open_graph.specs.laws.Open.{edges-count}
 use Rattle.calls.specs.Calls.{growthTable}
 use Rattle.reachable.specs.laws.prepare.Preparation.{invariant-numbers}
 use Rattle.reachable.specs.laws.WithoutBlossoms.{defect-vertex-held}
@@ -33,15 +34,15 @@ use Rattle.distance.specs.Theorems.{distance-bounded, nearest-virtual-vertex, n
 use Rattle.distance.specs.laws.Distance.{dist-capped}
 use Rattle.opened_graph.specs.OpenedGraph.{openedGraph, PositiveWeights}
 use Rattle.opened_graph.specs.laws.Opening.{weights-positive}
-use Rattle.table.specs.History.{Entry, noEntry, entryAt, dualAt, natural, dualsOf}
-use Rattle.table.specs.Runs.{Run, end, history}
-use Rattle.table.specs.Theorems.{table-is-from-distances}
-use Rattle.table.specs.laws.Depth.{DefectsOnly, vertex-inside, far-off}
-use Rattle.table.specs.laws.Feasible.{nodes-apart}
-use Rattle.table.specs.laws.Runs.{defects-only, end-matches}
+use Rattle.table_theorem.specs.History.{Entry, noEntry, entryAt, dualAt, natural, dualsOf}
+use Rattle.table_theorem.specs.Runs.{Run, end, history}
+use Rattle.table_theorem.specs.Theorems.{table-is-from-distances}
+use Rattle.table_theorem.specs.laws.Depth.{DefectsOnly, vertex-inside, far-off}
+use Rattle.table_theorem.specs.laws.Feasible.{nodes-apart}
+use Rattle.table_theorem.specs.laws.Runs.{defects-only, end-matches}
 use Rattle.table_check.specs.declared.Verdict.the-variants.{Yes}
 use Rattle.table_check.specs.Handed.{distanceLimit, distanceOf, distanceIn, rowOf, Handed, handed}
-use Rattle.table_check.specs.Verdict.{dualOf as dualByVertex, dualsByVertex, Right, sizesRight, lengthsRight, graphInRange, defectsInRange, distancesInRange, numbersRight, tableRefusal, tableVerdict}
+use Rattle.table_check.specs.Verdict.{givenDualOf as dualByVertex, dualsByVertex, Right, sizesRight, lengthsRight, graphInRange, defectsInRange, distancesInRange, numbersRight, tableRefusal, tableVerdict}
 use Rattle.table_check.specs.Theorems.{yes-exactly}
 use Rattle.table_check.specs.laws.Members.{place-of}
 use Rattle.own_tables.specs.Own.{distanceWord, Own}
@@ -209,7 +210,7 @@ module _ {v : ℕ} {edges : List Edge} {virtuals : List ℕ} (positive : Positiv
 
   -- ---- nothing refuses it
 
-  opened-facts : Accepted v (r .edgeNumber) (r .nodeLimit) (r .storeLimit) edges virtuals (r .fits)
+  opened-facts : OpeningAccepted v (r .edgeNumber) (r .nodeLimit) (r .storeLimit) edges virtuals (r .fits)
   opened-facts = accepted v (r .edgeNumber) (r .nodeLimit) (r .storeLimit) edges virtuals (r .fits) (r .opening)
 
   sizes : SizesIn v (r .edgeNumber) (r .nodeLimit) (r .storeLimit)

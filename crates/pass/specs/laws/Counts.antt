@@ -1,22 +1,23 @@
 -- A pass that calls for another has taken a free vertex, or released a held one: the number of free vertices tells.
 use Prim.Native.Nat.{ℕ, zero, suc, _+_, _-_, _≤_, _<_}
-use native.Mathlib.Numerals.{add-one}
 use native.Mathlib.Omega.{arith}
-use mathlib.Core.Path.{_≡_, refl, sym, ap, _∙_}
+use mathlib.Core.Path.{_≡_, refl, ap}
 use mathlib.Core.Logic.{_≢_}
-use mathlib.Core.Bool.{Bool, true, false, _&&_, _||_}
-use mathlib.Core.List.{List, [], _∷_, _++_}
-use lib.Dec.{eqb, leb}
-use lib.ListN.{length, getD, set, length-set}
+use mathlib.Core.Bool.{Bool, true, false, _&&_}
+use mathlib.Core.List.{List, [], _∷_}
+use lib.Dec.{eqb}
+use lib.ListN.{length, getD, set}
 use borrow.Author.Tests.{eqb-true, eqb-false, eq-eqb, ne-eqb}
 use Rattle.graph.specs.Basic.{if_then_else_, fold, member}
-use Rattle.graph.specs.State.{State, Vertices, Overgrown, opposite, endAt, growthAt, holderAt, grandsonAt, sidesAt, vertexHolderAt, defectAt, boundaryOf, overgrownOf, weightOver, withVertices, withSides, withNodes, withHolder, withGrandson, withVertexHolder, withVertexGrandson, withBoundary, withOvergrown, heldSide, freeSide, heldVertex, freeVertex}
-use Rattle.graph.specs.laws.State.{if-both, if-cases, fold-keeps, Kept}
+use Rattle.graph.specs.State.{State, Vertices, opposite, endAt, growthAt, holderAt, grandsonAt, sidesAt, vertexHolderAt, defectAt, boundaryOf, overgrownOf, withVertices, withSides, withHolder, withGrandson, withVertexHolder, withVertexGrandson, heldSide, freeSide, heldVertex, freeVertex}
+use Rattle.graph.specs.laws.State.{if-both, if-cases, fold-keeps}
+use Rattle.graph.specs.inner.Kept.{SameButHolders}
 use Rattle.graph.specs.laws.Members.{by-test}
-use Rattle.pass.specs.Work.{Work, onState, keep, keepOnce, note, push, callAnother, startPass, finishPass}
+use Rattle.pass.specs.Work.{Work, onState, keep, keepOnce, note, push, callAnother, startPass}
 use Rattle.pass.specs.Grow.{reaches, growStep, takeSide, takeVertex, takeStep, growScanned, growPass}
-use Rattle.pass.specs.Shrink.{emptyTops, belowTops, dropSide, dropStep, shrinkStep, closed, releaseSide, releaseStep, dropped, shrinkScanned, shrinkPass}
-use Rattle.pass.specs.laws.Passes.{Keeps, keeps-take-step, grow-scanned-keeps, grow-pass-keeps}
+use Rattle.pass.specs.Shrink.{emptyTops, dropSide, dropStep, shrinkStep, closed, releaseSide, releaseStep, dropped, shrinkScanned, shrinkPass}
+use Rattle.pass.specs.laws.Passes.{Keeps, keeps-take-step, grow-scanned-keeps}
+use Rattle.pass.specs.inner.Ends.{EndsIn}
 
 -- ---- counting
 
@@ -97,17 +98,18 @@ fewer-grow-step : (z n : ℕ) (w : Work) (s : ℕ) → Fewer z w → Fewer z (gr
 unfolding growStep note keep onState heldSide withGrandson withHolder withSides
 fewer-grow-step z n w s p = if-both (Fewer z) (reaches (w .state) s) p p
 
--- every end is a vertex
-abbrev pub EndsIn : State → Type 0
-EndsIn c = (s : ℕ) → endAt c s < length (c .vertices .vertexHolder)
-
-fewer-take-vertex : (z n g : ℕ) (w : Work) (v : ℕ) → v < length (w .state .vertices .vertexHolder) → vertexHolderAt (w .state) v ≡ 0 → Fewer z w → Fewer z (takeVertex n g w v)
+fewer-take-vertex : (z n g : ℕ) (w : Work) (v : ℕ) → v < length (w .state .vertices .vertexHolder)
+    → vertexHolderAt (w .state) v ≡ 0 → Fewer z w → Fewer z (takeVertex n g w v)
 unfolding takeVertex push
 fewer-take-vertex z n g w v h e p =
     let first : Work = onState w (heldVertex (w .state) v n g) in
     let after : Work = fold (takeSide n g) first (sidesAt (w .state) v) in
-    let same : after .state .vertices ≡ first .state .vertices = fold-keeps (takeSide n g) (Same (first .state .vertices)) (same-take-side (first .state .vertices) n g) first (sidesAt (w .state) v) refl in
-    let less : suc (freeCount (first .state)) ≡ freeCount (w .state) = unfold onState heldVertex withVertexGrandson withVertexHolder withVertices in (zeros-taken (w .state .vertices .vertexHolder) v n h e) in
+    let same : after .state .vertices ≡ first .state .vertices =
+    fold-keeps (takeSide n g) (Same (first .state .vertices)) (same-take-side (first .state .vertices) n g) first
+    (sidesAt (w .state) v) refl in
+    let less : suc (freeCount (first .state)) ≡ freeCount (w .state) =
+    unfold onState heldVertex withVertexGrandson withVertexHolder withVertices in
+    (zeros-taken (w .state .vertices .vertexHolder) v n h e) in
     let eq : freeCount (after .state) ≡ freeCount (first .state) = ap (λ x. zeros (x .vertexHolder)) same in
     let q : Fewer z after = omega (arith, one-le (after .another)) in
     if-both (Fewer z) (eqb (length (after .kept)) (length (w .kept))) q q
@@ -120,7 +122,7 @@ pub record Taking (c : State) (w : Work) : Type 0 where
 fewer-take-step : (c : State) (n : ℕ) → EndsIn c → (w : Work) (s : ℕ) → Taking c w → Fewer (freeCount c) (takeStep n w s)
 unfolding takeStep
 fewer-take-step c n ends w s p =
-    let k : Kept c (w .state) = p .keeps in
+    let k : SameButHolders c (w .state) = p .keeps in
     let inside : endAt (w .state) (opposite s) < length (w .state .vertices .vertexHolder) = rw (k .graph, k .vertexHolder) (ends (opposite s)) in
     if-cases (Fewer (freeCount c)) (eqb (vertexHolderAt (w .state) (endAt (w .state) (opposite s))) 0)
     (λ e. fewer-take-vertex (freeCount c) n (grandsonAt (w .state) s) w (endAt (w .state) (opposite s)) inside (eqb-true _ _ e) (p .fewer))
@@ -132,8 +134,11 @@ taking-step c n ends w s p = record { keeps = keeps-take-step c n w s (p .keeps)
 pub grow-pass-fewer : (c : State) (n : ℕ) → EndsIn c → freeCount (growPass c n .state) + one (growPass c n .another) ≤ freeCount c
 unfolding growPass growScanned startPass one
 grow-pass-fewer c n ends =
-    let scanned : Fewer (freeCount c) (growScanned c n) = fold-keeps (growStep n) (Fewer (freeCount c)) (fewer-grow-step (freeCount c) n) _ (boundaryOf c n) (omega arith) in
-    let t : Taking c (growPass c n) = fold-keeps (takeStep n) (Taking c) (taking-step c n ends) (growScanned c n) (growScanned c n .noted) (record { keeps = grow-scanned-keeps c n; fewer = scanned }) in
+    let scanned : Fewer (freeCount c) (growScanned c n) =
+    fold-keeps (growStep n) (Fewer (freeCount c)) (fewer-grow-step (freeCount c) n) _ (boundaryOf c n) (omega arith) in
+    let t : Taking c (growPass c n) =
+    fold-keeps (takeStep n) (Taking c) (taking-step c n ends) (growScanned c n) (growScanned c n .noted)
+    (record { keeps = grow-scanned-keeps c n; fewer = scanned }) in
     t .fewer
 
 -- ---- shrinking
@@ -141,9 +146,12 @@ grow-pass-fewer c n ends =
 abbrev More : ℕ → Work → Type 0
 More z w = z + one (w .another) ≤ freeCount (w .state)
 
-more-released : (z : ℕ) (w after : Work) (v : ℕ) → vertexHolderAt (w .state) v ≢ 0 → after .state .vertices ≡ onState w (freeVertex (w .state) v) .state .vertices → More z w → More z after
+more-released : (z : ℕ) (w after : Work) (v : ℕ) → vertexHolderAt (w .state) v ≢ 0
+    → after .state .vertices ≡ onState w (freeVertex (w .state) v) .state .vertices → More z w → More z after
 more-released z w after v h same p =
-    let more : freeCount (onState w (freeVertex (w .state) v) .state) ≡ suc (freeCount (w .state)) = unfold onState freeVertex withVertexGrandson withVertexHolder withVertices in (zeros-freed (w .state .vertices .vertexHolder) v h) in
+    let more : freeCount (onState w (freeVertex (w .state) v) .state) ≡ suc (freeCount (w .state)) =
+    unfold onState freeVertex withVertexGrandson withVertexHolder withVertices in
+    (zeros-freed (w .state .vertices .vertexHolder) v h) in
     let eq : freeCount (after .state) ≡ freeCount (onState w (freeVertex (w .state) v) .state) = ap (λ x. zeros (x .vertexHolder)) same in
     omega (arith, one-le (after .another))
 
@@ -160,7 +168,9 @@ more-drop-step z n w v p =
 
 more-shrink-step : (z : ℕ) (w : Work) (s : ℕ) → More z w → More z (shrinkStep w s)
 unfolding shrinkStep note keepOnce keep
-more-shrink-step z w s p = if-both (More z) (eqb (growthAt (w .state) s) 0 && eqb (defectAt (w .state) (endAt (w .state) s)) 0) p (if-both (More z) (member s (w .kept)) p p)
+more-shrink-step z w s p =
+    if-both (More z) (eqb (growthAt (w .state) s) 0 && eqb (defectAt (w .state) (endAt (w .state) s)) 0) p
+    (if-both (More z) (member s (w .kept)) p p)
 
 more-release-step : (z n : ℕ) (w : Work) (v : ℕ) → More z w → More z (releaseStep n w v)
 unfolding releaseStep
@@ -175,6 +185,9 @@ more-release-step z n w v p =
 pub shrink-pass-more : (c : State) (n : ℕ) → freeCount c + one (shrinkPass c n .another) ≤ freeCount (shrinkPass c n .state)
 unfolding shrinkPass shrinkScanned dropped startPass one
 shrink-pass-more c n =
-    let d : More (freeCount c) (dropped c n) = fold-keeps (dropStep n) (More (freeCount c)) (more-drop-step (freeCount c) n) _ (emptyTops (overgrownOf c n)) (omega arith) in
-    let s : More (freeCount c) (shrinkScanned c n) = fold-keeps shrinkStep (More (freeCount c)) (more-shrink-step (freeCount c)) (dropped c n) (boundaryOf c n) d in
+    let d : More (freeCount c) (dropped c n) =
+    fold-keeps (dropStep n) (More (freeCount c)) (more-drop-step (freeCount c) n) _ (emptyTops (overgrownOf c n))
+    (omega arith) in
+    let s : More (freeCount c) (shrinkScanned c n) =
+    fold-keeps shrinkStep (More (freeCount c)) (more-shrink-step (freeCount c)) (dropped c n) (boundaryOf c n) d in
     fold-keeps (releaseStep n) (More (freeCount c)) (more-release-step (freeCount c) n) (shrinkScanned c n) (shrinkScanned c n .noted) s

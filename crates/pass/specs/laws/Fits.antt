@@ -1,66 +1,66 @@
 -- The lists of a pass fit: at most 2 E sides are kept or noted, and at most V vertices are overgrown. A growing pass over a node
 -- whose lists have nothing twice, all of it held by the node, leaves such lists.
-use Prim.Native.Nat.{ℕ, zero, suc, _+_, _-_, _*_, _≤_, _<_}
-use native.Mathlib.Numerals.{add-one}
+use Prim.Native.Nat.{ℕ, suc, _+_, _-_, _*_, _≤_, _<_}
 use native.Mathlib.Omega.{arith}
 use native.Mathlib.Decide.{ℕ-discrete as decEq, decLt}
-use mathlib.Core.Path.{_≡_, refl, sym, ap, subst, subst₂, _∙_}
-use mathlib.Core.Logic.{_≢_}
-use mathlib.Core.Bool.{Bool, true, false, _&&_, _||_}
+use mathlib.Core.Path.{_≡_, refl, sym, subst, subst₂, _∙_}
+use mathlib.Core.Bool.{Bool, true, false, _&&_}
 use mathlib.Core.List.{List, [], _∷_, _++_, map, append-assoc, append-nil}
 use lib.Dec.{eqb, leb, ltb}
-use lib.ListN.{length, getD, set, length-set, length-append, length-map}
+use lib.ListN.{length, getD, set, length-append, length-map}
 use lib.Seq.{getD-set-same, getD-set-other, set-out}
-use borrow.Author.Tests.{eqb-true, eqb-false, eq-eqb, ne-eqb, lt-ltb, ltb-true}
-use Rattle.graph.specs.Basic.{if_then_else_, fold, all, member, distinct}
-use Rattle.graph.specs.State.{State, vertexCount, sideCount, nodeCount, parentOf, Vertices, Overgrown, opposite, endAt, growthAt, holderAt, grandsonAt, sidesAt, vertexHolderAt, defectAt, boundaryOf, overgrownOf, weightOver, withVertices, withSides, withHolder, withGrandson, withVertexHolder, withVertexGrandson, heldSide, heldVertex, freeSide, freeVertex}
-use Rattle.graph.specs.laws.State.{if-both, if-cases, fold-keeps, fold-keeps-rest, fold-keeps-on, Kept, kept-refl, kept-trans, kept-held-vertex, kept-free-side, kept-free-vertex, opposite-below, and-left}
-use Rattle.graph.specs.laws.Members.{by-test, clash, all-middle, all-snoc, all-weaker, all-member, all-map, all-first, distinct-cons, distinct-snoc, distinct-middle, distinct-length, both}
+use borrow.Author.Tests.{eqb-true, eq-eqb, lt-ltb, ltb-true}
+use Rattle.graph.specs.Basic.{fold, all, member, distinct}
+use Rattle.graph.specs.State.{State, vertexCount, sideCount, nodeCount, parentOf, Vertices, Overgrown, opposite, endAt, growthAt, holderAt, grandsonAt, sidesAt, vertexHolderAt, defectAt, boundaryOf, overgrownOf, withVertices, withSides, withHolder, withGrandson, withVertexHolder, withVertexGrandson, heldSide, heldVertex, freeSide, freeVertex}
+use Rattle.graph.specs.laws.State.{if-both, if-cases, fold-keeps, fold-keeps-rest, fold-keeps-on, kept-refl, kept-trans, kept-held-vertex, kept-free-side, kept-free-vertex, opposite-below, and-left}
+use Rattle.graph.specs.inner.Kept.{SameButHolders}
+use Rattle.graph.specs.laws.Members.{by-test, all-middle, all-snoc, all-weaker, all-member, all-map, distinct-cons, distinct-snoc, distinct-middle, distinct-length, both}
 use Rattle.graph.specs.Open.{dualLimit}
 use Rattle.graph.specs.Sound.{overSound, sound}
-use Rattle.graph.specs.laws.Shape.{Shape, SoundNode, node-facts, sound-node, OwnLists, own-facts, sound-end, sound-sides}
-use Rattle.pass.specs.Work.{Work, onState, keep, keepOnce, note, push, callAnother, startPass, finishPass}
+use Rattle.graph.specs.laws.Shape.{SoundNode, node-facts, sound-node, OwnLists, own-facts, sound-end, sound-sides}
+use Rattle.graph.specs.Shape.{Shape}
+use Rattle.pass.specs.Work.{Work, onState, keep, keepOnce, note, push, callAnother, startPass}
 use Rattle.pass.specs.Grow.{reaches, growStep, takeSide, takeVertex, takeStep, growScanned, growPass}
 use Rattle.pass.specs.Shrink.{emptyTops, belowTops, dropSide, dropStep, shrinkStep, closed, releaseSide, releaseStep, dropped, shrinkScanned, shrinkPass}
-use Rattle.pass.specs.laws.Passes.{Keeps, keeps-take-side, keeps-take-step, keeps-on, grow-scanned-keeps}
+use Rattle.pass.specs.laws.Passes.{Keeps, keeps-take-side, grow-scanned-keeps}
+use Rattle.pass.specs.inner.Own.{OwnList, OwnSides}
 
 -- ---- a list of a node's own: numbers below m, each once, each held by node n, where h reads the holder
-
-pub record Own (h : ℕ → ℕ) (n m : ℕ) (l : List ℕ) : Type 0 where
-  pub inside : all (λ s. ltb s m) l ≡ true
-  pub held : all (λ s. eqb (h s) (n + 1)) l ≡ true
-  pub once : distinct l ≡ true
 
 -- node n holds at least as much by h' as by h
 abbrev pub Holds : ℕ → (ℕ → ℕ) → (ℕ → ℕ) → Type 0
 Holds n h h' = (t : ℕ) → h t ≡ n + 1 → h' t ≡ n + 1
 
-pub own-length : (h : ℕ → ℕ) (n m : ℕ) (l : List ℕ) → Own h n m l → length l ≤ m
+pub own-length : (h : ℕ → ℕ) (n m : ℕ) (l : List ℕ) → OwnList h n m l → length l ≤ m
 own-length h n m l o = distinct-length m l (o .once) (o .inside)
 
 module _ {h h' : ℕ → ℕ} {n m : ℕ} (holds : Holds n h h') where
-  pub own-more : {l : List ℕ} → Own h n m l → Own h' n m l
+  pub own-more : {l : List ℕ} → OwnList h n m l → OwnList h' n m l
   own-more {l} o = record { inside = o .inside; held = all-weaker (λ s. eqb (h s) (n + 1)) (λ s. eqb (h' s) (n + 1)) (λ s e. eq-eqb (h' s) (n + 1) (holds s (eqb-true (h s) (n + 1) e))) l (o .held); once = o .once }
 
   -- what was free and is held now is new in the list
-  free-new : (t : ℕ) {l : List ℕ} → Own h n m l → h t ≡ 0 → member t l ≡ false
+  free-new : (t : ℕ) {l : List ℕ} → OwnList h n m l → h t ≡ 0 → member t l ≡ false
   free-new t {l} o z =
       by-test (member t l)
       (λ e. let q : h t ≡ n + 1 = eqb-true (h t) (n + 1) (all-member (λ s. eqb (h s) (n + 1)) l t (o .held) e) in absurd (omega arith))
       (λ e. e)
 
-  pub own-snoc : (t : ℕ) {l : List ℕ} → Own h n m l → h t ≡ 0 → h' t ≡ n + 1 → t < m → Own h' n m (l ++ (t ∷ []))
+  pub own-snoc : (t : ℕ) {l : List ℕ} → OwnList h n m l → h t ≡ 0 → h' t ≡ n + 1 → t < m → OwnList h' n m (l ++ (t ∷ []))
   own-snoc t {l} o z w b =
-      let more : Own h' n m l = own-more o in
+      let more : OwnList h' n m l = own-more o in
       record { inside = all-snoc (λ s. ltb s m) l t (o .inside) (lt-ltb t m b); held = all-snoc (λ s. eqb (h' s) (n + 1)) l t (more .held) (eq-eqb (h' t) (n + 1) w); once = distinct-snoc l t (o .once) (free-new t o z) }
 
-  pub own-cons : (t : ℕ) {l : List ℕ} → Own h n m l → h t ≡ 0 → h' t ≡ n + 1 → t < m → Own h' n m (t ∷ l)
+  pub own-cons : (t : ℕ) {l : List ℕ} → OwnList h n m l → h t ≡ 0 → h' t ≡ n + 1 → t < m → OwnList h' n m (t ∷ l)
   unfolding all
   own-cons t {l} o z w b =
-      let more : Own h' n m l = own-more o in
-      record { inside = both (ltb t m) (all (λ s. ltb s m) l) (lt-ltb t m b) (o .inside); held = both (eqb (h' t) (n + 1)) (all (λ s. eqb (h' s) (n + 1)) l) (eq-eqb (h' t) (n + 1) w) (more .held); once = distinct-cons t l (free-new t o z) (o .once) }
+      let more : OwnList h' n m l = own-more o in
+      record {
+        inside = both (ltb t m) (all (λ s. ltb s m) l) (lt-ltb t m b) (o .inside);
+        held = both (eqb (h' t) (n + 1)) (all (λ s. eqb (h' s) (n + 1)) l) (eq-eqb (h' t) (n + 1) w) (more .held);
+        once = distinct-cons t l (free-new t o z) (o .once);
+      }
 
-pub own-middle : (h : ℕ → ℕ) (n m : ℕ) (xs : List ℕ) (y : ℕ) (ys : List ℕ) → Own h n m (xs ++ (y ∷ ys)) → Own h n m (xs ++ ys)
+pub own-middle : (h : ℕ → ℕ) (n m : ℕ) (xs : List ℕ) (y : ℕ) (ys : List ℕ) → OwnList h n m (xs ++ (y ∷ ys)) → OwnList h n m (xs ++ ys)
 own-middle h n m xs y ys o = record { inside = all-middle (λ s. ltb s m) xs y ys (o .inside); held = all-middle (λ s. eqb (h s) (n + 1)) xs y ys (o .held); once = distinct-middle xs y ys (o .once) }
 
 -- ---- holding a side or a vertex
@@ -86,9 +86,6 @@ vertex-held c v n g h = getD-set-same (c .vertices .vertexHolder) v (n + 1) 0 h
 
 -- ---- a growing pass: the sides
 
-abbrev pub OwnSides : ℕ → ℕ → State → List ℕ → Type 0
-OwnSides n m c l = Own (holderAt c) n m l
-
 -- over the boundary, with what is still to come
 pub own-grow-step : (n m : ℕ) (w : Work) (s : ℕ) (r : List ℕ) → OwnSides n m (w .state) (w .kept ++ (s ∷ r)) → OwnSides n m (growStep n w s .state) (growStep n w s .kept ++ r)
 unfolding growStep note keep onState
@@ -110,7 +107,7 @@ pub record Sized (m k : ℕ) (c : State) : Type 0 where
   pub ends : (s : ℕ) → endAt c s < k
   pub vholders : length (c .vertices .vertexHolder) ≡ k
 
-pub sized-kept : (m k : ℕ) (c d : State) → Kept c d → Sized m k c → Sized m k d
+pub sized-kept : (m k : ℕ) (c d : State) → SameButHolders c d → Sized m k c → Sized m k d
 sized-kept m k c d p z = record { sides = λ v. rw (p .graph) (z .sides v); holders = p .holder ∙ z .holders; ends = λ s. rw (p .graph) (z .ends s); vholders = p .vertexHolder ∙ z .vholders }
 
 -- the vertices of a stack
@@ -118,7 +115,7 @@ abbrev pub stacked : List Overgrown → List ℕ
 stacked o = map (λ (x : Overgrown). x .vertex) o
 
 abbrev pub OwnStack : ℕ → ℕ → Vertices → List ℕ → Type 0
-OwnStack n k x l = Own (λ v. getD (x .vertexHolder) v 0) n k l
+OwnStack n k x l = OwnList (λ v. getD (x .vertexHolder) v 0) n k l
 
 abbrev pub OwnOver : ℕ → ℕ → State → List Overgrown → Type 0
 OwnOver n k c o = OwnStack n k (c .vertices) (stacked o)
@@ -164,7 +161,7 @@ over-start n m k g c z w v b e p =
     let len : length (w .state .vertices .vertexHolder) ≡ k = sized-kept m k c (w .state) (p .keeps) z .vholders in
     own-cons (vertex-holds (w .state) v n g) v (p .over) e (vertex-held (w .state) v n g (omega arith)) b
 
-own-rest : (h : ℕ → ℕ) (n m x : ℕ) (l : List ℕ) → Own h n m (x ∷ l) → Own h n m l
+own-rest : (h : ℕ → ℕ) (n m x : ℕ) (l : List ℕ) → OwnList h n m (x ∷ l) → OwnList h n m l
 own-rest h n m x l o = own-middle h n m [] x l o
 
 -- a vertex is taken
@@ -219,13 +216,6 @@ count-grow-step n k w s r e =
     (omega (arith, length-append (w .noted) (s ∷ [])))
     (omega (arith, length-append (w .kept) (s ∷ [])))
 
-pub grow-scanned-count : (c : State) (n : ℕ) → length (growScanned c n .kept) + length (growScanned c n .noted) ≡ length (boundaryOf c n)
-unfolding growScanned startPass
-grow-scanned-count c n =
-    let k : ℕ = length (boundaryOf c n) in
-    let e : length (growScanned c n .kept) + length (growScanned c n .noted) + 0 ≡ k = fold-keeps-rest (growStep n) (λ (w : Work) (r : List ℕ). length (w .kept) + length (w .noted) + length r ≡ k) (count-grow-step n k) (startPass c (overgrownOf c n)) (boundaryOf c n) (omega arith) in
-    omega arith
-
 -- ---- a shrinking pass: nothing is kept twice
 
 -- the kept sides are some of the 2 e sides, each once
@@ -246,7 +236,7 @@ listed-call : (e : ℕ) (c : State) (w : Work) (t : Bool) → Listed e c w → L
 unfolding callAnother
 listed-call e c w t p = record { keeps = p .keeps; inside = p .inside; once = p .once }
 
-listed-on : (e : ℕ) (c : State) (w : Work) (d : State) → Kept (w .state) d → Listed e c w → Listed e c (onState w d)
+listed-on : (e : ℕ) (c : State) (w : Work) (d : State) → SameButHolders (w .state) d → Listed e c w → Listed e c (onState w d)
 unfolding onState
 listed-on e c w d k p = record { keeps = kept-trans (p .keeps) k; inside = p .inside; once = p .once }
 
@@ -255,7 +245,7 @@ unfolding note
 listed-note e c w x p = record { keeps = p .keeps; inside = p .inside; once = p .once }
 
 -- the sides at a vertex, in a state of the same graph
-sides-kept : (m : ℕ) (c d : State) → Kept c d → ((v : ℕ) → all (λ t. ltb t m) (sidesAt c v) ≡ true) → (v : ℕ) → all (λ t. ltb t m) (sidesAt d v) ≡ true
+sides-kept : (m : ℕ) (c d : State) → SameButHolders c d → ((v : ℕ) → all (λ t. ltb t m) (sidesAt c v) ≡ true) → (v : ℕ) → all (λ t. ltb t m) (sidesAt d v) ≡ true
 sides-kept m c d k h v = rw (k .graph) (h v)
 
 module _ (e n : ℕ) (c : State) (sides : (v : ℕ) → all (λ t. ltb t (2 * e)) (sidesAt c v) ≡ true) where
@@ -267,7 +257,8 @@ module _ (e n : ℕ) (c : State) (sides : (v : ℕ) → all (λ t. ltb t (2 * e)
   unfolding dropStep
   listed-drop-step w v p =
       if-both (Listed e c) (eqb (vertexHolderAt (w .state) v) (n + 1))
-      (fold-keeps-on dropSide (λ t. ltb t (2 * e)) (Listed e c) listed-drop-side (onState w (freeVertex (w .state) v)) (sidesAt (w .state) v) (sides-kept (2 * e) c (w .state) (p .keeps) sides v) (listed-on e c w _ (kept-free-vertex (w .state) v) p))
+      (fold-keeps-on dropSide (λ t. ltb t (2 * e)) (Listed e c) listed-drop-side (onState w (freeVertex (w .state) v))
+      (sidesAt (w .state) v) (sides-kept (2 * e) c (w .state) (p .keeps) sides v) (listed-on e c w _ (kept-free-vertex (w .state) v) p))
       p
 
   listed-shrink-step : (w : Work) (s : ℕ) → ltb s (2 * e) ≡ true → Listed e c w → Listed e c (shrinkStep w s)
@@ -285,7 +276,8 @@ module _ (e n : ℕ) (c : State) (sides : (v : ℕ) → all (λ t. ltb t (2 * e)
   listed-release-step w v p =
       if-both (Listed e c) (eqb (vertexHolderAt (w .state) v) 0)
       p
-      (fold-keeps-on (releaseSide n) (λ t. ltb t (2 * e)) (Listed e c) listed-release-side (onState w (freeVertex (w .state) v)) (sidesAt (w .state) v) (sides-kept (2 * e) c (w .state) (p .keeps) sides v) (listed-on e c w _ (kept-free-vertex (w .state) v) p))
+      (fold-keeps-on (releaseSide n) (λ t. ltb t (2 * e)) (Listed e c) listed-release-side (onState w (freeVertex (w .state) v))
+      (sidesAt (w .state) v) (sides-kept (2 * e) c (w .state) (p .keeps) sides v) (listed-on e c w _ (kept-free-vertex (w .state) v) p))
 
   pub dropped-listed : Listed e c (dropped c n)
   unfolding dropped startPass all distinct
@@ -326,14 +318,6 @@ count-shrink-step k w s r h =
     if-both (λ (x : Work). length (x .noted) + length r ≤ k) (eqb (growthAt (w .state) s) 0 && eqb (defectAt (w .state) (endAt (w .state) s)) 0)
     (omega (arith, length-append (w .noted) (endAt (w .state) s ∷ [])))
     (rw (noted-keep-once (w .noted) w s refl) (omega arith))
-
-pub shrink-noted-le : (c : State) (n : ℕ) → length (shrinkScanned c n .noted) ≤ length (boundaryOf c n)
-unfolding shrinkScanned
-shrink-noted-le c n =
-    let k : ℕ = length (boundaryOf c n) in
-    let none : dropped c n .noted ≡ [] = unfold dropped startPass in (fold-keeps (dropStep n) (Noted []) (noted-drop-step n []) (startPass c (belowTops (overgrownOf c n))) (emptyTops (overgrownOf c n)) refl) in
-    let h : length (shrinkScanned c n .noted) + 0 ≤ k = fold-keeps-rest shrinkStep (λ (w : Work) (r : List ℕ). length (w .noted) + length r ≤ k) (count-shrink-step k) (dropped c n) (boundaryOf c n) (rw none (omega arith)) in
-    omega arith
 
 pub below-tops-le : (o : List Overgrown) → length (belowTops o) ≤ length o
 unfolding belowTops
@@ -395,7 +379,9 @@ module _ (c : State) (z : Shape c) (h : sound c ≡ true) (v1 : 1 ≤ vertexCoun
     pub sound-own-over : OwnOver n (vertexCount c) c (overgrownOf c n)
     unfolding overSound
     sound-own-over = record {
-      inside = all-map (λ v. ltb v (vertexCount c)) (λ (o : Overgrown). o .vertex) (overgrownOf c n) (all-weaker (overSound c) (λ (o : Overgrown). ltb (o .vertex) (vertexCount c)) (λ o e. and-left (ltb (o .vertex) (vertexCount c)) (leb (o .amount) dualLimit) e) (overgrownOf c n) (facts .overgrown));
+      inside = all-map (λ v. ltb v (vertexCount c)) (λ (o : Overgrown). o .vertex) (overgrownOf c n)
+          (all-weaker (overSound c) (λ (o : Overgrown). ltb (o .vertex) (vertexCount c))
+          (λ o e. and-left (ltb (o .vertex) (vertexCount c)) (leb (o .amount) dualLimit) e) (overgrownOf c n) (facts .overgrown));
       held = all-map (λ v. eqb (vertexHolderAt c v) (n + 1)) (λ (o : Overgrown). o .vertex) (overgrownOf c n) (own .vertices-held);
       once = own .vertices-once;
     }

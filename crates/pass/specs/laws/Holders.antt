@@ -22,7 +22,11 @@ module _ (k : ℕ) where
   holders-free-side c t p s =
       elim (decEq s t) [
         | no e ↦ rw (getD-set-other (c .sides .holder) t s 0 0 e) (p s)
-        | yes e ↦ elim (decLt t (length (c .sides .holder))) [ yes b ↦ rw (e, getD-set-same (c .sides .holder) t 0 0 b) (omega arith) | no b ↦ rw (set-out (c .sides .holder) t 0 (omega arith)) (p s) ]
+        | yes e ↦ elim
+            (decLt t (length (c .sides .holder))) [
+              | yes b ↦ rw (e, getD-set-same (c .sides .holder) t 0 0 b) (omega arith)
+              | no b ↦ rw (set-out (c .sides .holder) t 0 (omega arith)) (p s)
+            ]
       ]
 
   holders-free-vertex : (c : State) (v : ℕ) → Holders k c → Holders k (freeVertex c v)

@@ -22,7 +22,10 @@ distinct-apart [] y ys h = by-test (member y []) (λ e. member-nil y e) (λ e. e
 distinct-apart (x ∷ xs) y ys h =
     let ih : member y xs ≡ false = distinct-apart xs y ys (distinct-tail x (xs ++ (y ∷ ys)) h) in
     by-test (member y (x ∷ xs))
-    (λ e. member-cons y x xs e (λ q. clash (member x (xs ++ (y ∷ ys))) (rw (← q) (member-append-right y xs (y ∷ ys) (member-head y ys))) (distinct-head x (xs ++ (y ∷ ys)) h)) (λ q. clash (member y xs) q ih))
+    (λ e. member-cons y x xs e
+    (λ q. clash (member x (xs ++ (y ∷ ys))) (rw (← q) (member-append-right y xs (y ∷ ys) (member-head y ys)))
+    (distinct-head x (xs ++ (y ∷ ys)) h))
+    (λ q. clash (member y xs) q ih))
     (λ e. e)
 
 -- the work with the sides of l kept as well
@@ -30,7 +33,8 @@ abbrev keepAll : Work → List ℕ → Work
 keepAll w l = record { state = w .state; kept = w .kept ++ l; noted = w .noted; over = w .over; another = w .another }
 
 -- no side of growth 0
-shrink-scan : (w : Work) (l : List ℕ) → ((s : ℕ) → member s l ≡ true → growthAt (w .state) s ≢ 0) → distinct (w .kept ++ l) ≡ true → fold shrinkStep w l ≡ keepAll w l
+shrink-scan : (w : Work) (l : List ℕ) → ((s : ℕ) → member s l ≡ true → growthAt (w .state) s ≢ 0)
+    → distinct (w .kept ++ l) ≡ true → fold shrinkStep w l ≡ keepAll w l
 unfolding fold shrinkStep keepOnce keep
 shrink-scan w [] h d = rw (append-nil (w .kept))
 shrink-scan w (x ∷ l) h d =
@@ -65,25 +69,32 @@ top-amount o os t e =
     let k : length (o .vertex ∷ emptyTops os) ≡ length {A = ℕ} [] = ap (λ (l : List ℕ). length l) (rw (eq-eqb (o .amount) 0 e) at (t .0)) in
     omega arith
 
-shrink-same : (c : State) (n : ℕ) → TopLeft (overgrownOf c n) → ((s : ℕ) → member s (boundaryOf c n) ≡ true → growthAt c s ≢ 0) → distinct (boundaryOf c n) ≡ true → shrinkPass c n ≡ same c n
+shrink-same : (c : State) (n : ℕ) → TopLeft (overgrownOf c n)
+    → ((s : ℕ) → member s (boundaryOf c n) ≡ true → growthAt c s ≢ 0) → distinct (boundaryOf c n) ≡ true
+    → shrinkPass c n ≡ same c n
 unfolding shrinkPass shrinkScanned dropped startPass fold
 shrink-same c n tops sides once =
-    let scanned : fold shrinkStep (startPass c (overgrownOf c n)) (boundaryOf c n) ≡ same c n = shrink-scan (startPass c (overgrownOf c n)) (boundaryOf c n) sides once in
+    let scanned : fold shrinkStep (startPass c (overgrownOf c n)) (boundaryOf c n) ≡ same c n =
+    shrink-scan (startPass c (overgrownOf c n)) (boundaryOf c n) sides once in
     rw (tops .0, tops .1, scanned)
 
 grow-same : (c : State) (n : ℕ) → ((s : ℕ) → member s (boundaryOf c n) ≡ true → reaches c s ≡ false) → growPass c n ≡ same c n
 unfolding growPass growScanned startPass fold
 grow-same c n sides =
-    let scanned : fold (growStep n) (startPass c (overgrownOf c n)) (boundaryOf c n) ≡ same c n = grow-scan n (startPass c (overgrownOf c n)) (boundaryOf c n) sides in
+    let scanned : fold (growStep n) (startPass c (overgrownOf c n)) (boundaryOf c n) ≡ same c n =
+    grow-scan n (startPass c (overgrownOf c n)) (boundaryOf c n) sides in
     rw scanned
 
 idle : (c : State) (n d : ℕ) → onePass c n d ≡ same c n → prepareNode c n d .state ≡ c
 unfolding prepareNode
 idle c n d e =
-    let p : prepareFrom (suc (vertexCount c)) c n d 0 ≡ record { state = passState c n d; passes = 0 + 1 } = prepare-last (vertexCount c) c n d 0 (ap (λ (w : Work). w .another) e) in
+    let p : prepareFrom (suc (vertexCount c)) c n d 0 ≡ record { state = passState c n d; passes = 0 + 1 } =
+    prepare-last (vertexCount c) c n d 0 (ap (λ (w : Work). w .another) e) in
     ap (λ (x : Prepared). x .state) p ∙ ap (λ (w : Work). finishPass w n) e ∙ finish-same c n
 
-pub shrink-idle : (c : State) (n : ℕ) → TopLeft (overgrownOf c n) → ((s : ℕ) → member s (boundaryOf c n) ≡ true → growthAt c s ≢ 0) → distinct (boundaryOf c n) ≡ true → prepareNode c n down .state ≡ c
+pub shrink-idle : (c : State) (n : ℕ) → TopLeft (overgrownOf c n)
+    → ((s : ℕ) → member s (boundaryOf c n) ≡ true → growthAt c s ≢ 0) → distinct (boundaryOf c n) ≡ true
+    → prepareNode c n down .state ≡ c
 shrink-idle c n tops sides once = idle c n down (unfold onePass in (shrink-same c n tops sides once))
 
 pub grow-idle : (c : State) (n : ℕ) → ((s : ℕ) → member s (boundaryOf c n) ≡ true → reaches c s ≡ false) → prepareNode c n up .state ≡ c

@@ -11,14 +11,15 @@ use lib.ListN.{length, getD, set}
 use lib.Seq.{getD-set-same, getD-set-other, set-out}
 use Rattle.graph.specs.Basic.{fold}
 use Rattle.graph.specs.State.{State, Overgrown, opposite, endAt, holderAt, grandsonAt, sidesAt, vertexHolderAt, vertexCount, boundaryOf, overgrownOf, withVertices, withSides, withNodes, withHolder, withGrandson, withVertexHolder, withVertexGrandson, heldSide, heldVertex, withBoundary, withOvergrown, up, down}
-use Rattle.graph.specs.laws.State.{if-both, fold-keeps, Kept}
+use Rattle.graph.specs.laws.State.{if-both, fold-keeps}
+use Rattle.graph.specs.inner.Kept.{SameButHolders}
 use Rattle.graph.specs.laws.Members.{by-test}
 use Rattle.pass.specs.Work.{Work, onState, keep, note, push, callAnother, startPass, finishPass}
 use Rattle.pass.specs.Grow.{reaches, growStep, takeSide, takeVertex, takeStep, growScanned, growPass}
 use Rattle.pass.specs.Shrink.{emptyTops, belowTops, shrinkPass}
 use Rattle.pass.specs.Prepare.{onePass, prepareFrom, prepareNode}
 use Rattle.pass.specs.laws.Passes.{shrink-pass-keeps}
-use Rattle.pass.specs.laws.Counts.{EndsIn}
+use Rattle.pass.specs.inner.Ends.{EndsIn}
 use Rattle.pass.specs.laws.Prepare.{passState, one-passed, one-up, one-down, prepare-more, prepare-last, prepare-leaves}
 use Rattle.pass.specs.laws.Fits.{shrink-over}
 use Rattle.pass.specs.laws.GrowSound.{finish-overgrown}
@@ -39,11 +40,14 @@ below-left (o ∷ os) =
     (λ e. rw e ih)
     (λ e. rw e (top-stays o os e))
 
-pub prepare-top-left : (c : State) (n : ℕ) → EndsIn c → length (c .vertices .vertexHolder) ≡ vertexCount c → n < length (c .nodes .overgrown) → TopLeft (overgrownOf (prepareNode c n down .state) n)
+pub prepare-top-left : (c : State) (n : ℕ) → EndsIn c → length (c .vertices .vertexHolder) ≡ vertexCount c
+    → n < length (c .nodes .overgrown) → TopLeft (overgrownOf (prepareNode c n down .state) n)
 prepare-top-left c n ends len b =
     prepare-leaves n down (λ (d : State). n < length (d .nodes .overgrown)) (λ (d : State). TopLeft (overgrownOf d n))
     (λ d h e. rw (one-passed d n down .overgrown) h)
-    (λ d h e. let k : Kept d (shrinkPass d n .state) = shrink-pass-keeps d n in rw (one-down d n down refl, finish-overgrown (shrinkPass d n) n (rw (k .nodes) h), shrink-over d n) (below-left (overgrownOf d n)))
+    (λ d h e. let k : SameButHolders d (shrinkPass d n .state) = shrink-pass-keeps d n in
+    rw (one-down d n down refl, finish-overgrown (shrinkPass d n) n (rw (k .nodes) h), shrink-over d n)
+    (below-left (overgrownOf d n)))
     c ends len b
 
 -- ---- sides
@@ -57,7 +61,9 @@ set-held l i n o h =
     by-cases (decEq o i)
     (λ e.
     by-cases (decLt i (length l))
-    (λ b. let k : getD (set l i (n + 1)) i 0 ≡ n + 1 = getD-set-same l i (n + 1) 0 b in let h' : getD (set l i (n + 1)) i 0 ≡ 0 = rw e at h in absurd (omega arith))
+    (λ b. let k : getD (set l i (n + 1)) i 0 ≡ n + 1 = getD-set-same l i (n + 1) 0 b in
+    let h' : getD (set l i (n + 1)) i 0 ≡ 0 = rw e at h in
+    absurd (omega arith))
     (λ b. rw (set-out l i (n + 1) (omega arith)) at h))
     (λ e. sym (getD-set-other l i o (n + 1) 0 e) ∙ h)
 
@@ -84,16 +90,22 @@ taken-none : (c : State) (n g : ℕ) (w : Work) (v : ℕ) → NoneFreed c w → 
 unfolding takeVertex push onState
 taken-none c n g w v f =
     let after : Work = fold (takeSide n g) (onState w (heldVertex (w .state) v n g)) (sidesAt (w .state) v) in
-    let k : NoneFreed c after = fold-keeps (takeSide n g) (NoneFreed c) (side-none c n g) (onState w (heldVertex (w .state) v n g)) (sidesAt (w .state) v) (vertex-none c (w .state) v n g f) in
+    let k : NoneFreed c after =
+    fold-keeps (takeSide n g) (NoneFreed c) (side-none c n g) (onState w (heldVertex (w .state) v n g))
+    (sidesAt (w .state) v) (vertex-none c (w .state) v n g f) in
     if-both (NoneFreed c) (eqb (length (after .kept)) (length (w .kept))) k k
 
 take-none : (c : State) (n : ℕ) (w : Work) (s : ℕ) → NoneFreed c w → NoneFreed c (takeStep n w s)
 unfolding takeStep
-take-none c n w s f = if-both (NoneFreed c) (eqb (vertexHolderAt (w .state) (endAt (w .state) (opposite s))) 0) (taken-none c n (grandsonAt (w .state) s) w (endAt (w .state) (opposite s)) f) f
+take-none c n w s f =
+    if-both (NoneFreed c) (eqb (vertexHolderAt (w .state) (endAt (w .state) (opposite s))) 0)
+    (taken-none c n (grandsonAt (w .state) s) w (endAt (w .state) (opposite s)) f) f
 
 pass-none : (c d : State) (n : ℕ) → FreesNone c d → NoneFreed c (growPass d n)
 unfolding growPass growScanned startPass
-pass-none c d n f = fold-keeps (takeStep n) (NoneFreed c) (take-none c n) _ (growScanned d n .noted) (fold-keeps (growStep n) (NoneFreed c) (step-none c n) _ (boundaryOf d n) f)
+pass-none c d n f =
+    fold-keeps (takeStep n) (NoneFreed c) (take-none c n) _ (growScanned d n .noted)
+    (fold-keeps (growStep n) (NoneFreed c) (step-none c n) _ (boundaryOf d n) f)
 
 finish-none : (c : State) (w : Work) (n : ℕ) → NoneFreed c w → FreesNone c (finishPass w n)
 unfolding finishPass withOvergrown withBoundary withNodes

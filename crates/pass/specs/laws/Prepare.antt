@@ -1,22 +1,20 @@
 -- Laws of preparation: what it leaves alone, that its fuel never runs out, and how to prove a fact of what it leaves.
 use Prim.Native.Nat.{ℕ, zero, suc, _+_, _-_, _≤_, _<_}
-use native.Mathlib.Numerals.{add-one}
 use native.Mathlib.Omega.{arith}
 use mathlib.Core.Path.{_≡_, refl, sym, ap, _∙_}
-use mathlib.Core.Logic.{_≢_}
-use mathlib.Core.Bool.{Bool, true, false, _&&_, _||_}
-use mathlib.Core.List.{List, [], _∷_, _++_}
-use lib.Dec.{eqb, leb}
-use lib.ListN.{length, length-set}
-use Rattle.graph.specs.Basic.{if_then_else_, fold}
-use Rattle.graph.specs.State.{State, endAt, vertexCount, withNodes, withBoundary, withOvergrown, up}
-use Rattle.graph.specs.laws.State.{if-both, fold-keeps, Kept}
+use mathlib.Core.Bool.{Bool, true, false}
+use lib.Dec.{eqb}
+use lib.ListN.{length}
+use Rattle.graph.specs.Basic.{if_then_else_}
+use Rattle.graph.specs.State.{State, vertexCount, withNodes, withBoundary, withOvergrown, up}
+use Rattle.graph.specs.laws.State.{if-both}
 use Rattle.graph.specs.laws.Members.{by-test}
 use Rattle.pass.specs.Work.{Work, finishPass}
 use Rattle.pass.specs.Grow.{growPass}
 use Rattle.pass.specs.Shrink.{shrinkPass}
 use Rattle.pass.specs.laws.Passes.{Passed, passed-refl, passed-trans, grow-passed, shrink-passed}
-use Rattle.pass.specs.laws.Counts.{zeros, zeros-le, one, freeCount, EndsIn, grow-pass-fewer, shrink-pass-more}
+use Rattle.pass.specs.laws.Counts.{zeros, zeros-le, one, freeCount, grow-pass-fewer, shrink-pass-more}
+use Rattle.pass.specs.inner.Ends.{EndsIn}
 use Rattle.pass.specs.Prepare.{onePass, Prepared, prepareFrom, prepareNode}
 
 -- the state after one pass
@@ -109,22 +107,21 @@ prepare-fuel (suc f) (suc g) c n d k ends hf hg =
     ∙ sym (prepare-more g c n d k e))
     (λ e. prepare-last f c n d k e ∙ sym (prepare-last g c n d k e))
 
--- so V + 1 passes are enough
-pub prepare-enough : (f : ℕ) (c : State) (n d : ℕ) → EndsIn c → length (c .vertices .vertexHolder) ≡ vertexCount c → vertexCount c < f → prepareFrom f c n d 0 ≡ prepareNode c n d
-unfolding prepareNode
-prepare-enough f c n d ends len h = prepare-fuel f (suc (vertexCount c)) c n d 0 ends (omega (arith, left-le d c)) (omega (arith, left-le d c))
-
 -- ---- how to prove a fact of what preparation leaves
 
 -- P holds before each pass, and Q after the pass that calls for no other
-module _ (n d : ℕ) (P Q : State → Type 0) (more : (c : State) → P c → onePass c n d .another ≡ true → P (passState c n d)) (last : (c : State) → P c → onePass c n d .another ≡ false → Q (passState c n d)) where
+module _ (n d : ℕ) (P Q : State → Type 0)
+    (more : (c : State) → P c → onePass c n d .another ≡ true → P (passState c n d))
+    (last : (c : State) → P c → onePass c n d .another ≡ false → Q (passState c n d)) where
   pub prepare-from-leaves : (f : ℕ) (c : State) (k : ℕ) → EndsIn c → left d c < f → P c → Q (prepareFrom f c n d k .state)
   prepare-from-leaves zero c k ends h p = absurd (omega arith)
   prepare-from-leaves (suc f) c k ends h p =
       by-test (onePass c n d .another)
       (λ e.
       let falls : left d (passState c n d) < left d c = pass-falls c n d ends e in
-      rw (prepare-more f c n d k e) (prepare-from-leaves f (passState c n d) (k + 1) (ends-passed n c (passState c n d) (one-passed c n d) ends) (omega arith) (more c p e)))
+      rw (prepare-more f c n d k e)
+      (prepare-from-leaves f (passState c n d) (k + 1) (ends-passed n c (passState c n d) (one-passed c n d) ends)
+      (omega arith) (more c p e)))
       (λ e. rw (prepare-last f c n d k e) (last c p e))
 
   pub prepare-leaves : (c : State) → EndsIn c → length (c .vertices .vertexHolder) ≡ vertexCount c → P c → Q (prepareNode c n d .state)

@@ -1,31 +1,25 @@
 -- Preparation in memory: pass after pass, until none is called for.
-use Prim.Native.Nat.{ℕ, zero, suc, _+_, _-_, _*_, _≤_, _<_}
+use Prim.Native.Nat.{ℕ, suc, _+_, _-_, _≤_, _<_}
 use native.Mathlib.Omega.{arith}
-use native.Mathlib.Decide.{ℕ-discrete as decEq, decLt}
+use native.Mathlib.Decide.{decLt}
 use mathlib.Core.Path.{_≡_, refl, sym, ap, subst, _∙_}
-use mathlib.Core.Logic.{_≢_}
 use mathlib.Core.Bool.{Bool, true, false}
 use mathlib.Core.List.{List}
 use lib.IntN.{ℤ}
-use lib.Dec.{eqb, T}
-use lib.ListN.{length, getD, List·getD-eq-default}
+use lib.Dec.{T}
+use lib.ListN.{length, List·getD-eq-default}
 use borrow.Author.Tests.{eq-eqb, ne-eqb}
-use Rattle.graph.specs.Basic.{if_then_else_}
-use Rattle.graph.specs.State.{State, up, vertexCount, sideCount, nodeCount, endAt}
+use Rattle.graph.specs.State.{State, up, vertexCount, sideCount, nodeCount}
 use Rattle.graph.specs.Layout.{stateOf}
-use Rattle.graph.specs.Form.{Formed, Becomes}
+use Rattle.graph.specs.Form.{Formed}
+use Rattle.graph.specs.inner.Form.{Becomes}
 use Rattle.graph.specs.laws.Row.{becomes-none, becomes-then}
 use Rattle.graph.specs.laws.Field.{end-below}
-use Rattle.graph.specs.laws.Shape.{Shape}
-use Rattle.pass.specs.Work.{Work, finishPass}
-use Rattle.pass.specs.Grow.{growPass}
-use Rattle.pass.specs.Shrink.{shrinkPass}
 use Rattle.pass.specs.Prepare.{onePass, Prepared, prepareFrom, prepareNode}
-use Rattle.pass.specs.laws.Passes.{Passed}
-use Rattle.pass.specs.laws.Counts.{EndsIn}
-use Rattle.pass.specs.laws.Prepare.{passState, one-passed, one-up, one-down, prepare-more, prepare-last, left, left-le, pass-falls, prepare-fuel, prepare-enough}
+use Rattle.pass.specs.inner.Ends.{EndsIn}
+use Rattle.pass.specs.laws.Prepare.{passState, one-passed, one-up, one-down, prepare-more, prepare-last, left, left-le, pass-falls, prepare-fuel}
 use Rattle.graph.specs.laws.Form.{laid-shape, formed-vertices}
-use Rattle.pass.specs.Ready.{Ready, Growable, Shrinkable, Preparable, AfterPass, AfterPreparation}
+use Rattle.pass.specs.inner.Ready.{Ready, Growable, Preparable, AfterPass, AfterPreparation}
 use Rattle.pass.specs.laws.Ready.{ready-again, sound-shrinkable, growable-again, shrinkable-again}
 
 -- ---- of a block in form
@@ -46,7 +40,9 @@ sound-preparable b f n d h g = record { grows = λ e. g; shrinks = λ e. sound-s
 
 pub preparable-again : (b t : List ℤ) (n d : ℕ) → Ready b t n → Preparable (stateOf b) n d → Preparable (passState (stateOf b) n d) n d
 preparable-again b t n d q p = record {
-  grows = λ e. rw (one-up (stateOf b) n d (eq-eqb d up e)) (growable-again (stateOf b) (laid-shape b (q .formed .laid)) (formed-vertices b (q .formed)) n (q .node) (q .room) (p .grows e));
+  grows = λ e. rw (one-up (stateOf b) n d (eq-eqb d up e))
+      (growable-again (stateOf b) (laid-shape b (q .formed .laid)) (formed-vertices b (q .formed)) n (q .node) (q .room)
+      (p .grows e));
   shrinks = λ e. rw (one-down (stateOf b) n d (ne-eqb d up e)) (shrinkable-again b (q .formed) n (q .node) (p .shrinks e));
 }
 
@@ -80,7 +76,8 @@ preparing-none b t n d q g =
       scratch = refl;
       ready = q;
       able = g;
-      goes = λ e. prepare-fuel (suc (left d (stateOf b))) (suc (vertexCount (stateOf b))) (stateOf b) n d 0 (formed-ends b (q .formed)) (omega arith) (omega (arith, left-le d (stateOf b), l));
+      goes = λ e. prepare-fuel (suc (left d (stateOf b))) (suc (vertexCount (stateOf b))) (stateOf b) n d 0
+          (formed-ends b (q .formed)) (omega arith) (omega (arith, left-le d (stateOf b), l));
       ends = λ e. absurd-bool e;
       room = λ e. omega (arith, left-le d (stateOf b), l);
       most = omega arith;

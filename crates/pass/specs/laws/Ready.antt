@@ -1,24 +1,25 @@
 -- What a pass asks for holds again after it, so that the next pass may follow.
-use Prim.Native.Nat.{ℕ, zero, suc, _+_, _-_, _*_, _≤_, _<_}
+use Prim.Native.Nat.{ℕ, _+_, _-_, _*_, _≤_, _<_}
 use native.Mathlib.Omega.{arith}
 use mathlib.Core.Path.{_≡_, refl, sym, ap, _∙_}
-use mathlib.Core.Logic.{_≢_}
-use mathlib.Core.Bool.{Bool, true, false, _&&_}
+use mathlib.Core.Bool.{Bool, true}
 use mathlib.Core.List.{List, [], _∷_, map}
 use lib.IntN.{ℤ}
 use lib.Dec.{eqb, ltb, leb}
-use lib.ListN.{length, getD, length-map}
-use borrow.Author.Tests.{lt-ltb}
-use Rattle.graph.specs.Basic.{if_then_else_, all, below, distinct, sumBelow}
-use Rattle.graph.specs.State.{State, Overgrown, up, vertexCount, edgeCount, sideCount, sidesAt, nodeCount, endAt, parentOf, boundaryOf, overgrownOf}
-use Rattle.graph.specs.Open.{dualLimit, sidesOf}
-use Rattle.graph.specs.Sound.{sound, entries, entriesOf, overSound}
-use Rattle.graph.specs.Layout.{rowsOf, row, stateFrom, stateOf}
-use Rattle.graph.specs.Form.{Laid, Wired, Formed, Becomes, sidesOk}
-use Rattle.graph.specs.laws.State.{and-left, and-right, Kept}
+use lib.ListN.{length, length-map}
+use Rattle.graph.specs.Basic.{all}
+use Rattle.graph.specs.State.{State, Overgrown, vertexCount, edgeCount, sideCount, nodeCount, boundaryOf, overgrownOf}
+use Rattle.graph.specs.Open.{dualLimit}
+use Rattle.graph.specs.Sound.{entries, entriesOf, overSound}
+use Rattle.graph.specs.Layout.{stateOf}
+use Rattle.graph.specs.Form.{Formed}
+use Rattle.graph.specs.inner.Form.{sidesOk}
+use Rattle.graph.specs.laws.State.{and-left, and-right}
+use Rattle.graph.specs.inner.Kept.{SameButHolders}
 use Rattle.graph.specs.laws.Sums.{sum-apart}
-use Rattle.graph.specs.laws.Members.{all-weaker, all-from, by-test}
-use Rattle.graph.specs.laws.Shape.{Shape, SoundNode, node-facts, sound-node, OwnLists, own-facts, sides-of-out}
+use Rattle.graph.specs.laws.Members.{all-weaker, by-test}
+use Rattle.graph.specs.laws.Shape.{SoundNode, node-facts, sound-node, OwnLists, own-facts}
+use Rattle.graph.specs.Shape.{Shape}
 use Rattle.pass.specs.Work.{Work, finishPass}
 use Rattle.pass.specs.Grow.{growPass}
 use Rattle.pass.specs.Shrink.{belowTops, shrinkPass}
@@ -26,7 +27,7 @@ use Rattle.pass.specs.laws.Passes.{Passed, grow-passed, shrink-passed, s
 use Rattle.pass.specs.laws.Fits.{Listed, own-length, sound-own-over, shrink-pass-listed, below-tops-le, shrink-over}
 use Rattle.pass.specs.laws.GrowSound.{finish-boundary, finish-overgrown, grow-pass-sound, grow-pass-entries}
 use Rattle.graph.specs.laws.Form.{laid-shape, formed-sides}
-use Rattle.pass.specs.Ready.{Ready, Growable, Shrinkable, AfterPass}
+use Rattle.pass.specs.inner.Ready.{Ready, Growable, Shrinkable, AfterPass}
 
 -- ---- the store
 
@@ -42,7 +43,8 @@ entries-apart c d n p b =
 passed-counts : (n : ℕ) (c d : State) → Passed n c d → (vertexCount d ≡ vertexCount c) × (sideCount d ≡ sideCount c)
 passed-counts n c d p = (ap (λ g. length (g .virtual)) (p .graph), ap (λ g. length (g .end)) (p .graph))
 
-pub ready-again : {b b' t t' : List ℤ} {n : ℕ} {w : Work} {r : Bool} → Ready b t n → Passed n (stateOf b) (finishPass w n) → AfterPass b b' t t' n w r → Ready b' t' n
+pub ready-again : {b b' t t' : List ℤ} {n : ℕ} {w : Work} {r : Bool} → Ready b t n
+    → Passed n (stateOf b) (finishPass w n) → AfterPass b b' t t' n w r → Ready b' t' n
 ready-again {b} {b'} {t} {t'} {n} {w} q p a =
     let e : stateOf b' ≡ finishPass w n = a .block .state in
     let p' : Passed n (stateOf b) (stateOf b') = rw e p in
@@ -67,12 +69,20 @@ sound-shrinkable c z v n b g =
     record {
       sides = f .boundary;
       once = own .sides-once;
-      stack = all-weaker (overSound c) (λ (o : Overgrown). ltb (o .vertex) (vertexCount c)) (λ o e. and-left (ltb (o .vertex) (vertexCount c)) (leb (o .amount) dualLimit) e) (overgrownOf c n) (f .overgrown);
-      size = omega (arith, own-length _ n (vertexCount c) (map (λ (o : Overgrown). o .vertex) (overgrownOf c n)) o, length-map (overgrownOf c n) (λ (o : Overgrown). o .vertex));
+      stack = all-weaker (overSound c) (λ (o : Overgrown). ltb (o .vertex) (vertexCount c))
+          (λ o e. and-left (ltb (o .vertex) (vertexCount c)) (leb (o .amount) dualLimit) e) (overgrownOf c n)
+          (f .overgrown);
+      size = omega (
+        arith,
+        own-length _ n (vertexCount c) (map (λ (o : Overgrown). o .vertex) (overgrownOf c n)) o,
+        length-map (overgrownOf c n) (λ (o : Overgrown). o .vertex),
+      );
     }
 
 -- a growing pass leaves a state that may be grown
-pub growable-again : (c : State) → Shape c → 1 ≤ vertexCount c → (n : ℕ) → n < nodeCount c → entries c + (sideCount c + vertexCount c) ≤ c .storeLimit + entriesOf c n → Growable c n → Growable (finishPass (growPass c n) n) n
+pub growable-again : (c : State) → Shape c → 1 ≤ vertexCount c → (n : ℕ) → n < nodeCount c
+    → entries c + (sideCount c + vertexCount c) ≤ c .storeLimit + entriesOf c n → Growable c n
+    → Growable (finishPass (growPass c n) n) n
 growable-again c z v n b room g =
     let p : Passed n c (finishPass (growPass c n) n) = grow-passed c n in
     let k = grow-pass-entries c z (g .sounds) v n b (g .outer) in
@@ -98,13 +108,14 @@ tops-inside p (x ∷ xs) h =
     (λ e. rw e h)
 
 -- a shrinking pass leaves a state that may be shrunk
-pub shrinkable-again : (b : List ℤ) → Formed b → (n : ℕ) → n < nodeCount (stateOf b) → Shrinkable (stateOf b) n → Shrinkable (finishPass (shrinkPass (stateOf b) n) n) n
+pub shrinkable-again : (b : List ℤ) → Formed b → (n : ℕ) → n < nodeCount (stateOf b) → Shrinkable (stateOf b) n
+    → Shrinkable (finishPass (shrinkPass (stateOf b) n) n) n
 unfolding sidesOk
 shrinkable-again b f n h s =
     let c : State = stateOf b in
     let w : Work = shrinkPass c n in
     let z : Shape c = laid-shape b (f .laid) in
-    let k : Kept c (w .state) = shrink-pass-keeps c n in
+    let k : SameButHolders c (w .state) = shrink-pass-keeps c n in
     let p : Passed n c (finishPass w n) = shrink-passed c n in
     let m = passed-counts n c (finishPass w n) p in
     let pair : 2 * edgeCount c ≡ sideCount c = sym (f .pairs) in

@@ -4,12 +4,13 @@ use native.Mathlib.Numerals.{add-one}
 use native.Mathlib.Omega.{arith}
 use native.Mathlib.Decide.{ℕ-discrete as decEq}
 use mathlib.Core.Path.{_≡_, refl, sym, ap, _∙_}
-use mathlib.Core.List.{List, [], _∷_, _++_, map, append-assoc, append-nil}
+use mathlib.Core.List.{List, [], _∷_, _++_, map, append-assoc}
 use lib.IntN.{ℤ, pos}
 use lib.ListN.{length, set, getD, take, drop, replicate, length-append, length-replicate, length-map, length-set, List·getD-append, List·getD-map, getD-replicate}
 use lib.Seq.{take-at, drop-at, getD-append-add, getD-set-same, getD-set-other, ext-getD}
 use Rattle.graph.specs.Word.{toNat, wordAt, numbersAt}
-use Rattle.pass.specs.Scratch.{padded, scratchWords, zeroScratch, wiped, Holding}
+use Rattle.pass.specs.Scratch.{zeroScratch}
+use Rattle.pass.specs.inner.Scratch.{ScratchHolds, wiped, scratchWords, padded}
 
 -- ---- lists
 
@@ -81,11 +82,15 @@ length-scratch m a b c ha hb hc =
     ∙ omega (arith, length-append (padded m b) (padded m c), length-padded m a ha, length-padded m b hb, length-padded m c hc)
 
 -- the scratch with a word changed in its first, second or third section
-set-first : (m : ℕ) (a b c : List ℕ) (i x : ℕ) → i < length (padded m a) → set (scratchWords m a b c) i (pos x) ≡ map pos (set (padded m a) i x ++ (padded m b ++ padded m c))
+set-first : (m : ℕ) (a b c : List ℕ) (i x : ℕ) → i < length (padded m a)
+    → set (scratchWords m a b c) i (pos x) ≡ map pos (set (padded m a) i x ++ (padded m b ++ padded m c))
 unfolding scratchWords
-set-first m a b c i x h = sym (map-pos-set (padded m a ++ (padded m b ++ padded m c)) i x) ∙ ap (map pos) (set-left (padded m a) (padded m b ++ padded m c) i x h)
+set-first m a b c i x h =
+    sym (map-pos-set (padded m a ++ (padded m b ++ padded m c)) i x)
+    ∙ ap (map pos) (set-left (padded m a) (padded m b ++ padded m c) i x h)
 
-set-second : (m : ℕ) (a b c : List ℕ) (i x : ℕ) → length a ≤ m → i < length (padded m b) → set (scratchWords m a b c) (m + i) (pos x) ≡ map pos (padded m a ++ (set (padded m b) i x ++ padded m c))
+set-second : (m : ℕ) (a b c : List ℕ) (i x : ℕ) → length a ≤ m → i < length (padded m b)
+    → set (scratchWords m a b c) (m + i) (pos x) ≡ map pos (padded m a ++ (set (padded m b) i x ++ padded m c))
 unfolding scratchWords
 set-second m a b c i x ha h =
     let z : m + i ≡ length (padded m a) + i = omega (arith, length-padded m a ha) in
@@ -94,7 +99,8 @@ set-second m a b c i x ha h =
     ∙ set-right (padded m a) (padded m b ++ padded m c) i x
     ∙ ap (λ q. padded m a ++ q) (set-left (padded m b) (padded m c) i x h))
 
-set-third : (m : ℕ) (a b c : List ℕ) (i x : ℕ) → length a ≤ m → length b ≤ m → set (scratchWords m a b c) (2 * m + i) (pos x) ≡ map pos (padded m a ++ (padded m b ++ set (padded m c) i x))
+set-third : (m : ℕ) (a b c : List ℕ) (i x : ℕ) → length a ≤ m → length b ≤ m
+    → set (scratchWords m a b c) (2 * m + i) (pos x) ≡ map pos (padded m a ++ (padded m b ++ set (padded m c) i x))
 unfolding scratchWords
 set-third m a b c i x ha hb =
     let z : 2 * m + i ≡ length (padded m a) + (length (padded m b) + i) = omega (arith, length-padded m a ha, length-padded m b hb) in
@@ -128,12 +134,13 @@ scratch-numbers m a b c p n = part (padded m a ++ (padded m b ++ padded m c)) p 
 
 -- ---- what a pass does with its scratch
 
-pub holding-zero : (t : List ℤ) (m : ℕ) → t ≡ zeroScratch (3 * m) → Holding t m [] [] []
+pub holding-zero : (t : List ℤ) (m : ℕ) → t ≡ zeroScratch (3 * m) → ScratchHolds t m [] [] []
 unfolding zeroScratch scratchWords padded
 holding-zero t m e =
     let n : m - 0 ≡ m = omega arith in
     let z : m + (m + m) ≡ 3 * m = omega arith in
-    let zeros : replicate {A = ℕ} m 0 ++ (replicate m 0 ++ replicate m 0) ≡ replicate (3 * m) 0 = ap (λ q. replicate m 0 ++ q) (replicate-append m m) ∙ replicate-append m (m + m) ∙ ap (λ k. replicate k 0) z in
+    let zeros : replicate {A = ℕ} m 0 ++ (replicate m 0 ++ replicate m 0) ≡ replicate (3 * m) 0 =
+    ap (λ q. replicate m 0 ++ q) (replicate-append m m) ∙ replicate-append m (m + m) ∙ ap (λ k. replicate k 0) z in
     record {
       words = e ∙ sym (rw (n, zeros) (map-zeros (3 * m)));
       keeps = omega arith;
@@ -146,12 +153,12 @@ holding-zero t m e =
     map-zeros zero = refl
     map-zeros (suc k) = ap (λ r. pos 0 ∷ r) (map-zeros k)
 
-pub zero-holding : (t : List ℤ) (m : ℕ) → Holding t m [] [] [] → t ≡ zeroScratch (3 * m)
+pub zero-holding : (t : List ℤ) (m : ℕ) → ScratchHolds t m [] [] [] → t ≡ zeroScratch (3 * m)
 zero-holding t m h = h .words ∙ sym (holding-zero (zeroScratch (3 * m)) m refl .words)
 
-module _ {t : List ℤ} {m : ℕ} {a b c : List ℕ} (h : Holding t m a b c) where
+module _ {t : List ℤ} {m : ℕ} {a b c : List ℕ} (h : ScratchHolds t m a b c) where
   -- one more entry
-  pub hold-first : (x : ℕ) → length a < m → Holding (set t (length a) (pos x)) m (a ++ (x ∷ [])) b c
+  pub hold-first : (x : ℕ) → length a < m → ScratchHolds (set t (length a) (pos x)) m (a ++ (x ∷ [])) b c
   hold-first x l =
       let u = length-append a (x ∷ []) in
       record {
@@ -162,18 +169,20 @@ module _ {t : List ℤ} {m : ℕ} {a b c : List ℕ} (h : Holding t m a b c) whe
         size = length-set t (length a) (pos x) ∙ h .size;
       }
 
-  pub hold-second : (x : ℕ) → length b < m → Holding (set t (m + length b) (pos x)) m a (b ++ (x ∷ [])) c
+  pub hold-second : (x : ℕ) → length b < m → ScratchHolds (set t (m + length b) (pos x)) m a (b ++ (x ∷ [])) c
   hold-second x l =
       let u = length-append b (x ∷ []) in
       record {
-        words = rw (h .words) (set-second m a b c (length b) x (h .keeps) (rw (length-padded m b (h .notes)) l) ∙ rw (padded-push m b x l) (unfold scratchWords in refl));
+        words = rw (h .words)
+            (set-second m a b c (length b) x (h .keeps) (rw (length-padded m b (h .notes)) l)
+            ∙ rw (padded-push m b x l) (unfold scratchWords in refl));
         keeps = h .keeps;
         notes = omega (arith, u);
         thirds = h .thirds;
         size = length-set t (m + length b) (pos x) ∙ h .size;
       }
 
-  pub hold-third : (x : ℕ) → length c < m → Holding (set t (2 * m + length c) (pos x)) m a b (c ++ (x ∷ []))
+  pub hold-third : (x : ℕ) → length c < m → ScratchHolds (set t (2 * m + length c) (pos x)) m a b (c ++ (x ∷ []))
   hold-third x l =
       let u = length-append c (x ∷ []) in
       record {
@@ -185,25 +194,29 @@ module _ {t : List ℤ} {m : ℕ} {a b c : List ℕ} (h : Holding t m a b c) whe
       }
 
   -- an entry changed
-  pub change-first : (i x : ℕ) → i < length a → Holding (set t i (pos x)) m (set a i x) b c
+  pub change-first : (i x : ℕ) → i < length a → ScratchHolds (set t i (pos x)) m (set a i x) b c
   change-first i x l = record {
-    words = rw (h .words) (set-first m a b c i x (rw (length-padded m a (h .keeps)) (omega (arith, h .keeps))) ∙ rw (padded-set m a i x l) (unfold scratchWords in refl));
+    words = rw (h .words)
+        (set-first m a b c i x (rw (length-padded m a (h .keeps)) (omega (arith, h .keeps)))
+        ∙ rw (padded-set m a i x l) (unfold scratchWords in refl));
     keeps = rw (length-set a i x) (h .keeps);
     notes = h .notes;
     thirds = h .thirds;
     size = length-set t i (pos x) ∙ h .size;
   }
 
-  pub change-second : (i x : ℕ) → i < length b → Holding (set t (m + i) (pos x)) m a (set b i x) c
+  pub change-second : (i x : ℕ) → i < length b → ScratchHolds (set t (m + i) (pos x)) m a (set b i x) c
   change-second i x l = record {
-    words = rw (h .words) (set-second m a b c i x (h .keeps) (rw (length-padded m b (h .notes)) (omega (arith, h .notes))) ∙ rw (padded-set m b i x l) (unfold scratchWords in refl));
+    words = rw (h .words)
+        (set-second m a b c i x (h .keeps) (rw (length-padded m b (h .notes)) (omega (arith, h .notes)))
+        ∙ rw (padded-set m b i x l) (unfold scratchWords in refl));
     keeps = h .keeps;
     notes = rw (length-set b i x) (h .notes);
     thirds = h .thirds;
     size = length-set t (m + i) (pos x) ∙ h .size;
   }
 
-  pub change-third : (i x : ℕ) → i < length c → Holding (set t (2 * m + i) (pos x)) m a b (set c i x)
+  pub change-third : (i x : ℕ) → i < length c → ScratchHolds (set t (2 * m + i) (pos x)) m a b (set c i x)
   change-third i x l = record {
     words = rw (h .words) (set-third m a b c i x (h .keeps) (h .notes) ∙ rw (padded-set m c i x l) (unfold scratchWords in refl));
     keeps = h .keeps;
@@ -213,28 +226,35 @@ module _ {t : List ℤ} {m : ℕ} {a b c : List ℕ} (h : Holding t m a b c) whe
   }
 
   -- entries that are all zero are none
-  pub drop-first : (k : ℕ) → a ≡ replicate k 0 → Holding t m [] b c
+  pub drop-first : (k : ℕ) → a ≡ replicate k 0 → ScratchHolds t m [] b c
   unfolding scratchWords
   drop-first k e =
       let l : k ≤ m = omega (arith, h .keeps, ap length e ∙ length-replicate {A = ℕ} k 0) in
       record { words = h .words ∙ rw (e, padded-zeros m k l); keeps = omega arith; notes = h .notes; thirds = h .thirds; size = h .size }
 
-  pub drop-second : (k : ℕ) → b ≡ replicate k 0 → Holding t m a [] c
+  pub drop-second : (k : ℕ) → b ≡ replicate k 0 → ScratchHolds t m a [] c
   unfolding scratchWords
   drop-second k e =
       let l : k ≤ m = omega (arith, h .notes, ap length e ∙ length-replicate {A = ℕ} k 0) in
       record { words = h .words ∙ rw (e, padded-zeros m k l); keeps = h .keeps; notes = omega arith; thirds = h .thirds; size = h .size }
 
-  pub drop-third : (k : ℕ) → c ≡ replicate k 0 → Holding t m a b []
+  pub drop-third : (k : ℕ) → c ≡ replicate k 0 → ScratchHolds t m a b []
   unfolding scratchWords
   drop-third k e =
       let l : k ≤ m = omega (arith, h .thirds, ap length e ∙ length-replicate {A = ℕ} k 0) in
       record { words = h .words ∙ rw (e, padded-zeros m k l); keeps = h .keeps; notes = h .notes; thirds = omega arith; size = h .size }
 
   -- the other way: a section without entries has m zeros
-  pub zeros-third : c ≡ [] → Holding t m a b (replicate m 0)
+  pub zeros-third : c ≡ [] → ScratchHolds t m a b (replicate m 0)
   unfolding scratchWords
-  zeros-third e = record { words = h .words ∙ rw (e, padded-zeros m m (omega arith)); keeps = h .keeps; notes = h .notes; thirds = rw (length-replicate {A = ℕ} m 0) (omega arith); size = h .size }
+  zeros-third e =
+      record {
+        words = h .words ∙ rw (e, padded-zeros m m (omega arith));
+        keeps = h .keeps;
+        notes = h .notes;
+        thirds = rw (length-replicate {A = ℕ} m 0) (omega arith);
+        size = h .size;
+      }
 
   -- ---- reading
 
@@ -247,17 +267,24 @@ module _ {t : List ℤ} {m : ℕ} {a b c : List ℕ} (h : Holding t m a b c) whe
   second-entry i l =
       let z : m + i ≡ length (padded m a) + i = omega (arith, length-padded m a (h .keeps)) in
       rw (h .words, scratch-word m a b c (m + i), z)
-      (getD-append-add (padded m a) (padded m b ++ padded m c) i 0 ∙ List·getD-append (padded m b) (padded m c) 0 i (rw (length-padded m b (h .notes)) (omega (arith, h .notes))) ∙ padded-entry m b i l)
+      (getD-append-add (padded m a) (padded m b ++ padded m c) i 0
+      ∙ List·getD-append (padded m b) (padded m c) 0 i (rw (length-padded m b (h .notes)) (omega (arith, h .notes)))
+      ∙ padded-entry m b i l)
 
   pub third-entry : (i : ℕ) → i < length c → wordAt t (2 * m + i) ≡ getD c i 0
   third-entry i l =
       let z : 2 * m + i ≡ length (padded m a) + (length (padded m b) + i) = omega (arith, length-padded m a (h .keeps), length-padded m b (h .notes)) in
       rw (h .words, scratch-word m a b c (2 * m + i), z)
-      (getD-append-add (padded m a) (padded m b ++ padded m c) (length (padded m b) + i) 0 ∙ getD-append-add (padded m b) (padded m c) i 0 ∙ padded-entry m c i l)
+      (getD-append-add (padded m a) (padded m b ++ padded m c) (length (padded m b) + i) 0
+      ∙ getD-append-add (padded m b) (padded m c) i 0 ∙ padded-entry m c i l)
 
   -- the sections' entries as the numbers that stand there
   pub first-numbers : numbersAt t 0 (length a) ≡ a
-  first-numbers = rw (h .words, scratch-numbers m a b c 0 (length a)) (unfold padded in rw (append-assoc a (replicate (m - length a) 0) (padded m b ++ padded m c)) (take-at a (replicate (m - length a) 0 ++ (padded m b ++ padded m c)) (length a) refl))
+  first-numbers =
+      rw (h .words, scratch-numbers m a b c 0 (length a))
+      (unfold padded in
+      rw (append-assoc a (replicate (m - length a) 0) (padded m b ++ padded m c))
+      (take-at a (replicate (m - length a) 0 ++ (padded m b ++ padded m c)) (length a) refl))
 
   pub second-numbers : numbersAt t m (length b) ≡ b
   second-numbers =
@@ -266,8 +293,15 @@ module _ {t : List ℤ} {m : ℕ} {a b c : List ℕ} (h : Holding t m a b c) whe
 
   pub third-numbers : numbersAt t (2 * m) (length c) ≡ c
   third-numbers =
-      let z : length (padded m a ++ padded m b) ≡ 2 * m = length-append (padded m a) (padded m b) ∙ omega (arith, length-padded m a (h .keeps), length-padded m b (h .notes)) in
-      rw (h .words, scratch-numbers m a b c (2 * m) (length c), ← append-assoc (padded m a) (padded m b) (padded m c), drop-at (padded m a ++ padded m b) (padded m c) (2 * m) z)
+      let z : length (padded m a ++ padded m b) ≡ 2 * m =
+      length-append (padded m a) (padded m b)
+      ∙ omega (arith, length-padded m a (h .keeps), length-padded m b (h .notes)) in
+      rw (
+        h .words,
+        scratch-numbers m a b c (2 * m) (length c),
+        ← append-assoc (padded m a) (padded m b) (padded m c),
+        drop-at (padded m a ++ padded m b) (padded m c) (2 * m) z,
+      )
       (unfold padded in take-at c (replicate (m - length c) 0) (length c) refl)
 
 -- ---- clearing
@@ -294,31 +328,32 @@ zeroed-below (suc i) l p h k =
 zeroed-all : (l : List ℕ) → zeroed (length l) l ≡ replicate (length l) 0
 zeroed-all l =
     ext-getD 0 (zeroed (length l) l) (replicate (length l) 0) (zeroed-length (length l) l ∙ sym (length-replicate {A = ℕ} (length l) 0))
-    (λ p h. let k : p < length l = omega (arith, h, zeroed-length (length l) l) in zeroed-below (length l) l p k (omega arith) ∙ sym (getD-replicate {A = ℕ} (length l) p 0 0 k))
+    (λ p h. let k : p < length l = omega (arith, h, zeroed-length (length l) l) in
+    zeroed-below (length l) l p k (omega arith) ∙ sym (getD-replicate {A = ℕ} (length l) p 0 0 k))
 
-module _ {t : List ℤ} {m : ℕ} {a b c : List ℕ} (h : Holding t m a b c) where
-  wiping-first : (i : ℕ) → i ≤ length a → Holding (wiped t 0 i) m (zeroed i a) b c
+module _ {t : List ℤ} {m : ℕ} {a b c : List ℕ} (h : ScratchHolds t m a b c) where
+  wiping-first : (i : ℕ) → i ≤ length a → ScratchHolds (wiped t 0 i) m (zeroed i a) b c
   unfolding wiped zeroed
   wiping-first zero l = h
   wiping-first (suc i) l = let z : 0 + i ≡ i = omega arith in rw z (change-first (wiping-first i (omega arith)) i 0 (omega (arith, zeroed-length i a)))
 
-  wiping-second : (i : ℕ) → i ≤ length b → Holding (wiped t m i) m a (zeroed i b) c
+  wiping-second : (i : ℕ) → i ≤ length b → ScratchHolds (wiped t m i) m a (zeroed i b) c
   unfolding wiped zeroed
   wiping-second zero l = h
   wiping-second (suc i) l = change-second (wiping-second i (omega arith)) i 0 (omega (arith, zeroed-length i b))
 
-  wiping-third : (i : ℕ) → i ≤ length c → Holding (wiped t (2 * m) i) m a b (zeroed i c)
+  wiping-third : (i : ℕ) → i ≤ length c → ScratchHolds (wiped t (2 * m) i) m a b (zeroed i c)
   unfolding wiped zeroed
   wiping-third zero l = h
   wiping-third (suc i) l = change-third (wiping-third i (omega arith)) i 0 (omega (arith, zeroed-length i c))
 
-  pub wipe-first : Holding (wiped t 0 (length a)) m [] b c
+  pub wipe-first : ScratchHolds (wiped t 0 (length a)) m [] b c
   wipe-first = drop-first (wiping-first (length a) (omega arith)) (length a) (zeroed-all a)
 
-  pub wipe-second : Holding (wiped t m (length b)) m a [] c
+  pub wipe-second : ScratchHolds (wiped t m (length b)) m a [] c
   wipe-second = drop-second (wiping-second (length b) (omega arith)) (length b) (zeroed-all b)
 
-  pub wipe-third : Holding (wiped t (2 * m) (length c)) m a b []
+  pub wipe-third : ScratchHolds (wiped t (2 * m) (length c)) m a b []
   wipe-third = drop-third (wiping-third (length c) (omega arith)) (length c) (zeroed-all c)
 
 -- nothing is wiped, and one word more is

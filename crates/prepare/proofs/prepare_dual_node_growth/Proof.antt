@@ -1,6 +1,4 @@
 use borrow.Author.Needs.{needs}
-use native.Mathlib.Omega.{arith}
-use mathlib.Core.Path.{_≡_, sym, _∙_}
 use Rattle.graph.specs.Layout.{stateOf}
 use Rattle.pass.specs.laws.Preparing.{Preparing, remaining, preparing-none, preparing-falls, preparing-more, preparing-all}
 use Rattle.prepare.proofs.prepare_dual_node_growth.Statement.{statement}
@@ -23,10 +21,17 @@ add-passes : tie.Need-add-passes Inv-loop μ-loop
 add-passes c = search needs
 
 loop-less : tie.Need-loop-less Inv-loop μ-loop
-loop-less c = let i = c .before .before .before .before .before in rw (i .loop-test .taken) (preparing-falls (rw (i .loop-test .taken) at (i .before .loop .inv)) (c .before .before .prepare-dual-node-growth-single .ensures))
+loop-less c =
+    let i = c .before .before .before .before .before in
+    rw (i .loop-test .taken)
+    (preparing-falls (rw (i .loop-test .taken) at (i .before .loop .inv))
+    (c .before .before .prepare-dual-node-growth-single .ensures))
 
 loop-again : tie.Need-loop-again Inv-loop μ-loop
-loop-again c = let i = c .before .before .before .before .before in preparing-more (rw (i .loop-test .taken) at (i .before .loop .inv)) (c .before .before .prepare-dual-node-growth-single .ensures)
+loop-again c =
+    let i = c .before .before .before .before .before in
+    preparing-more (rw (i .loop-test .taken) at (i .before .loop .inv))
+    (c .before .before .prepare-dual-node-growth-single .ensures)
 
 same-length : tie.Need-same-length Inv-loop μ-loop
 same-length c = search needs

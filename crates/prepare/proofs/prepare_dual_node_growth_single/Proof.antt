@@ -1,4 +1,3 @@
-use mathlib.Core.Path.{sym}
 use borrow.Author.Tests.{eq-eqb, ne-eqb}
 use Rattle.pass.specs.laws.Prepare.{one-up, one-down}
 use borrow.Author.Needs.{needs}
@@ -18,7 +17,10 @@ same-length-2 : tie.Need-same-length-2
 same-length-2 c = search needs
 
 returns : tie.Need-returns
-returns c = let i = c .before .before .before .before .before in let s = i .before in rw (one-up _ (s .args .n) (s .args .d) (eq-eqb _ _ (i .if1 .taken))) (c .before .before .grow-pass .ensures)
+returns c =
+    let i = c .before .before .before .before .before in
+    let s = i .before in
+    rw (one-up _ (s .args .n) (s .args .d) (eq-eqb _ _ (i .if1 .taken))) (c .before .before .grow-pass .ensures)
 
 same-length-3 : tie.Need-same-length-3
 same-length-3 c = search needs
@@ -27,7 +29,10 @@ same-length-4 : tie.Need-same-length-4
 same-length-4 c = search needs
 
 returns-2 : tie.Need-returns-2
-returns-2 c = let i = c .before .before .before .before .before in let s = i .before in rw (one-down _ (s .args .n) (s .args .d) (ne-eqb _ _ (i .if1 .left))) (c .before .before .shrink-pass .ensures)
+returns-2 c =
+    let i = c .before .before .before .before .before in
+    let s = i .before in
+    rw (one-down _ (s .args .n) (s .args .d) (ne-eqb _ _ (i .if1 .left))) (c .before .before .shrink-pass .ensures)
 
 pub prepare-dual-node-growth-single-spec : {M : Type 1} → statement M
 prepare-dual-node-growth-single-spec =

@@ -10,12 +10,12 @@ use lib.ListN.{length}
 use Rattle.graph.specs.Basic.{member}
 use Rattle.graph.specs.State.{State, nodeCount, growStateOf, parentOf, withActive, stay}
 use Rattle.graph.specs.Sound.{activeSound}
-use Rattle.graph.specs.Active.{joinedTo, joinActive, activated, renewed}
+use Rattle.graph.specs.Active.{joinedTo, joinActive, activated, renewed, ActiveAll}
 use borrow.Author.Tests.{ne-eqb}
 use Rattle.graph.specs.laws.State.{if-both, if-cases}
 use Rattle.graph.specs.laws.Members.{clash}
 use Rattle.graph.specs.laws.Shape.{sound-active}
-use Rattle.graph.specs.laws.Active.{ActiveAll, shape-active, with-active-sound, join-sound, activated-sound, renewed-sound, renewed-all, joined-in, joined-keeps}
+use Rattle.graph.specs.laws.Active.{shape-active, with-active-sound, join-sound, activated-sound, renewed-sound, renewed-all, joined-in, joined-keeps}
 use Rattle.reachable.specs.laws.state.Live.{live-active}
 use Rattle.reachable.specs.Invariant.{Labels, DefectNode, Clusters, InnerStay, SoundClusters, Invariant}
 
@@ -80,7 +80,8 @@ pub activated-invariant : (c : State) → Invariant c → (n x : ℕ) → n < no
 unfolding activated
 activated-invariant c g n x b =
     active-invariant c _ (sound-clusters-of g) (unfold activated in (activated-sound c n x b (sound-active c (g .sounds))))
-    (λ m h ne. if-both (λ (l : List ℕ). member m l ≡ true) (eqb (growStateOf c n) stay && not (eqb x stay)) (joined-keeps (c .active) n m (g .active-all m h ne)) (g .active-all m h ne))
+    (λ m h ne. if-both (λ (l : List ℕ). member m l ≡ true) (eqb (growStateOf c n) stay && not (eqb x stay))
+    (joined-keeps (c .active) n m (g .active-all m h ne)) (g .active-all m h ne))
     (g .inner-stay)
 
 -- who is given another state than Stay stands in the list

@@ -22,12 +22,12 @@ use Rattle.pass.specs.laws.Passes.{Passed}
 use Rattle.pass.specs.laws.Prepare.{prepare-passed}
 use Rattle.pass.specs.laws.Idle.{TopLeft, top-amount}
 use Rattle.pass.specs.laws.Leaves.{prepare-top-left, prepare-frees-none}
-use Rattle.length.specs.declared.Answer.{Answer}
-use Rattle.length.specs.declared.Answer.the-variants.{NonZeroGrow, Unlimited, Conflicting, TouchingVirtual, BlossomNeedExpand, VertexShrinkStop, VertexShrinkStopPeer, Done, Node, Prepared, Refused, Vertex}
-use Rattle.length.specs.Answer.{Reply}
-use Rattle.length.specs.Scan.{half, isZero, lesser, Look, skip, room, meets, gapOf, lookPeer, lookFree, lookHeld, lookGrow, lookShrink, look, Scan, open-ended, within, over, joined, scanStep, isEmpty, scanAnswer, scanBoundary, stopAnswer, shrinkLimit, scan}
-use Rattle.length.specs.laws.Scanning.{gap-within}
-use Rattle.length.specs.laws.Long.{longAs, isLength, stop-short}
+use Rattle.update_length.specs.declared.Answer.{Answer}
+use Rattle.update_length.specs.declared.Answer.the-variants.{NonZeroGrow, Unlimited, Conflicting, TouchingVirtual, BlossomNeedExpand, VertexShrinkStop, VertexShrinkStopPeer, Done, Node, Prepared, Refused, Vertex}
+use Rattle.update_length.specs.Answer.{Reply}
+use Rattle.update_length.specs.Scan.{half, isZero, lesser, Look, skip, room, meets, gapOf, lookPeer, lookFree, lookHeld, lookGrow, lookShrink, look, Scan, open-ended, within, over, withLook, scanStep, isEmpty, scanAnswer, scanBoundary, stopAnswer, shrinkLimit, scan}
+use Rattle.update_length.specs.laws.Scanning.{gap-within}
+use Rattle.update_length.specs.laws.Long.{longAs, isLength, stop-short}
 use Rattle.calls.specs.Refuse.{nodeRefusal, storeShort}
 use Rattle.calls.specs.Calls.{toward, prepareDualNodeGrowth}
 use Rattle.calls.specs.Round.{Tried, refusalOf, tryAll, preparing, preparedAll, answersOf}
@@ -89,8 +89,8 @@ lesser-fine (pos a) (negsuc b) h k = k
 lesser-fine (negsuc a) (pos b) h k = h
 lesser-fine (negsuc a) (negsuc b) h k = clash true refl (sym h)
 
-join-fine : (r : Scan) (l : Look) → scanFine r ≡ true → lookFine l ≡ true → scanFine (joined r l) ≡ true
-unfolding scanFine lookFine joined
+join-fine : (r : Scan) (l : Look) → scanFine r ≡ true → lookFine l ≡ true → scanFine (withLook r l) ≡ true
+unfolding scanFine lookFine withLook
 join-fine (over a) l p q = p
 join-fine open-ended skip p q = refl
 join-fine open-ended (room x) p q = q
@@ -105,11 +105,14 @@ answer-fine e open-ended p = refl
 answer-fine e (within l) p = p
 answer-fine e (over a) p = p
 
-boundary-fine : (c : State) (n d : ℕ) (r : Scan) → scanFine r ≡ true → ((s : ℕ) → member s (boundaryOf c n) ≡ true → lookFine (look c n d s) ≡ true) → fine (scanBoundary c n d r) ≡ true
+boundary-fine : (c : State) (n d : ℕ) (r : Scan) → scanFine r ≡ true
+    → ((s : ℕ) → member s (boundaryOf c n) ≡ true → lookFine (look c n d s) ≡ true) → fine (scanBoundary c n d r) ≡ true
 unfolding scanBoundary scanStep
 boundary-fine c n d r p f =
     answer-fine (isEmpty (boundaryOf c n)) (fold (scanStep c n d) r (boundaryOf c n))
-    (fold-keeps-on (scanStep c n d) (λ s. lookFine (look c n d s)) (λ (x : Scan). scanFine x ≡ true) (λ x s q g. join-fine x (look c n d s) g q) r (boundaryOf c n) (all-from (λ s. lookFine (look c n d s)) (boundaryOf c n) f) p)
+    (fold-keeps-on (scanStep c n d) (λ s. lookFine (look c n d s)) (λ (x : Scan). scanFine x ≡ true)
+    (λ x s q g. join-fine x (look c n d s) g q) r (boundaryOf c n)
+    (all-from (λ s. lookFine (look c n d s)) (boundaryOf c n) f) p)
 
 one-more : (x : ℕ) → x ≢ 0 → longAs 1 (pos x) ≡ true
 unfolding longAs
@@ -149,7 +152,9 @@ down-fine c n p =
     (λ z. fine-of (stopAnswer c n (classOf c n)) (stop-accepts c n (classOf c n)) (stop-short c n (classOf c n)))
     (λ z.
     let y : dualOf c n ≢ 0 = eqb-false _ _ z in
-    boundary-fine c n down (within (pos (shrinkLimit (dualOf c n) (overgrownOf c n)))) (within-fine (shrinkLimit (dualOf c n) (overgrownOf c n)) (limit-left (dualOf c n) (overgrownOf c n) y (p .top))) (λ s m. shrink-look c n s (p .sides y s m)))
+    boundary-fine c n down (within (pos (shrinkLimit (dualOf c n) (overgrownOf c n))))
+    (within-fine (shrinkLimit (dualOf c n) (overgrownOf c n)) (limit-left (dualOf c n) (overgrownOf c n) y (p .top)))
+    (λ s m. shrink-look c n s (p .sides y s m)))
 
 -- ---- a node prepared for growing
 
@@ -170,7 +175,9 @@ held-fine c n s p k e =
     if-both (λ (x : Look). lookFine x ≡ true) (eqb (growStateOf c p) shrinking) refl
     (rw e (by-test (eqb (growStateOf c p) growing) (λ q. rw q (peer-fine c n s p (k / 2))) (λ q. rw q (peer-fine c n s p k))))
 
-grow-look : (c : State) (n s : ℕ) → (holderAt c (opposite s) ≢ n + 1 → grownOver c s ≤ weightOver c s) → (holderAt c (opposite s) ≡ 0 → grownOver c s ≡ weightOver c s → virtualAt c (endAt c (opposite s)) ≢ 0) → lookFine (lookGrow c n s) ≡ true
+grow-look : (c : State) (n s : ℕ) → (holderAt c (opposite s) ≢ n + 1 → grownOver c s ≤ weightOver c s)
+    → (holderAt c (opposite s) ≡ 0 → grownOver c s ≡ weightOver c s → virtualAt c (endAt c (opposite s)) ≢ 0)
+    → lookFine (lookGrow c n s) ≡ true
 unfolding lookGrow lookFine
 grow-look c n s le f =
     if-cases (λ (x : Look). lookFine x ≡ true) (eqb (holderAt c (opposite s)) (n + 1)) (λ e. refl)
@@ -193,7 +200,9 @@ up-fine c g n f t =
     (λ ne.
     let own : holderAt c s ≡ n + 1 = g .clusters .boundary-held n (f .inside) (f .outer) s m in
     let b : s < sideCount c = g .clusters .node n (f .inside) (f .outer) .within s m in
-    ⊎-elim (λ (a : grownOver c s ≤ weightOver c s). a) (λ (a : (holderAt c s ≢ 0) × (holderAt c (opposite s) ≡ holderAt c s)). absurd (ne (a .1 ∙ own))) (g .clusters .global .within-weight s b))
+    ⊎-elim (λ (a : grownOver c s ≤ weightOver c s). a)
+    (λ (a : (holderAt c s ≢ 0) × (holderAt c (opposite s) ≡ holderAt c s)). absurd (ne (a .1 ∙ own)))
+    (g .clusters .global .within-weight s b))
     (λ e q. t s m e q)))
   where
     up-look : (s : ℕ) → lookFine (lookGrow c n s) ≡ true → lookFine (look c n up s) ≡ true
@@ -202,7 +211,11 @@ up-fine c g n f t =
 -- ---- kept while other nodes are prepared
 
 down-other : (c d : State) (n q : ℕ) → Passed q c d → n ≢ q → DownReady c n → DownReady d n
-down-other c d n q p ne h = record { sides = λ y s m. rw (p .growth) (h .sides (λ e. y (rw (p .dual) e)) s (rw (p .boundaries n ne) at m)); top = rw (p .overgrowns n ne) (h .top) }
+down-other c d n q p ne h =
+    record {
+      sides = λ y s m. rw (p .growth) (h .sides (λ e. y (rw (p .dual) e)) s (rw (p .boundaries n ne) at m));
+      top = rw (p .overgrowns n ne) (h .top);
+    }
 
 up-other : (c : State) (n q : ℕ) → n ≢ q → NothingToTake c n → NothingToTake (prepareNode c q up .state) n
 up-other c n q ne h s m e f =
@@ -220,10 +233,13 @@ down-here c g n f =
     record {
       sides = λ y s m q.
           let h : holderAt (prepareNode c n down .state) s ≡ n + 1 = r .held-ready .boundary-held s m in
-          let lv : k .depth (endAt (prepareNode c n down .state) s) + growthAt (prepareNode c n down .state) s ≡ k .base n + dualOf (prepareNode c n down .state) n = i .listed-growth s m h in
+          let lv : k .depth (endAt (prepareNode c n down .state) s) + growthAt (prepareNode c n down .state) s
+          ≡ k .base n + dualOf (prepareNode c n down .state) n =
+          i .listed-growth s m h in
           let b : k .depth (endAt (prepareNode c n down .state) s) ≤ k .base n = i .defect-within-base s h (r .zero-at-defects s m q) in
           y (omega arith);
-      top = prepare-top-left c n (λ s. rw (g .shape .vertexHolder) (numbers-end c (invariant-numbers g) s)) (g .shape .vertexHolder) (rw (g .shape .overgrown) (f .inside));
+      top = prepare-top-left c n (λ s. rw (g .shape .vertexHolder) (numbers-end c (invariant-numbers g) s))
+          (g .shape .vertexHolder) (rw (g .shape .overgrown) (f .inside));
     }
 
 up-here : (c : State) → Invariant c → (n : ℕ) → Free c n → NothingToTake (prepareNode c n up .state) n
@@ -250,7 +266,8 @@ module _ (r : State) (g : Invariant r) where
   apart : (x y q n : ℕ) → x ≢ y → member q (activeIn r x) ≡ true → member n (activeIn r y) ≡ true → q ≢ n
   apart x y q n ne i j e = ne (sym (active-in r x q i .1) ∙ ap (growStateOf r) e ∙ active-in r y n j .1)
 
-  shrink-readied : (ns ms : List ℕ) (d : State) → ((q : ℕ) → member q (activeIn r growing) ≡ true → member q ns ≡ true) → Readied ms ns d → distinct ms ≡ true → ((n : ℕ) → member n ms ≡ true → member n (activeIn r shrinking) ≡ true)
+  shrink-readied : (ns ms : List ℕ) (d : State) → ((q : ℕ) → member q (activeIn r growing) ≡ true → member q ns ≡ true)
+      → Readied ms ns d → distinct ms ≡ true → ((n : ℕ) → member n ms ≡ true → member n (activeIn r shrinking) ≡ true)
       → tryAll (preparing down) (begun d) ms .refusal ≡ 0 → Readied [] ns (tryAll (preparing down) (begun d) ms .state)
   unfolding preparing
   shrink-readied ns [] d full p w k = rw (try-none (preparing down) (begun d)) (λ e. p)
@@ -267,7 +284,8 @@ module _ (r : State) (g : Invariant r) where
       rw e (record {
         along = rw e at al;
         active = q .active ∙ p .active;
-        downs = λ m j o. by-cases (decEq m n) (λ u. rw u (down-here d (p .along .invariant) n f)) (λ u. down-other d (prepareNode d n down .state) m n q u (p .downs m j (still-out m n ms u o)));
+        downs = λ m j o. by-cases (decEq m n) (λ u. rw u (down-here d (p .along .invariant) n f))
+            (λ u. down-other d (prepareNode d n down .state) m n q u (p .downs m j (still-out m n ms u o)));
         ups = λ m j o. clash (member m ns) (full m j) o;
       }) in
       shrink-readied ns ms (prepareDualNodeGrowth d n down .state) full next (distinct-tail n ms w) (λ m j. k m (member-tail m n ms j)))
@@ -311,14 +329,19 @@ all-readied c gc h =
     let ms : List ℕ = activeIn r shrinking in
     let ns : List ℕ = activeIn r growing in
     let p = shrink-readied r g ns ms r (λ q i. i) (begins r g) (active-in-once r shrinking (sound-active r (g .sounds))) (λ n i. i) (t .shrunk) in
-    rw (t .state) (grow-readied r g ns (tryAll (preparing down) (begun r) ms .state) p (active-in-once r growing (sound-active r (g .sounds))) (λ n i. i) (t .grown))
+    rw (t .state)
+    (grow-readied r g ns (tryAll (preparing down) (begun r) ms .state) p
+    (active-in-once r growing (sound-active r (g .sounds))) (λ n i. i) (t .grown))
 
 -- ---- every active node's answer
 
-answers-from : (p : Answer → Bool) (c : State) (ns : List ℕ) → ((n : ℕ) → member n ns ≡ true → p (scan c n (toward (growStateOf c n))) ≡ true) → all p (answersOf c ns) ≡ true
+answers-from : (p : Answer → Bool) (c : State) (ns : List ℕ)
+    → ((n : ℕ) → member n ns ≡ true → p (scan c n (toward (growStateOf c n))) ≡ true) → all p (answersOf c ns) ≡ true
 unfolding answersOf all
 answers-from p c [] f = refl
-answers-from p c (n ∷ ns) f = both (p (scan c n (toward (growStateOf c n)))) _ (f n (member-head n ns)) (answers-from p c ns (λ m i. f m (member-tail m n ns i)))
+answers-from p c (n ∷ ns) f =
+    both (p (scan c n (toward (growStateOf c n)))) _ (f n (member-head n ns))
+    (answers-from p c ns (λ m i. f m (member-tail m n ns i)))
 
 toward-is : (P : ℕ → Type 0) (x : ℕ) → x ≢ 0 → x ≤ 2 → (x ≡ shrinking → P down) → (x ≡ growing → P up) → P (toward x)
 unfolding toward
@@ -340,7 +363,9 @@ answers-fine c gc h =
     rw s
     (toward-is (λ d. fine (scan c₁ n d) ≡ true) (growStateOf r n) ne le
     (λ x. down-fine c₁ n (p .downs n (in-active r shrinking n i x) (not-in n)))
-    (λ x. let j : member n (activeIn r growing) ≡ true = in-active r growing n i x in up-fine c₁ (p .along .invariant) n (free-along (p .along) (listed-free r g growing n (λ v. omega arith) j)) (p .ups n j (not-in n)))))
+    (λ x. let j : member n (activeIn r growing) ≡ true = in-active r growing n i x in
+    up-fine c₁ (p .along .invariant) n (free-along (p .along) (listed-free r g growing n (λ v. omega arith) j))
+    (p .ups n j (not-in n)))))
   where
     same : (c : State) (n : ℕ) → growStateOf c n ≡ growStateOf (renewed c) n
     same c n = unfold renewed withActive in refl

@@ -20,7 +20,8 @@ module _ (c : State) (g : Invariant c) where
   )
 
   -- listed sides at one vertex have the same growth
-  pub same-growth : (n : ℕ) → n < nodeCount c → parentOf c n ≡ 0 → (s t : ℕ) → member s (boundaryOf c n) ≡ true → member t (boundaryOf c n) ≡ true → endAt c s ≡ endAt c t → growthAt c s ≡ growthAt c t
+  pub same-growth : (n : ℕ) → n < nodeCount c → parentOf c n ≡ 0 → (s t : ℕ) → member s (boundaryOf c n) ≡ true
+      → member t (boundaryOf c n) ≡ true → endAt c s ≡ endAt c t → growthAt c s ≡ growthAt c t
   same-growth n b o s t p q e =
       let k : Labels = g .labels in
       let i : NodeInvariantOf c k n = g .clusters .node n b o in
@@ -33,5 +34,7 @@ module _ (c : State) (g : Invariant c) where
   pub prepared-held : (n d : ℕ) → n < nodeCount c → parentOf c n ≡ 0 → BoundaryHeld (prepareNode c n d .state) n
   prepared-held n d b o = prepare-ready n d c (g .labels) c (invariant-ready c g n b o) .boundary-held
 
-  pub prepared-grown : (n : ℕ) → n < nodeCount c → parentOf c n ≡ 0 → (s : ℕ) → member s (boundaryOf (prepareNode c n down .state) n) ≡ true → growthAt (prepareNode c n down .state) s ≡ 0 → defectAt (prepareNode c n down .state) (endAt (prepareNode c n down .state) s) ≢ 0
+  pub prepared-grown : (n : ℕ) → n < nodeCount c → parentOf c n ≡ 0 → (s : ℕ)
+      → member s (boundaryOf (prepareNode c n down .state) n) ≡ true → growthAt (prepareNode c n down .state) s ≡ 0
+      → defectAt (prepareNode c n down .state) (endAt (prepareNode c n down .state) s) ≢ 0
   prepared-grown n b o = prepare-down n down c (g .labels) refl c (invariant-ready c g n b o) .zero-at-defects

@@ -14,10 +14,10 @@ use Rattle.graph.specs.laws.State.{and-left, and-right}
 use Rattle.graph.specs.laws.Members.{by-test, both, clash, member-only, member-cons, member-nil}
 use Rattle.graph.specs.laws.Active.{active-in}
 use Rattle.growth.specs.Growth.{topIs}
-use Rattle.length.specs.declared.Answer.{Answer}
-use Rattle.length.specs.declared.Answer.the-variants.{NonZeroGrow, Unlimited, Conflicting, TouchingVirtual, BlossomNeedExpand, VertexShrinkStop, VertexShrinkStopPeer, Done, Node, Prepared, Refused, Vertex}
-use Rattle.length.specs.Scan.{shrinkLimit, scan}
-use Rattle.length.specs.laws.Long.{longAs, lesser-long, answerLong, LeftDown, LeftUp, scan-down-long, scan-up-long}
+use Rattle.update_length.specs.declared.Answer.{Answer}
+use Rattle.update_length.specs.declared.Answer.the-variants.{NonZeroGrow, Unlimited, Conflicting, TouchingVirtual, BlossomNeedExpand, VertexShrinkStop, VertexShrinkStopPeer, Done, Node, Prepared, Refused, Vertex}
+use Rattle.update_length.specs.Scan.{shrinkLimit, scan}
+use Rattle.update_length.specs.laws.Long.{longAs, lesser-long, answerLong, LeftDown, LeftUp, scan-down-long, scan-up-long}
 use Rattle.calls.specs.Calls.{toward}
 use Rattle.calls.specs.Round.{preparedAll, movedAll, answersOf, isFree, joinLength, joinUnlimited, joinFree, groupOf, groupRefusal, groupLength}
 use Rattle.calls.specs.declared.group.GroupMaxUpdateLength.{GroupMaxUpdateLength as Group}
@@ -63,13 +63,15 @@ join-free m g (Prepared k) e h = clash true refl (sym e)
 join-free m g (Refused k) e h = clash true refl (sym e)
 join-free m g (Vertex v) e h = clash true refl (sym e)
 
-joined-free : (m : ℕ) (xs : List Answer) (g : Group) → all isFree xs ≡ true → groupLong m (fold joinFree g xs) ≡ true → groupLong m g && all (answerLong m) xs ≡ true
+joined-free : (m : ℕ) (xs : List Answer) (g : Group) → all isFree xs ≡ true → groupLong m (fold joinFree g xs) ≡ true
+    → groupLong m g && all (answerLong m) xs ≡ true
 unfolding all fold
 joined-free m [] g e h = both (groupLong m g) true h refl
 joined-free m (a ∷ xs) g e h =
     let ih : groupLong m (joinFree g a) && all (answerLong m) xs ≡ true = joined-free m xs (joinFree g a) (and-right (isFree a) (all isFree xs) e) h in
     let k : groupLong m g && answerLong m a ≡ true = join-free m g a (and-left (isFree a) (all isFree xs) e) (and-left (groupLong m (joinFree g a)) _ ih) in
-    both (groupLong m g) _ (and-left (groupLong m g) _ k) (both (answerLong m a) _ (and-right (groupLong m g) _ k) (and-right (groupLong m (joinFree g a)) _ ih))
+    both (groupLong m g) _ (and-left (groupLong m g) _ k)
+    (both (answerLong m a) _ (and-right (groupLong m g) _ k) (and-right (groupLong m (joinFree g a)) _ ih))
 
 group-of-long : (m : ℕ) (xs : List Answer) → groupLong m (groupOf xs) ≡ true → all (answerLong m) xs ≡ true
 unfolding groupOf groupLong
@@ -79,7 +81,8 @@ group-of-long m xs h =
     (λ e. clash true refl (sym (rw e at h)))
 
 -- the answer of each node
-answer-at : (p : Answer → Bool) (c : State) (ns : List ℕ) (n : ℕ) → all p (answersOf c ns) ≡ true → member n ns ≡ true → p (scan c n (toward (growStateOf c n))) ≡ true
+answer-at : (p : Answer → Bool) (c : State) (ns : List ℕ) (n : ℕ) → all p (answersOf c ns) ≡ true → member n ns ≡ true
+    → p (scan c n (toward (growStateOf c n))) ≡ true
 unfolding answersOf all
 answer-at p c [] n h i = member-nil n i
 answer-at p c (k ∷ ns) n h i =
@@ -120,15 +123,24 @@ renewed-in c x n i = let a = active-in (renewed c) x n i in (member-only (isActi
 
 -- ---- the theorem: by the group's length or less
 
-pub round-by-group : (c : State) → Invariant c → (m : ℕ) → 0 < m → groupLong m (groupLength c .group) ≡ true → Among (0 ∷ 9 ∷ 12 ∷ []) (movedAll m (groupLength c .state) .refusal)
+pub round-by-group : (c : State) → Invariant c → (m : ℕ) → 0 < m → groupLong m (groupLength c .group) ≡ true
+    → Among (0 ∷ 9 ∷ 12 ∷ []) (movedAll m (groupLength c .state) .refusal)
 round-by-group c g m z h =
     let l : GroupLeaves m c = group-leaves m c h in
     let c₁ : State = preparedAll c .state in
     let g₁ : Invariant c₁ = subst Invariant (l .state) (group-invariant c g) in
     rw (l .state)
     (round-relied c₁ g₁ m z
-    (λ n i. let a = renewed-in c₁ shrinking n i in left-down m c₁ n (scan-down-long m c₁ n (toward-down (growStateOf c₁ n) (a .1) (λ d. answerLong m (scan c₁ n d) ≡ true) (answer-at (answerLong m) c₁ (c₁ .active) n (l .answers) (a .0)))))
-    (λ n i. let a = renewed-in c₁ growing n i in left-up m c₁ n (scan-up-long m z c₁ n (toward-up (growStateOf c₁ n) (a .1) (λ d. answerLong m (scan c₁ n d) ≡ true) (answer-at (answerLong m) c₁ (c₁ .active) n (l .answers) (a .0))))))
+    (λ n i. let a = renewed-in c₁ shrinking n i in
+    left-down m c₁ n
+    (scan-down-long m c₁ n
+    (toward-down (growStateOf c₁ n) (a .1) (λ d. answerLong m (scan c₁ n d) ≡ true)
+    (answer-at (answerLong m) c₁ (c₁ .active) n (l .answers) (a .0)))))
+    (λ n i. let a = renewed-in c₁ growing n i in
+    left-up m c₁ n
+    (scan-up-long m z c₁ n
+    (toward-up (growStateOf c₁ n) (a .1) (λ d. answerLong m (scan c₁ n d) ≡ true)
+    (answer-at (answerLong m) c₁ (c₁ .active) n (l .answers) (a .0))))))
   where
     toward-down : (x : ℕ) → x ≡ shrinking → (P : ℕ → Type 0) → P (toward x) → P down
     toward-down x e P p = unfold toward in (rw e at p)

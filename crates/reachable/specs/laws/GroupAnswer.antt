@@ -11,9 +11,9 @@ use Rattle.graph.specs.Basic.{all}
 use Rattle.graph.specs.State.{State}
 use Rattle.graph.specs.laws.State.{and-left, and-right, if-both, fold-keeps-on}
 use Rattle.graph.specs.laws.Members.{by-test, clash, member-cons, member-nil}
-use Rattle.length.specs.declared.Answer.{Answer}
-use Rattle.length.specs.declared.Answer.the-variants.{NonZeroGrow, Unlimited, Conflicting, TouchingVirtual, BlossomNeedExpand, VertexShrinkStop, VertexShrinkStopPeer, Done, Node, Prepared, Refused, Vertex}
-use Rattle.length.specs.laws.Long.{longAs}
+use Rattle.update_length.specs.declared.Answer.{Answer}
+use Rattle.update_length.specs.declared.Answer.the-variants.{NonZeroGrow, Unlimited, Conflicting, TouchingVirtual, BlossomNeedExpand, VertexShrinkStop, VertexShrinkStopPeer, Done, Node, Prepared, Refused, Vertex}
+use Rattle.update_length.specs.laws.Long.{longAs}
 use Rattle.calls.specs.laws.Grouped.{of-answered}
 use Rattle.calls.specs.Round.{refusalOf, preparedAll, firstRefusal, isFree, joinLength, joinUnlimited, joinFree, groupOf, groupRefusal, groupLength, isRefused}
 use Rattle.calls.specs.declared.group.GroupMaxUpdateLength.{GroupMaxUpdateLength as Group}
@@ -132,4 +132,5 @@ unfolding groupLength
 group-refused-nine c g k h =
     by-test (eqb (groupRefusal (preparedAll c)) 0)
     (λ e. clash (isRefused (groupRefused k)) (refused-is k) (ap isRefused (sym (rw e at h)) ∙ of-answered _))
-    (λ e. let q : groupRefusal (preparedAll c) ≡ k = same-number _ k (rw e at h) in sym q ∙ among-nine (groupRefusal (preparedAll c)) (group-among c g) (eqb-false _ _ e))
+    (λ e. let q : groupRefusal (preparedAll c) ≡ k = same-number _ k (rw e at h) in
+    sym q ∙ among-nine (groupRefusal (preparedAll c)) (group-among c g) (eqb-false _ _ e))

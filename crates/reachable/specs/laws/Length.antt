@@ -12,11 +12,11 @@ use Rattle.graph.specs.State.{State, boundaryOf, growStateOf, stay, up, down}
 use Rattle.graph.specs.laws.State.{if-both}
 use Rattle.graph.specs.laws.Members.{clash}
 use Rattle.pass.specs.Prepare.{prepareNode}
-use Rattle.length.specs.declared.Answer.{Answer}
-use Rattle.length.specs.declared.Answer.the-variants.{NonZeroGrow, Unlimited, Conflicting, TouchingVirtual, BlossomNeedExpand, VertexShrinkStop, VertexShrinkStopPeer, Done, Node, Prepared, Refused, Vertex}
-use Rattle.length.specs.Answer.{Reply, says}
+use Rattle.update_length.specs.declared.Answer.{Answer}
+use Rattle.update_length.specs.declared.Answer.the-variants.{NonZeroGrow, Unlimited, Conflicting, TouchingVirtual, BlossomNeedExpand, VertexShrinkStop, VertexShrinkStopPeer, Done, Node, Prepared, Refused, Vertex}
+use Rattle.update_length.specs.Answer.{Reply, says}
 use Rattle.calls.specs.Refuse.{badNode, inBlossom, nodeRefusal, storeShort, unless}
-use Rattle.length.specs.Scan.{scan}
+use Rattle.update_length.specs.Scan.{scan}
 use Rattle.growth.specs.Growth.{passesWeight, passesLimit, fallsShort, growCheck}
 use Rattle.calls.specs.Calls.{maxUpdateLength, readied, growPrepared, growToward, growDualNode, signedFor, follow, advanceBy, toward, advance}
 use Rattle.calls.specs.laws.Accepted.{unless-cases, NodeAccepted, node-accepted}
@@ -68,7 +68,8 @@ grow-refusal : (c : State) (n d l : ℕ) → growCheck c n d l ≢ 13
 unfolding growCheck
 grow-refusal c n d l =
     if-both (λ k. k ≢ 13) (eqb d up)
-    (if-both (λ k. k ≢ 13) (any (passesWeight c n l) (boundaryOf c n)) (below-13 10 (omega arith)) (if-both (λ k. k ≢ 13) (passesLimit c n l) (below-13 12 (omega arith)) (below-13 0 (omega arith))))
+    (if-both (λ k. k ≢ 13) (any (passesWeight c n l) (boundaryOf c n)) (below-13 10 (omega arith))
+    (if-both (λ k. k ≢ 13) (passesLimit c n l) (below-13 12 (omega arith)) (below-13 0 (omega arith))))
     (if-both (λ k. k ≢ 13) (fallsShort c n l) (below-13 11 (omega arith)) (below-13 0 (omega arith)))
 
 -- a reply that is refused k, not 13, or else r
@@ -91,7 +92,8 @@ toward-refusal : (c : State) (n d l : ℕ) → refusal (growToward c n d l .answ
 unfolding growToward growPrepared refusal
 toward-refusal c n d l =
     unless-refusal (nodeRefusal c n false (storeShort c (n ∷ []) 1)) c _ (node-refusal c n false _)
-    (λ e. unless-refusal (growCheck (prepareNode c n d .state) n d l) (prepareNode c n d .state) _ (grow-refusal (prepareNode c n d .state) n d l) (λ q z. omega arith))
+    (λ e. unless-refusal (growCheck (prepareNode c n d .state) n d l) (prepareNode c n d .state) _
+    (grow-refusal (prepareNode c n d .state) n d l) (λ q z. omega arith))
 
 pub growth-refusal : (c : State) (n : ℕ) (l : ℤ) → refusal (growDualNode c n l .answer) ≢ 13
 unfolding growDualNode says refusal

@@ -4,14 +4,13 @@ use mathlib.Core.Path.{_≡_, sym, _∙_}
 use mathlib.Core.Bool.{true, false, not, _||_}
 use lib.Dec.{eqb}
 use borrow.Author.Tests.{eqb-true, eq-eqb, not-false}
-use Rattle.graph.specs.Basic.{any, member}
+use Rattle.graph.specs.Basic.{member}
 use Rattle.graph.specs.State.{State, holderAt, vertexHolderAt, virtualAt, defectAt, sidesAt}
 use Rattle.graph.specs.laws.Members.{by-test, or-neither-right}
 use Rattle.calls.specs.Insert.{occupied}
 use Rattle.calls.specs.Occupied.{vertexDecides, isHeld}
 use Rattle.calls.specs.laws.Occupied.{decides-occupied, sides-occupied}
 use Rattle.reachable.specs.Invariant.{Invariant}
-use Rattle.reachable.specs.laws.state.GraphOk.{GraphOk}
 use Rattle.reachable.specs.laws.state.Numbers.{numbers-graph-ok}
 use Rattle.reachable.specs.laws.prepare.Preparation.{invariant-numbers}
 use Rattle.reachable.specs.laws.TrialSteps.{none-from}

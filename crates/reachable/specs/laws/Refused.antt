@@ -7,12 +7,12 @@ use mathlib.Core.Bool.{Bool, true, false}
 use mathlib.Core.List.{List, [], _∷_}
 use lib.IntN.{ℤ, pos, negsuc}
 use lib.Dec.{eqb, leb}
-use borrow.Author.Tests.{eqb-false}
+use borrow.Author.Tests.{eqb-false, le-leb}
 use Rattle.graph.specs.State.{State}
 use Rattle.graph.specs.laws.Members.{by-test, clash, member-cons, member-nil}
-use Rattle.length.specs.declared.Answer.the-variants.{Done, Refused}
-use Rattle.length.specs.Answer.{says}
-use Rattle.length.specs.laws.Long.{longAs}
+use Rattle.update_length.specs.declared.Answer.the-variants.{Done, Refused}
+use Rattle.update_length.specs.Answer.{says}
+use Rattle.update_length.specs.laws.Long.{longAs}
 use Rattle.calls.specs.Refuse.{unless}
 use Rattle.calls.specs.Round.{Tried, refusalOf, tried, preparedAll, prepareAll, movedAll, round, groupLength}
 use Rattle.calls.specs.declared.group.GroupMaxUpdateLength.the-variants.{NonZeroGrow as groupFree}
@@ -21,7 +21,6 @@ use Rattle.reachable.specs.laws.prepare.Scan.{accepts}
 use Rattle.reachable.specs.laws.Round.{Among, prepared-all-among, moved-all-among}
 use Rattle.reachable.specs.laws.Group.{round-by-group, groupLong}
 use Rattle.reachable.specs.laws.GroupAnswer.{group-positive}
-use borrow.Author.Tests.{le-leb}
 
 -- a trial that is answered with the refusal k
 tried-refused : (c : State) (t : Tried) (k : ℕ) → tried c t Done .answer ≡ Refused k → (t .refusal ≡ k) × (k ≢ 0)
@@ -58,7 +57,8 @@ round-refused c g l k h =
     above-zero (9 ∷ 10 ∷ 11 ∷ 12 ∷ []) k (rw (← r .0) (moved-all-among c g (suc l))) (r .1)
 
 -- by a length that the group leaves
-part-refused : (c : State) → Invariant c → (l k : ℕ) → groupLong (suc l) (groupLength c .group) ≡ true → round (groupLength c .state) (pos (suc l)) .answer ≡ Refused k → Among (9 ∷ 12 ∷ []) k
+part-refused : (c : State) → Invariant c → (l k : ℕ) → groupLong (suc l) (groupLength c .group) ≡ true
+    → round (groupLength c .state) (pos (suc l)) .answer ≡ Refused k → Among (9 ∷ 12 ∷ []) k
 unfolding round
 part-refused c g l k w h =
     let r = tried-refused (groupLength c .state) (movedAll (suc l) (groupLength c .state)) k h in
@@ -72,7 +72,8 @@ not-long : (z : ℤ) → longAs 1 z ≡ true → (l : ℕ) → z ≡ negsuc l �
 unfolding longAs
 not-long z h l e = clash true refl (sym (rw e at h))
 
-pub by-group-refused : (c : State) → Invariant c → (z : ℤ) (e : Bool) → groupLength c .group ≡ groupFree z e → (k : ℕ) → round (groupLength c .state) z .answer ≡ Refused k → Among (9 ∷ 12 ∷ []) k
+pub by-group-refused : (c : State) → Invariant c → (z : ℤ) (e : Bool) → groupLength c .group ≡ groupFree z e → (k : ℕ)
+    → round (groupLength c .state) z .answer ≡ Refused k → Among (9 ∷ 12 ∷ []) k
 by-group-refused c g z e h k q = go z h (group-positive c g z e h) q
   where
     go : (z : ℤ) → groupLength c .group ≡ groupFree z e → longAs 1 z ≡ true → round (groupLength c .state) z .answer ≡ Refused k → Among (9 ∷ 12 ∷ []) k

@@ -25,7 +25,7 @@ use Rattle.pass.specs.Shrink.{emptyTops, belowTops}
 use Rattle.pass.specs.laws.Idle.{TopLeft, shrink-idle, grow-idle}
 use Rattle.growth.specs.Growth.{topIs, passesWeight, passesLimit, fallsShort, growCheck, movedStack, growApply}
 use Rattle.growth.specs.laws.Growth.{apply-in, apply-out}
-use Rattle.length.specs.laws.Long.{LeftUp}
+use Rattle.update_length.specs.laws.Long.{LeftUp}
 use Rattle.calls.specs.Calls.{growToward}
 use Rattle.calls.specs.Round.{Tried, refusalOf, tryAll, soundAgain, inTurn, moving, movedAll}
 use Rattle.calls.specs.laws.Sounds.{Applied, apply-applied}
@@ -228,7 +228,8 @@ module _ (r : State) (g : Invariant r) (m : ℕ) where
         let qn : holderAt r (opposite s) - 1 ≢ n = λ k. ne (omega arith) in
         across s (holderAt r (opposite s) - 1) i' gs hs we ho qn)
       where
-        across : (s q : ℕ) → member s (boundaryOf r n) ≡ true → growthAt d s ≡ growthAt r s → holderAt r s ≡ n + 1 → weightOver d s ≡ weightOver r s → holderAt r (opposite s) ≡ q + 1 → q ≢ n → grownOver d s + m ≤ weightOver d s
+        across : (s q : ℕ) → member s (boundaryOf r n) ≡ true → growthAt d s ≡ growthAt r s → holderAt r s ≡ n + 1
+            → weightOver d s ≡ weightOver r s → holderAt r (opposite s) ≡ q + 1 → q ≢ n → grownOver d s + m ≤ weightOver d s
         across s q i' gs hs we ho qn =
             by-cases (decEq (growStateOf r q) shrinking)
             (λ y.
@@ -239,7 +240,9 @@ module _ (r : State) (g : Invariant r) (m : ℕ) where
             let k : growthAt d (opposite s) + m ≡ growthAt r (opposite s) = p .shrunk (opposite s) q b y (not-in q) li in
             let bs : s < sideCount r = g .clusters .global .side-below s (λ j. omega arith) in
             let ww : grownOver r s ≤ weightOver r s =
-            ⊎-elim (λ (j : grownOver r s ≤ weightOver r s). j) (λ (j : (holderAt r s ≢ 0) × (holderAt r (opposite s) ≡ holderAt r s)). absurd (qn (let u = j .1 in omega arith))) (g .clusters .global .within-weight s bs) in
+            ⊎-elim (λ (j : grownOver r s ≤ weightOver r s). j)
+            (λ (j : (holderAt r s ≢ 0) × (holderAt r (opposite s) ≡ holderAt r s)). absurd (qn (let u = j .1 in omega arith)))
+            (g .clusters .global .within-weight s bs) in
             omega arith)
             (λ y.
             by-cases (decEq (growStateOf r q) growing)
@@ -249,7 +252,10 @@ module _ (r : State) (g : Invariant r) (m : ℕ) where
             omega arith)
             (λ v.
             let l : grownOver r s + m ≤ weightOver r s = w .stay s q i' ho qn y v in
-            let go : growthAt d (opposite s) ≡ growthAt r (opposite s) = p .still (opposite s) (λ q' k. let u : q' ≡ q = omega arith in (λ j. absurd (y (sym (ap (growStateOf r) u) ∙ j)), λ j. absurd (v (sym (ap (growStateOf r) u) ∙ j)))) in
+            let go : growthAt d (opposite s) ≡ growthAt r (opposite s) =
+            p .still (opposite s)
+            (λ q' k. let u : q' ≡ q = omega arith in
+            (λ j. absurd (y (sym (ap (growStateOf r) u) ∙ j)), λ j. absurd (v (sym (ap (growStateOf r) u) ∙ j)))) in
             omega arith))
 
     idle-up : prepareNode d n up .state ≡ d
@@ -386,5 +392,7 @@ round-relied c gc m z downs ups =
     by-cases (decEq (t .refusal) 0)
     (λ k.
     let q : t ≡ begun (t .state) = ap (λ (j : ℕ). record { refusal = j; state = t .state }) k in
-    rw e (subst (λ (u : Tried). Among (0 ∷ 9 ∷ 12 ∷ []) (tryAll (moving up m) u ns .refusal)) (sym q) (grow-all r g m z downs ups ns (t .state) (b .1 k) (active-in-once r growing (sound-active r (g .sounds))) (λ n i. i))))
+    rw e
+    (subst (λ (u : Tried). Among (0 ∷ 9 ∷ 12 ∷ []) (tryAll (moving up m) u ns .refusal)) (sym q)
+    (grow-all r g m z downs ups ns (t .state) (b .1 k) (active-in-once r growing (sound-active r (g .sounds))) (λ n i. i))))
     (λ k. rw e (subst (λ (u : Tried). Among (0 ∷ 9 ∷ 12 ∷ []) (u .refusal)) (sym (refused-stays (moving up m) t ns k)) (b .0)))

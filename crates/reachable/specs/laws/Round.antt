@@ -21,7 +21,7 @@ use Rattle.pass.specs.Prepare.{prepareNode}
 use Rattle.pass.specs.laws.Passes.{Passed}
 use Rattle.pass.specs.laws.Prepare.{prepare-passed}
 use Rattle.growth.specs.Growth.{passesWeight, passesLimit, fallsShort, growCheck, growApply}
-use Rattle.length.specs.Answer.{Reply, says}
+use Rattle.update_length.specs.Answer.{Reply, says}
 use Rattle.calls.specs.Refuse.{badNode, inBlossom, storeShort, nodeRefusal}
 use Rattle.calls.specs.Calls.{prepareDualNodeGrowth, growPrepared, growToward}
 use Rattle.calls.specs.Round.{refusalOf, preparing, preparedAll, moving, movedAll}
@@ -152,7 +152,8 @@ check-among : (c : State) (n d l : ℕ) → Among (0 ∷ 9 ∷ 10 ∷ 11 ∷ 12 
 unfolding growCheck member any
 check-among c n d l =
     if-both (Among (0 ∷ 9 ∷ 10 ∷ 11 ∷ 12 ∷ [])) (eqb d up)
-    (if-both (Among (0 ∷ 9 ∷ 10 ∷ 11 ∷ 12 ∷ [])) (any (passesWeight c n l) (boundaryOf c n)) refl (if-both (Among (0 ∷ 9 ∷ 10 ∷ 11 ∷ 12 ∷ [])) (passesLimit c n l) refl refl))
+    (if-both (Among (0 ∷ 9 ∷ 10 ∷ 11 ∷ 12 ∷ [])) (any (passesWeight c n l) (boundaryOf c n)) refl
+    (if-both (Among (0 ∷ 9 ∷ 10 ∷ 11 ∷ 12 ∷ [])) (passesLimit c n l) refl refl))
     (if-both (Among (0 ∷ 9 ∷ 10 ∷ 11 ∷ 12 ∷ [])) (fallsShort c n l) refl refl)
 
 -- a round: 9 to 12 at most

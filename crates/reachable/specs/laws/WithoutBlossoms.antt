@@ -16,14 +16,17 @@ use Rattle.reachable.specs.Cluster.{Global, OutwardEdge, InwardEdge, Pre
 use Rattle.reachable.specs.laws.invariant.Depth.{depth-within-radius}
 use Rattle.reachable.specs.Invariant.{sideGraphOf, viewOf, nodeViewOf, NodeInvariantOf, DefectNode, Invariant}
 use Rattle.reachable.specs.laws.state.GraphOk.{GraphOk}
-use Rattle.reachable.specs.laws.state.Numbers.{SoundNumbers, numbers-graph-ok}
+use Rattle.reachable.specs.laws.state.Numbers.{numbers-graph-ok}
+use Rattle.reachable.specs.Numbers.{SoundNumbers}
 use Rattle.reachable.specs.laws.prepare.Preparation.{invariant-numbers}
 
 -- a side at vertex u, which node n holds, of an edge whose far end the node holds too: the edge leads from u, or to u, or across
 pub data HeldEdge (c : State) (depth : ℕ → ℕ) (n t : ℕ) : Type 0 where
   outward : depth (endAt c (opposite t)) ≡ depth (endAt c t) + weightOver c t → growthAt c t ≡ weightOver c t → HeldEdge c depth n t
   inward : depth (endAt c t) ≡ depth (endAt c (opposite t)) + weightOver c t → growthAt c t ≡ 0 → HeldEdge c depth n t
-  across : depth (endAt c t) + growthAt c t ≡ dualOf c n → (weightOver c t ≢ 0 → depth (endAt c (opposite t)) < depth (endAt c t) + weightOver c t) → (weightOver c t ≢ 0 → depth (endAt c t) < depth (endAt c (opposite t)) + weightOver c t) → HeldEdge c depth n t
+  across : depth (endAt c t) + growthAt c t ≡ dualOf c n
+      → (weightOver c t ≢ 0 → depth (endAt c (opposite t)) < depth (endAt c t) + weightOver c t)
+      → (weightOver c t ≢ 0 → depth (endAt c t) < depth (endAt c (opposite t)) + weightOver c t) → HeldEdge c depth n t
 
 -- the edge along which a vertex was taken
 pub record PredecessorOf (c : State) (depth : ℕ → ℕ) (n u : ℕ) : Type 0 where
@@ -65,7 +68,9 @@ module _ (c : State) (g : Invariant c) (outermost : (m : ℕ) → m < nodeCount 
       let h₁ : holderAt c t ≡ holderAt c t - 1 + 1 = omega arith in
       let h₂ : vertexHolderAt c (endAt c t) ≡ vertexHolderAt c (endAt c t) - 1 + 1 = omega arith in
       let o₁ : g .labels .owner (endAt c t) ≡ holderAt c t - 1 = node-of (holderAt c t - 1) (holder-below t (holderAt c t - 1) h₁) .owner-side t h₁ in
-      let o₂ : g .labels .owner (endAt c t) ≡ vertexHolderAt c (endAt c t) - 1 = node-of (vertexHolderAt c (endAt c t) - 1) (vertex-holder-below (endAt c t) (vertexHolderAt c (endAt c t) - 1) h₂) .owner-vertex (endAt c t) h₂ in
+      let o₂ : g .labels .owner (endAt c t) ≡ vertexHolderAt c (endAt c t) - 1 =
+      node-of (vertexHolderAt c (endAt c t) - 1)
+      (vertex-holder-below (endAt c t) (vertexHolderAt c (endAt c t) - 1) h₂) .owner-vertex (endAt c t) h₂ in
       omega arith)
 
   module _ (n x : ℕ) (b : n < nodeCount c) (at : classOf c n ≡ defectVertex x) where
@@ -94,17 +99,25 @@ module _ (c : State) (g : Invariant c) (outermost : (m : ℕ) → m < nodeCount 
     depth-le-dual u v =
         by-cases (decEq u x)
         (λ e. rw e (omega (arith, defect-node .depth)))
-        (λ e. let d : g .labels .depth u ≤ g .labels .base n + dualOf c n = depth-within-radius (sideGraphOf (c .graph)) (viewOf c (g .labels)) n (nodeViewOf c (g .labels) n) G i u v (other-no-defect u v e) in omega (arith, defect-node .base))
+        (λ e. let d : g .labels .depth u
+        ≤ g .labels .base n + dualOf c n = depth-within-radius (sideGraphOf (c .graph)) (viewOf c (g .labels)) n
+        (nodeViewOf c (g .labels) n) G i u v (other-no-defect u v e) in
+        omega (arith, defect-node .base))
 
     -- a side at a vertex that the node holds, and of an edge with both ends held
     side-held : (t : ℕ) → t < sideCount c → vertexHolderAt c (endAt c t) ≡ n + 1 → holderAt c t ≡ n + 1
     side-held t q v = side-holder t q ∙ v
 
-    pub depth-differ-weight : (t : ℕ) → t < sideCount c → vertexHolderAt c (endAt c t) ≡ n + 1 → vertexHolderAt c (endAt c (opposite t)) ≡ n + 1 → g .labels .depth (endAt c t) ≤ g .labels .depth (endAt c (opposite t)) + weightOver c t
+    pub depth-differ-weight : (t : ℕ) → t < sideCount c → vertexHolderAt c (endAt c t) ≡ n + 1
+        → vertexHolderAt c (endAt c (opposite t)) ≡ n + 1
+        → g .labels .depth (endAt c t) ≤ g .labels .depth (endAt c (opposite t)) + weightOver c t
     depth-differ-weight t q v w = i .depth-differ t (side-held t q v) (side-held (opposite t) (graph-ok .side-graph .across t q) w)
 
     listed-growth-dual : (t : ℕ) → member t (boundaryOf c n) ≡ true → g .labels .depth (endAt c t) + growthAt c t ≡ dualOf c n
-    listed-growth-dual t m = let l : g .labels .depth (endAt c t) + growthAt c t ≡ g .labels .base n + dualOf c n = i .listed-growth t m (g .clusters .boundary-held n b (outermost n b) t m) in omega (arith, defect-node .base)
+    listed-growth-dual t m =
+        let l : g .labels .depth (endAt c t) + growthAt c t ≡ g .labels .base n + dualOf c n =
+        i .listed-growth t m (g .clusters .boundary-held n b (outermost n b) t m) in
+        omega (arith, defect-node .base)
 
     -- the far end is not held by the node: the side is listed
     pub border-listed : (t : ℕ) → t < sideCount c → vertexHolderAt c (endAt c t) ≡ n + 1 → vertexHolderAt c (endAt c (opposite t)) ≢ n + 1
@@ -128,7 +141,8 @@ module _ (c : State) (g : Invariant c) (outermost : (m : ℕ) → m < nodeCount 
         )
 
     -- both ends are held by the node
-    pub held-edge : (t : ℕ) → t < sideCount c → vertexHolderAt c (endAt c t) ≡ n + 1 → vertexHolderAt c (endAt c (opposite t)) ≡ n + 1 → HeldEdge c (g .labels .depth) n t
+    pub held-edge : (t : ℕ) → t < sideCount c → vertexHolderAt c (endAt c t) ≡ n + 1
+        → vertexHolderAt c (endAt c (opposite t)) ≡ n + 1 → HeldEdge c (g .labels .depth) n t
     held-edge t q v w =
         let h : holderAt c t ≡ n + 1 = side-held t q v in
         let o : holderAt c (opposite t) ≡ n + 1 = side-held (opposite t) (graph-ok .side-graph .across t q) w in
@@ -139,14 +153,22 @@ module _ (c : State) (g : Invariant c) (outermost : (m : ℕ) → m < nodeCount 
         (λ k.
         across (listed-growth-dual t m)
         (λ z.
-        let s₁ : g .labels .depth (endAt c (opposite t)) < g .labels .depth (endAt c (opposite (opposite t))) + weightOver c (opposite t) = i .depth-differ-strict (defect-node .base) (opposite t) k (rw oo m) o (rw oo h) (λ y. z (sym (graph-ok .side-graph .same-weight t) ∙ y)) in
+        let s₁ : g .labels .depth (endAt c (opposite t))
+        < g .labels .depth (endAt c (opposite (opposite t))) + weightOver c (opposite t) =
+        i .depth-differ-strict (defect-node .base) (opposite t) k (rw oo m) o (rw oo h)
+        (λ y. z (sym (graph-ok .side-graph .same-weight t) ∙ y)) in
         let s₂ : g .labels .depth (endAt c (opposite t)) < g .labels .depth (endAt c t) + weightOver c (opposite t) = rw oo at s₁ in
         omega (arith, graph-ok .side-graph .same-weight t))
         (λ z. i .depth-differ-strict (defect-node .base) t m k h o z))
         (λ k.
         ⊎-elim
-        (λ (y : OutwardEdge (sideGraphOf (c .graph)) (viewOf c (g .labels)) n (nodeViewOf c (g .labels) n) (opposite t)). clash (member t (boundaryOf c n)) m (rw oo at (y .out-far)))
-        (λ (y : InwardEdge (sideGraphOf (c .graph)) (viewOf c (g .labels)) n (nodeViewOf c (g .labels) n) (opposite t)). clash (member t (boundaryOf c n)) m (rw oo at (y .out-far)))
+        (λ (y : OutwardEdge (sideGraphOf (c .graph)) (viewOf c (g .labels)) n (nodeViewOf c (g .labels) n)
+        (opposite t)).
+        clash
+        (member t (boundaryOf c n)) m (rw oo at (y .out-far)))
+        (λ (y : InwardEdge (sideGraphOf (c .graph)) (viewOf c (g .labels)) n (nodeViewOf c (g .labels) n) (opposite t)).
+        clash
+        (member t (boundaryOf c n)) m (rw oo at (y .out-far)))
         (i .closed (opposite t) o k)))
         (λ m.
         ⊎-elim
@@ -155,7 +177,8 @@ module _ (c : State) (g : Invariant c) (outermost : (m : ℕ) → m < nodeCount 
         (i .closed t h m))
 
     -- with positive weights: the edge along which a vertex was taken
-    pub predecessor-of : ((t : ℕ) → t < sideCount c → weightOver c t ≢ 0) → (u : ℕ) → vertexHolderAt c u ≡ n + 1 → u ≢ x → PredecessorOf c (g .labels .depth) n u
+    pub predecessor-of : ((t : ℕ) → t < sideCount c → weightOver c t ≢ 0) → (u : ℕ) → vertexHolderAt c u ≡ n + 1 → u ≢ x
+        → PredecessorOf c (g .labels .depth) n u
     predecessor-of pos u v ne =
         let d : defectAt c u ≡ 0 = other-no-defect u v ne in
         let l : Predecessor (sideGraphOf (c .graph)) (viewOf c (g .labels)) n (nodeViewOf c (g .labels) n) u = i .predecessor pos u v d in

@@ -15,7 +15,8 @@ use Rattle.records.specs.Decode.{isRecord, wellFormed, lengthFits}
 -- ---- how many fields there are
 
 -- a kind without fields
-pub fields-none : (k : ℕ) → (k ≡ 1 → ⊥) → (k ≡ 2 → ⊥) → (k ≡ 3 → ⊥) → (k ≡ 4 → ⊥) → (k ≡ 5 → ⊥) → (k ≡ 6 → ⊥) → (k ≡ 7 → ⊥) → (k ≡ 8 → ⊥) → (k ≡ 9 → ⊥) → (k ≡ 11 → ⊥) → getD fieldCounts k 0 ≡ 0
+pub fields-none : (k : ℕ) → (k ≡ 1 → ⊥) → (k ≡ 2 → ⊥) → (k ≡ 3 → ⊥) → (k ≡ 4 → ⊥) → (k ≡ 5 → ⊥) → (k ≡ 6 → ⊥)
+    → (k ≡ 7 → ⊥) → (k ≡ 8 → ⊥) → (k ≡ 9 → ⊥) → (k ≡ 11 → ⊥) → getD fieldCounts k 0 ≡ 0
 unfolding fieldCounts
 fields-none zero a b c d e f g h i j = refl
 fields-none (suc zero) a b c d e f g h i j = absurd (a refl)
@@ -52,7 +53,10 @@ fit-lengthy b k n two ek en h =
       kind = two;
       kinds = rw ek (leb-true 1 k (and-left (leb 1 k) (leb k 13) ab), leb-true k 13 (and-right (leb 1 k) (leb k 13) ab));
       whole = rw en (eqb-true (n % 4) 0 (and-right (leb 1 k && leb k 13) (eqb (n % 4) 0) abc));
-      exact = rw (ek, en) (λ ne. or-cases (eqb (n / 4) (getD fieldCounts k 0)) (eqb k 5 && leb 1 (n / 4)) last (λ q. eqb-true (n / 4) (getD fieldCounts k 0) q) (λ q. absurd (ne (eqb-true k 5 (and-left (eqb k 5) (leb 1 (n / 4)) q)))));
+      exact = rw (ek, en)
+          (λ ne. or-cases (eqb (n / 4) (getD fieldCounts k 0)) (eqb k 5 && leb 1 (n / 4)) last
+          (λ q. eqb-true (n / 4) (getD fieldCounts k 0) q)
+          (λ q. absurd (ne (eqb-true k 5 (and-left (eqb k 5) (leb 1 (n / 4)) q)))));
       circle = rw (ek, en) (λ e. or-cases (eqb (n / 4) (getD fieldCounts k 0)) (eqb k 5 && leb 1 (n / 4)) last
           (λ q. let z : n / 4 ≡ 1 = rw e at (eqb-true (n / 4) (getD fieldCounts k 0) q) in omega arith)
           (λ q. leb-true 1 (n / 4) (and-right (eqb k 5) (leb 1 (n / 4)) q)));
@@ -60,7 +64,10 @@ fit-lengthy b k n two ek en h =
 
 pub lengthy : (b : List ℕ) → lengthFits b ≡ true → Lengthy b
 unfolding lengthFits
-lengthy b h = fit-lengthy b (pairAt b 0) (length b - 2) (leb-true 2 (length b) (and-left (leb 2 (length b)) (fieldsFit (pairAt b 0) (length b - 2)) h)) refl refl (and-right (leb 2 (length b)) (fieldsFit (pairAt b 0) (length b - 2)) h)
+lengthy b h =
+    fit-lengthy b (pairAt b 0) (length b - 2)
+    (leb-true 2 (length b) (and-left (leb 2 (length b)) (fieldsFit (pairAt b 0) (length b - 2)) h)) refl refl
+    (and-right (leb 2 (length b)) (fieldsFit (pairAt b 0) (length b - 2)) h)
 
 -- a body of kind 8 has three fields
 pub three-fields : (b : List ℕ) → lengthFits b ≡ true → pairAt b 0 ≡ 8 → 13 < length b
@@ -85,7 +92,10 @@ decoded-none b h = rw h
 kind-record : (k : ℕ) (b : List ℕ) (n : ℕ) → (k ≡ 8 → ⊥) → isRecord (recordOf k b n) ≡ true
 unfolding recordOf isRecord
 kind-record k b n ne =
-    if-both P (eqb k 1) refl (if-both P (eqb k 2) refl (if-both P (eqb k 3) refl (if-both P (eqb k 4) refl (if-both P (eqb k 5) refl (if-both P (eqb k 6) refl (if-both P (eqb k 7) refl
+    if-both P (eqb k 1) refl
+    (if-both P (eqb k 2) refl
+    (if-both P (eqb k 3) refl
+    (if-both P (eqb k 4) refl (if-both P (eqb k 5) refl (if-both P (eqb k 6) refl (if-both P (eqb k 7) refl
     (if-cases P (eqb k 8) (λ e. absurd (ne (eqb-true k 8 e))) (λ e.
     if-both P (eqb k 9) refl (if-both P (eqb k 10) refl (if-both P (eqb k 11) refl (if-both P (eqb k 12) refl refl)))))))))))
   where

@@ -10,8 +10,8 @@ use borrow.Author.Tests.{eq-eqb, eqb-false, ltb-true, ltb-false, le-leb, leb-tru
 use Rattle.graph.specs.laws.Members.{by-test, clash}
 use Rattle.records.specs.Text.{digitsBy, decimal}
 use Rattle.records.specs.Record.{Record, Next, nothing, next, nextRecord, pairAt}
-use Rattle.records.specs.Lines.{joined, fitting}
-use Rattle.records.specs.Run.{Stage, fresh, ended, turn, runFrom, linesIn, linesOf, fittedLines}
+use Rattle.records.specs.Lines.{joinedLines, fitting}
+use Rattle.records.specs.Run.{Stage, fresh, ended, recordStep, runFrom, linesIn}
 
 -- ---- digits
 
@@ -30,7 +30,9 @@ digits-fuel (suc f) zero n h k = absurd (omega arith)
 digits-fuel (suc f) (suc g) n h k =
     by-test (ltb n 10)
     (λ e. let q : n < 10 = ltb-true n 10 e in digits-last f n q ∙ sym (digits-last g n q))
-    (λ e. let q : 10 ≤ n = ltb-false n 10 e in digits-more f n q ∙ ap (λ l. l ++ ((48 + n % 10) ∷ [])) (digits-fuel f g (n / 10) (omega arith) (omega arith)) ∙ sym (digits-more g n q))
+    (λ e. let q : 10 ≤ n = ltb-false n 10 e in
+    digits-more f n q ∙ ap (λ l. l ++ ((48 + n % 10) ∷ [])) (digits-fuel f g (n / 10) (omega arith) (omega arith))
+    ∙ sym (digits-more g n q))
 
 pub decimal-last : (n : ℕ) → n < 10 → decimal n ≡ (48 + n) ∷ []
 unfolding decimal
@@ -46,7 +48,8 @@ pub run-end : (f k : ℕ) (s : Stage) (b : List ℕ) → nextRecord b ≡ nothin
 unfolding runFrom
 run-end f k s b e = rw (runFrom, e)
 
-pub run-step : (f k : ℕ) (s : Stage) (b : List ℕ) (r : Record) (rest : List ℕ) → nextRecord b ≡ next r rest → runFrom (suc f) k s b ≡ turn k s r .lines ++ runFrom f (k + 1) (turn k s r .stage) rest
+pub run-step : (f k : ℕ) (s : Stage) (b : List ℕ) (r : Record) (rest : List ℕ) → nextRecord b ≡ next r rest
+    → runFrom (suc f) k s b ≡ recordStep k s r .lines ++ runFrom f (k + 1) (recordStep k s r .stage) rest
 unfolding runFrom
 run-step f k s b r rest e = rw (runFrom, e)
 
@@ -89,12 +92,14 @@ run-fuel zero (suc g) k s b h i = run-none k s b ∙ sym (run-end g k s b (next-
 run-fuel (suc f) zero k s b h i = run-end f k s b (next-none b (omega arith)) ∙ sym (run-none k s b)
 run-fuel (suc f) (suc g) k s b h i = go (nextRecord b) refl (λ k s b h i. run-fuel f g k s b h i)
   where
-    go : (x : Next) → nextRecord b ≡ x → ((k : ℕ) (s : Stage) (b : List ℕ) → length b ≤ f → length b ≤ g → runFrom f k s b ≡ runFrom g k s b) → runFrom (suc f) k s b ≡ runFrom (suc g) k s b
+    go : (x : Next) → nextRecord b ≡ x
+        → ((k : ℕ) (s : Stage) (b : List ℕ) → length b ≤ f → length b ≤ g → runFrom f k s b ≡ runFrom g k s b)
+        → runFrom (suc f) k s b ≡ runFrom (suc g) k s b
     go nothing e ih = run-end f k s b e ∙ sym (run-end g k s b e)
     go (next r rest) e ih =
         let short : length rest < length b = next-shorter b r rest e in
         run-step f k s b r rest e
-        ∙ ap (λ l. turn k s r .lines ++ l) (ih (k + 1) (turn k s r .stage) rest (omega arith) (omega arith))
+        ∙ ap (λ l. recordStep k s r .lines ++ l) (ih (k + 1) (recordStep k s r .stage) rest (omega arith) (omega arith))
         ∙ sym (run-step g k s b r rest e)
 
 -- the lines from record k on, with as much fuel as there are bytes: what a loop over the records still has to write
@@ -105,13 +110,14 @@ pub lines-from-end : (k : ℕ) (s : Stage) (b : List ℕ) → nextRecord b ≡ n
 unfolding linesFrom
 lines-from-end k s b e = run-fuel (length b) (suc (length b)) k s b (omega arith) (omega arith) ∙ run-end (length b) k s b e
 
-pub lines-from-step : (k : ℕ) (s : Stage) (b : List ℕ) (r : Record) (rest : List ℕ) → nextRecord b ≡ next r rest → linesFrom k s b ≡ turn k s r .lines ++ linesFrom (k + 1) (turn k s r .stage) rest
+pub lines-from-step : (k : ℕ) (s : Stage) (b : List ℕ) (r : Record) (rest : List ℕ) → nextRecord b ≡ next r rest
+    → linesFrom k s b ≡ recordStep k s r .lines ++ linesFrom (k + 1) (recordStep k s r .stage) rest
 unfolding linesFrom
 lines-from-step k s b r rest e =
     let short : length rest < length b = next-shorter b r rest e in
     run-fuel (length b) (suc (length b)) k s b (omega arith) (omega arith)
     ∙ run-step (length b) k s b r rest e
-    ∙ ap (λ l. turn k s r .lines ++ l) (run-fuel (length b) (length rest) (k + 1) (turn k s r .stage) rest (omega arith) (omega arith))
+    ∙ ap (λ l. recordStep k s r .lines ++ l) (run-fuel (length b) (length rest) (k + 1) (recordStep k s r .stage) rest (omega arith) (omega arith))
 
 pub lines-in-start : (b : List ℕ) → linesIn b ≡ linesFrom 1 fresh b
 unfolding linesIn linesFrom
@@ -124,7 +130,7 @@ run-ended (suc f) k b = go (nextRecord b) refl (λ k b. run-ended f k b)
   where
     go : (x : Next) → nextRecord b ≡ x → ((k : ℕ) (b : List ℕ) → runFrom f k ended b ≡ []) → runFrom (suc f) k ended b ≡ []
     go nothing e ih = run-end f k ended b e
-    go (next r rest) e ih = run-step f k ended b r rest e ∙ (unfold turn in (ih (k + 1) rest))
+    go (next r rest) e ih = run-step f k ended b r rest e ∙ (unfold recordStep in (ih (k + 1) rest))
 
 -- ---- lines that fit
 
@@ -137,14 +143,9 @@ fitting-le space (l ∷ ls) =
     (λ e. let q : length l ≤ space = leb-true (length l) space e in rw e (omega (arith, length-append l (fitting (space - length l) ls))))
     (λ e. rw e (omega arith))
 
-pub fitting-all : (space : ℕ) (ls : List (List ℕ)) → length (joined ls) ≤ space → fitting space ls ≡ joined ls
-unfolding fitting joined
+pub fitting-all : (space : ℕ) (ls : List (List ℕ)) → length (joinedLines ls) ≤ space → fitting space ls ≡ joinedLines ls
+unfolding fitting joinedLines
 fitting-all space [] h = refl
 fitting-all space (l ∷ ls) h =
-    let len : length (l ++ joined ls) ≡ length l + length (joined ls) = length-append l (joined ls) in
+    let len : length (l ++ joinedLines ls) ≡ length l + length (joinedLines ls) = length-append l (joinedLines ls) in
     rw (le-leb (length l) space (omega arith)) (ap (λ r. l ++ r) (fitting-all (space - length l) ls (omega arith)))
-
--- so a large enough space takes all that the program writes
-pub fitted-all : (b : List ℕ) (space : ℕ) → length (linesOf b) ≤ space → fittedLines b space ≡ linesOf b
-unfolding fittedLines linesOf
-fitted-all b space h = fitting-all space (linesIn b) h

@@ -15,13 +15,14 @@ use Rattle.graph.specs.Opening.{givenAt, edgeAt, edgesIn, edgesFrom, virtualsFr
 use Rattle.graph.specs.Layout.{blockLength, scratchLength}
 use Rattle.graph.specs.laws.State.{and-left, and-right}
 use Rattle.graph.specs.laws.Members.{by-test, both, or-neither-left, or-neither-right}
-use Rattle.memory.specs.laws.Open.{edges-count, edges-get, refusal-links, refusalOfLengths, refusalOfVirtuals}
+use Rattle.open_graph.specs.laws.Open.{edges-count, edges-get, refusal-links}
+use Rattle.open_graph.specs.inner.Refusals.{refusalOfLengths, refusalOfVirtuals}
 use Rattle.graph.specs.laws.Opened.{getD-any, accepted}
-use Rattle.memory.specs.laws.OpenedBlock.{opened-length, opened-state, opened-formed, opened-block}
+use Rattle.open_graph.specs.laws.OpenedBlock.{opened-length, opened-state, opened-formed, opened-block}
 use Rattle.graph.specs.laws.Table.{table-eq}
 use Rattle.records.specs.Run.{Gathered, tooLarge, runRefusal}
 use Rattle.records.specs.declared.setup.Setup.{Setup}
-use Rattle.records.specs.Setup.{storedOf, noEdge, Holding}
+use Rattle.records.specs.Setup.{storedOf, noEdge, SetupHolds}
 use Rattle.records.specs.Opening.{largeSizes, complete, givenEdges, openInto, blockOpened, openCode, openBlock, OpenedAs}
 
 -- sizes that are not above the program's
@@ -34,7 +35,8 @@ pub record Small (s : Setup) : Type 0 where
 pub small-of : (s : Setup) → largeSizes s ≡ false → Small s
 unfolding largeSizes
 small-of s h =
-    let ven : (ltb 64 (s .v) || ltb 128 (s .e) || ltb 32 (s .n)) ≡ false = or-neither-left (ltb 64 (s .v) || ltb 128 (s .e) || ltb 32 (s .n)) (ltb 2000 (s .l)) h in
+    let ven : (ltb 64 (s .v) || ltb 128 (s .e) || ltb 32 (s .n)) ≡ false =
+    or-neither-left (ltb 64 (s .v) || ltb 128 (s .e) || ltb 32 (s .n)) (ltb 2000 (s .l)) h in
     let ve : (ltb 64 (s .v) || ltb 128 (s .e)) ≡ false = or-neither-left (ltb 64 (s .v) || ltb 128 (s .e)) (ltb 32 (s .n)) ven in
     record {
       v = ltb-false 64 (s .v) (or-neither-left (ltb 64 (s .v)) (ltb 128 (s .e)) ve);
@@ -54,7 +56,9 @@ complete-count s h = eqb-true (s .edges) (s .e) (and-right (sizesOk (s .v) (s .e
 -- parts of the right lengths fit
 pub parts-fit : (b t : List ℤ) (v e n l : ℕ) → length b ≡ blockLength v e n l → length t ≡ scratchLength e → fits b t v e n l ≡ true
 unfolding fits
-parts-fit b t v e n l p q = both (eqb (length b) (blockLength v e n l)) (eqb (length t) (scratchLength e)) (eq-eqb (length b) (blockLength v e n l) p) (eq-eqb (length t) (scratchLength e) q)
+parts-fit b t v e n l p q =
+    both (eqb (length b) (blockLength v e n l)) (eqb (length t) (scratchLength e))
+    (eq-eqb (length b) (blockLength v e n l) p) (eq-eqb (length t) (scratchLength e) q)
 
 -- ---- the refusals, link by link
 
@@ -71,28 +75,36 @@ module _ (s : Setup) (edges virtuals b : List ℤ) where
   unfolding openCode openBlock
   open-bad h k i = (rw (h, k, i), rw (h, k, i))
 
-  pub open-stored : largeSizes s ≡ false → complete s ≡ true → s .bad ≡ false → (openInto s edges virtuals ≡ openCode s edges virtuals) × (blockOpened s edges virtuals b ≡ openBlock s edges virtuals b)
+  pub open-stored : largeSizes s ≡ false → complete s ≡ true → s .bad ≡ false
+      → (openInto s edges virtuals ≡ openCode s edges virtuals)
+      × (blockOpened s edges virtuals b ≡ openBlock s edges virtuals b)
   unfolding openCode openBlock
   open-stored h k i = (rw (h, k, i), rw (h, k, i))
 
 -- ---- the opening of parts that have their lengths
 
 module _ (s : Setup) (edges virtuals block scratch : List ℤ) (m q p k : ℕ)
-    (em : m ≡ blockLength (s .v) (s .e) (s .n) (s .l)) (eq : q ≡ 6 * s .e) (ep : p ≡ 3 * s .e) (ek : k ≡ s .virtuals) (hm : m ≤ length block) (hq : q ≤ length scratch) where
+    (em : m ≡ blockLength (s .v) (s .e) (s .n) (s .l)) (eq : q ≡ 6 * s .e) (ep : p ≡ 3 * s .e) (ek : k ≡ s .virtuals)
+    (hm : m ≤ length block) (hq : q ≤ length scratch) where
   parts : fits (take m block) (take q scratch) (s .v) (s .e) (s .n) (s .l) ≡ true
   parts = parts-fit (take m block) (take q scratch) (s .v) (s .e) (s .n) (s .l) (length-take-le m block hm ∙ em) (length-take-le q scratch hq ∙ eq)
 
-  pub opens-code : openRefusal (s .v) (s .e) (s .n) (s .l) (edgesFrom (take p edges)) (virtualsFrom (take k virtuals)) (fits (take m block) (take q scratch) (s .v) (s .e) (s .n) (s .l)) ≡ openInto s edges virtuals
+  pub opens-code : openRefusal (s .v) (s .e) (s .n) (s .l) (edgesFrom (take p edges)) (virtualsFrom (take k virtuals))
+      (fits (take m block) (take q scratch) (s .v) (s .e) (s .n) (s .l))
+      ≡ openInto s edges virtuals
   unfolding openInto givenEdges
   opens-code = rw (parts, ep, ek)
 
-  pub opens-block : openedBlock (s .v) (s .e) (s .n) (s .l) (edgesFrom (take p edges)) (virtualsFrom (take k virtuals)) (fits (take m block) (take q scratch) (s .v) (s .e) (s .n) (s .l)) (take m block) ++ drop m block ≡ blockOpened s edges virtuals block
+  pub opens-block : openedBlock (s .v) (s .e) (s .n) (s .l) (edgesFrom (take p edges)) (virtualsFrom (take k virtuals))
+      (fits (take m block) (take q scratch) (s .v) (s .e) (s .n) (s .l)) (take m block)
+      ++ drop m block
+      ≡ blockOpened s edges virtuals block
   unfolding blockOpened givenEdges
   opens-block = rw (parts, ep, ek, em)
 
 -- ---- what the memory holds is what was gathered
 
-module _ (s : Setup) (edges virtuals : List ℤ) (g : Gathered) (p : Holding s edges virtuals g) where
+module _ (s : Setup) (edges virtuals : List ℤ) (g : Gathered) (p : SetupHolds s edges virtuals g) where
   large-same : largeSizes s ≡ tooLarge g
   unfolding largeSizes tooLarge
   large-same = rw (p .vertices, p .edge-size, p .node-limit, p .store-limit)
@@ -101,7 +113,8 @@ module _ (s : Setup) (edges virtuals : List ℤ) (g : Gathered) (p : Holding s e
   count-same h =
       by-test (eqb (length (g .edges)) (g .e))
       (λ t. let q : length (g .edges) ≡ g .e = eqb-true (length (g .edges)) (g .e) t in rw t (eq-eqb (s .edges) (s .e) (omega (arith, p .count, p .edge-size))))
-      (λ t. let q : length (g .edges) ≡ g .e → ⊥ = eqb-false (length (g .edges)) (g .e) t in rw t (ne-eqb (s .edges) (s .e) (λ r. q (omega (arith, p .count, p .edge-size)))))
+      (λ t. let q : length (g .edges) ≡ g .e → ⊥ = eqb-false (length (g .edges)) (g .e) t in
+      rw t (ne-eqb (s .edges) (s .e) (λ r. q (omega (arith, p .count, p .edge-size)))))
 
   complete-same : s .e ≤ 128 → complete s ≡ (sizesOk (g .v) (g .e) (g .n) (g .l) && eqb (length (g .edges)) (g .e))
   unfolding complete
@@ -143,7 +156,9 @@ module _ (s : Setup) (edges virtuals : List ℤ) (g : Gathered) (p : Holding s e
     -- the flags of the vertices are those of the virtual vertices that were gathered
     flags-held : map (flagIn (storedOf s virtuals)) (below (s .v)) ≡ map (flagIn (g .virtuals)) (below (s .v))
     unfolding flagIn
-    flags-held = table-eq 0 (flagIn (storedOf s virtuals)) (flagIn (g .virtuals)) (s .v) (λ i h. ap (λ t. if t then 1 else 0) (p .same i (omega (arith, small-of s small .v)) (omega (arith, p .vertices))))
+    flags-held =
+        table-eq 0 (flagIn (storedOf s virtuals)) (flagIn (g .virtuals)) (s .v)
+        (λ i h. ap (λ t. if t then 1 else 0) (p .same i (omega (arith, small-of s small .v)) (omega (arith, p .vertices))))
 
     pub opened-held : opened (s .v) (s .n) (s .l) (givenEdges s edges) (storedOf s virtuals) ≡ opened (g .v) (g .n) (g .l) (g .edges) (g .virtuals)
     unfolding opened graphOf
@@ -151,7 +166,8 @@ module _ (s : Setup) (edges virtuals : List ℤ) (g : Gathered) (p : Holding s e
 
   -- ---- the refusals
 
-  refusal-held : 384 ≤ length edges → largeSizes s ≡ false → complete s ≡ true → s .bad ≡ false → openInto s edges virtuals ≡ openRefusal (g .v) (g .e) (g .n) (g .l) (g .edges) (g .virtuals) true
+  refusal-held : 384 ≤ length edges → largeSizes s ≡ false → complete s ≡ true → s .bad ≡ false
+      → openInto s edges virtuals ≡ openRefusal (g .v) (g .e) (g .n) (g .l) (g .edges) (g .virtuals) true
   unfolding openInto refusalOfLengths refusalOfVirtuals
   refusal-held size small whole fine =
       let good : all (λ x. ltb x (g .v)) (g .virtuals) ≡ true = not-false (all (λ x. ltb x (g .v)) (g .virtuals)) (sym (p .bad) ∙ fine) in
@@ -201,7 +217,8 @@ module _ (s : Setup) (edges virtuals : List ℤ) (g : Gathered) (p : Holding s e
   -- ---- the opened state
 
   block-opened : largeSizes s ≡ false → complete s ≡ true → s .bad ≡ false → openInto s edges virtuals ≡ 0 → (b : List ℤ)
-      → take (blockLength (s .v) (s .e) (s .n) (s .l)) (openBlock s edges virtuals b) ≡ map pos (openedWords (s .v) (s .e) (s .n) (s .l) (givenEdges s edges) (storedOf s virtuals))
+      → take (blockLength (s .v) (s .e) (s .n) (s .l)) (openBlock s edges virtuals b)
+      ≡ map pos (openedWords (s .v) (s .e) (s .n) (s .l) (givenEdges s edges) (storedOf s virtuals))
   unfolding blockOpened openInto
   block-opened small whole fine code b =
       let m : ℕ = blockLength (s .v) (s .e) (s .n) (s .l) in
@@ -210,9 +227,12 @@ module _ (s : Setup) (edges virtuals : List ℤ) (g : Gathered) (p : Holding s e
         ← open-stored s edges virtuals b small whole fine .1,
         opened-block (s .v) (s .e) (s .n) (s .l) (givenEdges s edges) (storedOf s virtuals) true (take m b) code,
       )
-      (take-at (map pos (openedWords (s .v) (s .e) (s .n) (s .l) (givenEdges s edges) (storedOf s virtuals))) (drop m b) m (opened-length (s .v) (s .e) (s .n) (s .l) (givenEdges s edges) (storedOf s virtuals) true a))
+      (take-at (map pos (openedWords (s .v) (s .e) (s .n) (s .l) (givenEdges s edges) (storedOf s virtuals)))
+      (drop m b) m (opened-length (s .v) (s .e) (s .n) (s .l) (givenEdges s edges) (storedOf s virtuals) true a))
 
-  state-held : 384 ≤ length edges → largeSizes s ≡ false → complete s ≡ true → s .bad ≡ false → openInto s edges virtuals ≡ 0 → (b : List ℤ) → OpenedAs (take (blockLength (s .v) (s .e) (s .n) (s .l)) (openBlock s edges virtuals b)) g
+  state-held : 384 ≤ length edges → largeSizes s ≡ false → complete s ≡ true → s .bad ≡ false
+      → openInto s edges virtuals ≡ 0 → (b : List ℤ)
+      → OpenedAs (take (blockLength (s .v) (s .e) (s .n) (s .l)) (openBlock s edges virtuals b)) g
   unfolding openInto
   state-held size small whole fine code b =
       let a = accepted (s .v) (s .e) (s .n) (s .l) (givenEdges s edges) (storedOf s virtuals) true code in
@@ -223,7 +243,8 @@ module _ (s : Setup) (edges virtuals : List ℤ) (g : Gathered) (p : Holding s e
       })
 
   -- where nothing refuses, the start of the block holds the opened graph
-  pub block-held : 384 ≤ length edges → openCode s edges virtuals ≡ 0 → (b : List ℤ) → OpenedAs (take (blockLength (s .v) (s .e) (s .n) (s .l)) (openBlock s edges virtuals b)) g
+  pub block-held : 384 ≤ length edges → openCode s edges virtuals ≡ 0 → (b : List ℤ)
+      → OpenedAs (take (blockLength (s .v) (s .e) (s .n) (s .l)) (openBlock s edges virtuals b)) g
   block-held size code b =
       by-test (largeSizes s)
       (λ h. absurd (omega (arith, open-large s edges virtuals edges h .0, code)))

@@ -32,11 +32,19 @@ module _ (words : List ℤ) (x i : ℕ) where
 -- ---- a virtual vertex: out of range, new, or given before
 
 module _ (s : Setup) (words : List ℤ) (x : ℕ) where
-  pub virtual-out : s .v ≤ x → (record { v = s .v; e = s .e; n = s .n; l = s .l; edges = s .edges; virtuals = s .virtuals; bad = true } ≡ virtualAdded s words x) × (words ≡ storedVirtual s words x)
+  pub virtual-out : s .v ≤ x
+      →
+      (record { v = s .v; e = s .e; n = s .n; l = s .l; edges = s .edges; virtuals = s .virtuals; bad = true }
+      ≡ virtualAdded s words x)
+      × (words ≡ storedVirtual s words x)
   unfolding virtualAdded storedVirtual
   virtual-out h = let e = le-leb (s .v) x h in (rw e, rw e)
 
-  pub virtual-new : x < s .v → newVirtual words (s .virtuals) x ≡ true → (record { v = s .v; e = s .e; n = s .n; l = s .l; edges = s .edges; virtuals = s .virtuals + 1; bad = s .bad } ≡ virtualAdded s words x) × (set words (s .virtuals) (pos x) ≡ storedVirtual s words x)
+  pub virtual-new : x < s .v → newVirtual words (s .virtuals) x ≡ true
+      →
+      (record { v = s .v; e = s .e; n = s .n; l = s .l; edges = s .edges; virtuals = s .virtuals + 1; bad = s .bad }
+      ≡ virtualAdded s words x)
+      × (set words (s .virtuals) (pos x) ≡ storedVirtual s words x)
   unfolding virtualAdded storedVirtual
   virtual-new h k = let e = lt-leb (s .v) x h in (rw (e, k), rw (e, k))
 

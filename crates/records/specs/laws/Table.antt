@@ -20,8 +20,8 @@ use Rattle.graph.specs.laws.State.{fold-append}
 use Rattle.calls.specs.Calls.{growths, touching, growthTable, contacts}
 use Rattle.records.specs.Text.{ascii, spaced}
 use Rattle.records.specs.Lines.{line, edgeLines, contactLine, linesFor}
-use Rattle.records.specs.Table.{edgeLine, touches, linesAt}
-use Rattle.records.specs.Write.{page, putLine, putLines, shortLines, Told}
+use Rattle.records.specs.inner.Table.{edgeLine, touches, linesAt}
+use Rattle.records.specs.Write.{page, putLine, putLines, shortLines, LinesPut}
 
 -- ---- counts
 
@@ -31,7 +31,8 @@ growths-even b f = formed-growths b f
 
 -- ---- the line of an edge
 
-pub edge-line : (k : ℕ) (c : State) (e x y : ℕ) → x ≡ growthAt c (2 * e) → y ≡ growthAt c (2 * e + 1) → line k (ascii "edge" ++ spaced (e ∷ x ∷ y ∷ [])) ≡ edgeLine k c e
+pub edge-line : (k : ℕ) (c : State) (e x y : ℕ) → x ≡ growthAt c (2 * e) → y ≡ growthAt c (2 * e + 1)
+    → line k (ascii "edge" ++ spaced (e ∷ x ∷ y ∷ [])) ≡ edgeLine k c e
 unfolding edgeLine
 edge-line k c e x y p q = rw (p, q)
 
@@ -94,11 +95,20 @@ pub record Telling (b : List ℕ) (n : ℕ) (full : Bool) (c : List ℕ) (m : �
 pub telling-none : {b : List ℕ} {n : ℕ} {full : Bool} {all rest : List (List ℕ)} → n ≤ length b → rest ≡ all → Telling b n full b n full all rest
 telling-none {b} {n} {full} {all} {rest} h e = record { goes-on = rw e; short = λ s. rw (← e) s; room = h }
 
-pub telling-more : {b c d : List ℕ} {n m k : ℕ} {full stopped ended : Bool} {all rest ls more : List (List ℕ)} → Telling b n full c m stopped all rest → rest ≡ ls ++ more → Told c m stopped d k ended ls → Telling b n full d k ended all more
+pub telling-more : {b c d : List ℕ} {n m k : ℕ} {full stopped ended : Bool} {all rest ls more : List (List ℕ)}
+    → Telling b n full c m stopped all rest → rest ≡ ls ++ more → LinesPut c m stopped d k ended ls
+    → Telling b n full d k ended all more
 unfolding putLines shortLines
 telling-more {b} {c} {d} {n} {m} {k} {full} {stopped} {ended} {all} {rest} {ls} {more} p e t =
-    record { goes-on = ap (λ q. putLines q more) (t .page-is) ∙ sym (fold-append putLine (page c m stopped) ls more) ∙ ap (putLines (page c m stopped)) (sym e) ∙ p .goes-on; short = λ s. p .short (rw e (all-append (λ l. leb (length l) 128) ls more (t .short) s)); room = t .room }
+    record {
+      goes-on = ap (λ q. putLines q more) (t .page-is) ∙ sym (fold-append putLine (page c m stopped) ls more)
+          ∙ ap (putLines (page c m stopped)) (sym e) ∙ p .goes-on;
+      short = λ s. p .short (rw e (all-append (λ l. leb (length l) 128) ls more (t .short) s));
+      room = t .room;
+    }
 
-pub telling-all : {b c : List ℕ} {n m : ℕ} {full stopped : Bool} {all rest : List (List ℕ)} → Telling b n full c m stopped all rest → rest ≡ [] → Told b n full c m stopped all
+pub telling-all : {b c : List ℕ} {n m : ℕ} {full stopped : Bool} {all rest : List (List ℕ)}
+    → Telling b n full c m stopped all rest → rest ≡ [] → LinesPut b n full c m stopped all
 unfolding putLines fold shortLines every
-telling-all {b} {c} {n} {m} {full} {stopped} {all} {rest} p e = record { page-is = ap (putLines (page c m stopped)) (sym e) ∙ p .goes-on; short = p .short (rw e refl); room = p .room }
+telling-all {b} {c} {n} {m} {full} {stopped} {all} {rest} p e =
+    record { page-is = ap (putLines (page c m stopped)) (sym e) ∙ p .goes-on; short = p .short (rw e refl); room = p .room }

@@ -6,8 +6,8 @@ use mathlib.Core.Bool.{Bool}
 use mathlib.Core.List.{List, [], _∷_, _++_}
 use lib.IntN.{ℤ}
 use lib.ListN.{length, length-append}
-use Rattle.length.specs.Answer.{flag}
-use Rattle.length.specs.declared.Answer.the-variants.{NonZeroGrow}
+use Rattle.update_length.specs.Answer.{flag}
+use Rattle.update_length.specs.declared.Answer.the-variants.{NonZeroGrow}
 use Rattle.records.specs.Text.{ascii, decimal, signedText, spaced}
 use Rattle.records.specs.Lines.{line, wordsOf}
 use Rattle.records.specs.laws.Write.{decimal-short}
@@ -29,11 +29,13 @@ one-short x h = spaced-short x [] 0 h spaced-none
 pub three-short : (x y z : ℕ) → x < 18446744073709551616 → y < 18446744073709551616 → z < 18446744073709551616 → length (spaced (x ∷ y ∷ z ∷ [])) ≤ 63
 three-short x y z h i j = spaced-short x (y ∷ z ∷ []) 42 h (spaced-short y (z ∷ []) 21 i (one-short z j))
 
-pub four-short : (w x y z : ℕ) → w < 18446744073709551616 → x < 18446744073709551616 → y < 18446744073709551616 → z < 18446744073709551616 → length (spaced (w ∷ x ∷ y ∷ z ∷ [])) ≤ 84
+pub four-short : (w x y z : ℕ) → w < 18446744073709551616 → x < 18446744073709551616 → y < 18446744073709551616
+    → z < 18446744073709551616 → length (spaced (w ∷ x ∷ y ∷ z ∷ [])) ≤ 84
 four-short w x y z g h i j = spaced-short w (x ∷ y ∷ z ∷ []) 63 g (three-short x y z h i j)
 
 -- ---- the line of a free answer
 
-pub free-line : (k : ℕ) (x y : ℤ) (e : Bool) (w : List ℕ) (f : ℕ) → w ≡ ascii "free " ++ signedText y → y ≡ x → f ≡ flag e → line k (w ++ spaced (f ∷ [])) ≡ line k (wordsOf (NonZeroGrow x e))
+pub free-line : (k : ℕ) (x y : ℤ) (e : Bool) (w : List ℕ) (f : ℕ) → w ≡ ascii "free " ++ signedText y → y ≡ x
+    → f ≡ flag e → line k (w ++ spaced (f ∷ [])) ≡ line k (wordsOf (NonZeroGrow x e))
 unfolding wordsOf
 free-line k x y e w f p q r = rw (p, q, r)

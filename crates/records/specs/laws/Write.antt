@@ -15,8 +15,8 @@ use Rattle.graph.specs.Basic.{fold, all}
 use Rattle.graph.specs.laws.Members.{by-test, clash}
 use Rattle.graph.specs.laws.State.{and-left, and-right}
 use Rattle.records.specs.Text.{decimal, signedText, spaced}
-use Rattle.records.specs.Lines.{line, joined, fitting, over}
-use Rattle.records.specs.Write.{Written, Page, page, putLine, putLines, shortLines, Told}
+use Rattle.records.specs.Lines.{line, joinedLines, fitting, over}
+use Rattle.records.specs.Write.{Written, Page, page, putLine, putLines, shortLines, LinesPut}
 use Rattle.records.specs.laws.Lines.{decimal-last, decimal-more, fitting-le, fitting-all}
 
 -- ---- lengths of numbers
@@ -61,9 +61,6 @@ sets-append b n (x ∷ w) v = let z : n + suc (length w) ≡ suc n + length w = 
 pub written-none : (b : List ℕ) (n : ℕ) → Written b n b n []
 written-none b n = record { bytes = refl; place = omega arith }
 
-pub written-byte : (b : List ℕ) (n x : ℕ) → Written b n (set b n x) (n + 1) (x ∷ [])
-written-byte b n x = record { bytes = refl; place = refl }
-
 pub written-then : {b c d w v : List ℕ} {n m k : ℕ} → Written b n c m w → Written c m d k v → Written b n d k (w ++ v)
 written-then {b} {c} {d} {w} {v} {n} {m} {k} p q =
     record { bytes = q .bytes ∙ rw (p .bytes, p .place) (sym (sets-append b n w v)); place = rw (length-append w v) (omega (arith, p .place, q .place)) }
@@ -83,7 +80,8 @@ written-front {b} {c} {w} {m} p h =
 
 -- ---- words and numbers
 
-pub written-more : {b c d : List ℕ} {n m k : ℕ} (w : List ℕ) (i : ℕ) → i < length w → Written b n c m (take i w) → Written c m d k (getD w i 0 ∷ []) → Written b n d k (take (i + 1) w)
+pub written-more : {b c d : List ℕ} {n m k : ℕ} (w : List ℕ) (i : ℕ) → i < length w → Written b n c m (take i w)
+    → Written c m d k (getD w i 0 ∷ []) → Written b n d k (take (i + 1) w)
 written-more w i h p q = written-as (written-then p q) (rw (add-one) (sym (take-suc w i 0 h)))
 
 pub spaced-append : (xs ys : List ℕ) → spaced (xs ++ ys) ≡ spaced xs ++ spaced ys
@@ -99,20 +97,24 @@ spaced-one x = append-nil (32 ∷ decimal x)
 pub spaced-more : (ns : List ℕ) (i : ℕ) → i < length ns → spaced (take (i + 1) ns) ≡ spaced (take i ns) ++ (32 ∷ decimal (getD ns i 0))
 spaced-more ns i h = rw (add-one, take-suc ns i 0 h, spaced-append (take i ns) (getD ns i 0 ∷ []), spaced-one (getD ns i 0))
 
-pub numbers-more : {b c d : List ℕ} {n m k : ℕ} (ns : List ℕ) (i : ℕ) → i < length ns → Written b n c m (spaced (take i ns)) → Written c m d k (32 ∷ decimal (getD ns i 0)) → Written b n d k (spaced (take (i + 1) ns))
+pub numbers-more : {b c d : List ℕ} {n m k : ℕ} (ns : List ℕ) (i : ℕ) → i < length ns
+    → Written b n c m (spaced (take i ns)) → Written c m d k (32 ∷ decimal (getD ns i 0))
+    → Written b n d k (spaced (take (i + 1) ns))
 numbers-more ns i h p q = written-as (written-then p q) (sym (spaced-more ns i h))
 
 -- the first numbers take no more than all
 pub spaced-le : (ns : List ℕ) (i : ℕ) → length (spaced (take i ns)) ≤ length (spaced ns)
 spaced-le ns i =
-    let e : length (spaced (take i ns ++ drop i ns)) ≡ length (spaced (take i ns)) + length (spaced (drop i ns)) = ap length (spaced-append (take i ns) (drop i ns)) ∙ length-append (spaced (take i ns)) (spaced (drop i ns)) in
+    let e : length (spaced (take i ns ++ drop i ns)) ≡ length (spaced (take i ns)) + length (spaced (drop i ns)) =
+    ap length (spaced-append (take i ns) (drop i ns)) ∙ length-append (spaced (take i ns)) (spaced (drop i ns)) in
     let s : length (spaced ns) ≡ length (spaced (take i ns)) + length (spaced (drop i ns)) = rw (take-append-drop i ns) at e in
     omega arith
 
 -- so there is room for the next number
 pub number-fits : (ns : List ℕ) (i : ℕ) → i < length ns → length (spaced (take i ns)) + (1 + length (decimal (getD ns i 0))) ≤ length (spaced ns)
 number-fits ns i h =
-    let e : length (spaced (take (i + 1) ns)) ≡ length (spaced (take i ns)) + length (32 ∷ decimal (getD ns i 0)) = ap length (spaced-more ns i h) ∙ length-append (spaced (take i ns)) (32 ∷ decimal (getD ns i 0)) in
+    let e : length (spaced (take (i + 1) ns)) ≡ length (spaced (take i ns)) + length (32 ∷ decimal (getD ns i 0)) =
+    ap length (spaced-more ns i h) ∙ length-append (spaced (take i ns)) (32 ∷ decimal (getD ns i 0)) in
     omega (arith, spaced-le ns (i + 1))
 
 -- ---- signed numbers
@@ -142,15 +144,17 @@ one-line : (l : List ℕ) → length l ≤ 128 → shortLines (l ∷ []) ≡ tru
 unfolding shortLines all
 one-line l h = rw (le-leb (length l) 128 h)
 
-pub told-full : (b : List ℕ) (n : ℕ) (full : Bool) (l : List ℕ) → full ≡ true → n ≤ length b → length l ≤ 128 → Told b n full b n full (l ∷ [])
+pub told-full : (b : List ℕ) (n : ℕ) (full : Bool) (l : List ℕ) → full ≡ true → n ≤ length b → length l ≤ 128 → LinesPut b n full b n full (l ∷ [])
 unfolding page putLine putLines fold
 told-full b n full l e h s = record { page-is = rw e; short = one-line l s; room = h }
 
-pub told-over : (b : List ℕ) (n : ℕ) (full : Bool) (l : List ℕ) → full ≡ false → n ≤ length b → length b - n < length l → length l ≤ 128 → Told b n full b n true (l ∷ [])
+pub told-over : (b : List ℕ) (n : ℕ) (full : Bool) (l : List ℕ) → full ≡ false → n ≤ length b → length b - n < length l
+    → length l ≤ 128 → LinesPut b n full b n true (l ∷ [])
 unfolding page putLine putLines fold
 told-over b n full l e h k s = record { page-is = rw (e, lt-leb (n + length l) (length b) (omega arith)); short = one-line l s; room = h }
 
-pub told-fits : (b : List ℕ) (n : ℕ) (full : Bool) (c : List ℕ) (m : ℕ) (l : List ℕ) → full ≡ false → n ≤ length b → length l ≤ length b - n → length l ≤ 128 → Written b n c m l → Told b n full c m false (l ∷ [])
+pub told-fits : (b : List ℕ) (n : ℕ) (full : Bool) (c : List ℕ) (m : ℕ) (l : List ℕ) → full ≡ false → n ≤ length b
+    → length l ≤ length b - n → length l ≤ 128 → Written b n c m l → LinesPut b n full c m false (l ∷ [])
 unfolding page putLine putLines fold
 told-fits b n full c m l e h k s p =
     record {
@@ -160,13 +164,14 @@ told-fits b n full c m l e h k s p =
     }
 
 -- the same lines, given otherwise
-pub told-lines : {b c : List ℕ} {n m : ℕ} {full stopped : Bool} {ls ks : List (List ℕ)} → Told b n full c m stopped ls → ls ≡ ks → Told b n full c m stopped ks
+pub told-lines : {b c : List ℕ} {n m : ℕ} {full stopped : Bool} {ls ks : List (List ℕ)}
+    → LinesPut b n full c m stopped ls → ls ≡ ks → LinesPut b n full c m stopped ks
 told-lines {b} {c} {n} {m} {full} {stopped} {ls} {ks} p e = rw (← e) p
 
-pub told-as : {b c l v : List ℕ} {n m : ℕ} {full stopped : Bool} → Told b n full c m stopped (l ∷ []) → l ≡ v → Told b n full c m stopped (v ∷ [])
+pub told-as : {b c l v : List ℕ} {n m : ℕ} {full stopped : Bool} → LinesPut b n full c m stopped (l ∷ []) → l ≡ v → LinesPut b n full c m stopped (v ∷ [])
 told-as p e = told-lines p (ap (λ x. x ∷ []) e)
 
-pub told-none : {b : List ℕ} {n : ℕ} {full : Bool} → n ≤ length b → Told b n full b n full []
+pub told-none : {b : List ℕ} {n : ℕ} {full : Bool} → n ≤ length b → LinesPut b n full b n full []
 unfolding putLines fold shortLines all
 told-none h = record { page-is = refl; short = refl; room = h }
 
@@ -192,7 +197,9 @@ put-fitting b n (l ∷ ls) h =
     (λ e.
     let q : n + length l ≤ length b = leb-true (n + length l) (length b) e in
     let len : length (sets b n l) ≡ length b = length-sets b n l in
-    let ih : Fitted (sets b n l) (n + length l) (fitting (length (sets b n l) - (n + length l)) ls) (putLines (page (sets b n l) (n + length l) false) ls) = put-fitting (sets b n l) (n + length l) ls (omega arith) in
+    let ih : Fitted (sets b n l) (n + length l) (fitting (length (sets b n l) - (n + length l)) ls)
+    (putLines (page (sets b n l) (n + length l) false) ls) =
+    put-fitting (sets b n l) (n + length l) ls (omega arith) in
     let space : length b - n - length l ≡ length b - (n + length l) = omega arith in
     rw (e, le-leb (length l) (length b - n) (omega arith), space)
     (record {
@@ -204,7 +211,9 @@ put-fitting b n (l ∷ ls) h =
     rw (e, lt-leb (length l) (length b - n) (omega arith), put-full b n ls) (record { bytes = refl; at = omega arith }))
 
 -- lines put from the start on: the bytes are written over with those that fit
-pub put-over : (b c : List ℕ) (m : ℕ) (stopped : Bool) (ls : List (List ℕ)) → page c m stopped ≡ putLines (page b 0 false) ls → (c ≡ over (fitting (length b) ls) b) × (m ≡ length (fitting (length b) ls))
+pub put-over : (b c : List ℕ) (m : ℕ) (stopped : Bool) (ls : List (List ℕ))
+    → page c m stopped ≡ putLines (page b 0 false) ls
+    → (c ≡ over (fitting (length b) ls) b) × (m ≡ length (fitting (length b) ls))
 unfolding over page
 put-over b c m stopped ls t =
     let z : length b - 0 ≡ length b = omega arith in
@@ -214,17 +223,18 @@ put-over b c m stopped ls t =
     (ap (λ p. p .bytes) t ∙ rw z at (f .bytes) ∙ sets-eq (fitting (length b) ls) b 0 (omega arith) ∙ rw y, ap (λ p. p .at) t ∙ rw (z, y) at (f .at))
 
 -- how long short lines are together
-pub short-joined : (ls : List (List ℕ)) → shortLines ls ≡ true → length (joined ls) ≤ 128 * length ls
-unfolding shortLines all joined
+pub short-joined : (ls : List (List ℕ)) → shortLines ls ≡ true → length (joinedLines ls) ≤ 128 * length ls
+unfolding shortLines all joinedLines
 short-joined [] h = omega arith
 short-joined (l ∷ ls) h =
     let one : length l ≤ 128 = leb-true (length l) 128 (and-left (leb (length l) 128) (shortLines ls) h) in
-    omega (arith, length-append l (joined ls), short-joined ls (and-right (leb (length l) 128) (shortLines ls) h))
+    omega (arith, length-append l (joinedLines ls), short-joined ls (and-right (leb (length l) 128) (shortLines ls) h))
 
 -- so few lines all fit
-pub told-few : {b c : List ℕ} {m : ℕ} {stopped : Bool} (ls : List (List ℕ)) → Told b 0 false c m stopped ls → 128 * length ls ≤ length b → take m c ≡ joined ls
+pub told-few : {b c : List ℕ} {m : ℕ} {stopped : Bool} (ls : List (List ℕ)) → LinesPut b 0 false c m stopped ls
+    → 128 * length ls ≤ length b → take m c ≡ joinedLines ls
 unfolding over
 told-few {b} {c} {m} {stopped} ls t h =
     let o = put-over b c m stopped ls (t .page-is) in
-    let e : fitting (length b) ls ≡ joined ls = fitting-all (length b) ls (omega (arith, short-joined ls (t .short))) in
-    rw (o .0, o .1, e) (take-at (joined ls) (drop (length (joined ls)) b) (length (joined ls)) refl)
+    let e : fitting (length b) ls ≡ joinedLines ls = fitting-all (length b) ls (omega (arith, short-joined ls (t .short))) in
+    rw (o .0, o .1, e) (take-at (joinedLines ls) (drop (length (joinedLines ls)) b) (length (joinedLines ls)) refl)

@@ -1,6 +1,4 @@
 use Rattle.remove.specs.laws.Call.{blossom-word}
-use Rattle.graph.specs.State.{vertexCount}
-use Rattle.graph.specs.Layout.{stateOf}
 use borrow.Author.Needs.{needs}
 use Rattle.remove.proofs.is_bare.Statement.{statement}
 use Rattle.remove.proofs.is_bare.Tie as tie

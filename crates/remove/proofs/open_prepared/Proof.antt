@@ -20,7 +20,11 @@ same-length-2 : tie.Need-same-length-2
 same-length-2 c = search needs
 
 returns-2 : tie.Need-returns-2
-returns-2 c = let s = c .before .before .before .before .before .before in opening-done (s .pre .0) (s .args .n) (sym (c .before .before .before .before .stops-opening .ensures) ∙ c .before .before .before .if1 .left) (c .before .«open» .ensures)
+returns-2 c =
+    let s = c .before .before .before .before .before .before in
+    opening-done (s .pre .0) (s .args .n)
+    (sym (c .before .before .before .before .stops-opening .ensures) ∙ c .before .before .before .if1 .left)
+    (c .before .«open» .ensures)
 
 pub open-prepared-spec : {M : Type 1} → statement M
 open-prepared-spec =

@@ -12,19 +12,39 @@ returns : tie.Need-returns
 returns c = let s = c .before .before in removal-first (stateOf (s .args .b .now)) (s .args .n) (c .before .node-refusal .ensures) (c .if1 .taken)
 
 is-bare-requires : tie.Need-is-bare-requires
-is-bare-requires c κs = let s = c .before .before in (s .pre, removal-inside (stateOf (s .args .b .now)) (s .args .n) (c .before .node-refusal .ensures) (c .if1 .left))
+is-bare-requires c κs =
+    let s = c .before .before in
+    (s .pre, removal-inside (stateOf (s .args .b .now)) (s .args .n) (c .before .node-refusal .ensures) (c .if1 .left))
 
 store-short-requires : tie.Need-store-short-requires
-store-short-requires c κs = let s = c .before .before .before .before in (s .pre, removal-inside (stateOf (s .args .b .now)) (s .args .n) (c .before .before .before .node-refusal .ensures) (c .before .before .if1 .left))
+store-short-requires c κs =
+    let s = c .before .before .before .before in (
+      s .pre,
+      removal-inside (stateOf (s .args .b .now)) (s .args .n) (c .before .before .before .node-refusal .ensures)
+          (c .before .before .if1 .left),
+    )
 
 returns-2 : tie.Need-returns-2
-returns-2 c = let s = c .before .before .before .before .before .before in removal-short (stateOf (s .args .b .now)) (s .args .n) (c .before .before .before .before .before .node-refusal .ensures) (c .before .before .before .before .if1 .left) (sym (c .before .before .before .is-bare .ensures) ∙ c .before .before .if2 .taken) (sym (c .before .store-short .ensures) ∙ c .if3 .taken)
+returns-2 c =
+    let s = c .before .before .before .before .before .before in
+    removal-short (stateOf (s .args .b .now)) (s .args .n)
+    (c .before .before .before .before .before .node-refusal .ensures) (c .before .before .before .before .if1 .left)
+    (sym (c .before .before .before .is-bare .ensures) ∙ c .before .before .if2 .taken)
+    (sym (c .before .store-short .ensures) ∙ c .if3 .taken)
 
 returns-3 : tie.Need-returns-3
-returns-3 c = let s = c .before .before .before .before .before .before in removal-not (stateOf (s .args .b .now)) (s .args .n) (c .before .before .before .before .before .node-refusal .ensures) (c .before .before .before .before .if1 .left) (sym (c .before .before .before .is-bare .ensures) ∙ c .before .before .if2 .taken) (sym (c .before .store-short .ensures) ∙ c .if3 .left)
+returns-3 c =
+    let s = c .before .before .before .before .before .before in
+    removal-not (stateOf (s .args .b .now)) (s .args .n) (c .before .before .before .before .before .node-refusal .ensures)
+    (c .before .before .before .before .if1 .left)
+    (sym (c .before .before .before .is-bare .ensures) ∙ c .before .before .if2 .taken)
+    (sym (c .before .store-short .ensures) ∙ c .if3 .left)
 
 returns-4 : tie.Need-returns-4
-returns-4 c = let s = c .before .before .before .before in removal-class (stateOf (s .args .b .now)) (s .args .n) (c .before .before .before .node-refusal .ensures) (c .before .before .if1 .left) (sym (c .before .is-bare .ensures) ∙ c .if2 .left)
+returns-4 c =
+    let s = c .before .before .before .before in
+    removal-class (stateOf (s .args .b .now)) (s .args .n) (c .before .before .before .node-refusal .ensures)
+    (c .before .before .if1 .left) (sym (c .before .is-bare .ensures) ∙ c .if2 .left)
 
 pub remove-refusal-spec : {M : Type 1} → statement M
 remove-refusal-spec =

@@ -2,36 +2,37 @@
 use Prim.Native.Nat.{ℕ, _+_, _-_, _<_}
 use native.Mathlib.Decide.{ℕ-discrete as decEq, decLt}
 use native.Mathlib.Omega.{arith}
-use mathlib.Core.Path.{_≡_, refl, sym, ap, _∙_}
+use mathlib.Core.Path.{_≡_, refl, sym, _∙_}
 use mathlib.Core.Logic.{_≢_}
 use mathlib.Core.Bool.{Bool, true, false, _&&_, _||_, not}
 use mathlib.Core.List.{List, [], _∷_}
 use lib.IntN.{ℤ}
 use lib.Dec.{eqb, leb}
-use borrow.Author.Tests.{lt-ltb, le-ltb, lt-leb, le-leb, eq-eqb, ne-eqb}
+use borrow.Author.Tests.{lt-ltb, le-ltb, lt-leb, le-leb}
 use Rattle.graph.specs.Basic.{if_then_else_}
 use Rattle.graph.specs.State.{State, NodeClass, defectVertex, blossom, removed, removedPlace, nodeCount, classOf, dualOf, down}
 use Rattle.graph.specs.Sound.{isRemoved}
 use Rattle.graph.specs.Layout.{classFrom, stateOf}
-use Rattle.graph.specs.Form.{Formed, Becomes, sidesOk}
+use Rattle.graph.specs.Form.{Formed}
+use Rattle.graph.specs.inner.Form.{Becomes, sidesOk}
 use Rattle.graph.specs.laws.Members.{by-test}
 use Rattle.graph.specs.laws.Row.{becomes-then, becomes-none}
 use Rattle.pass.specs.Prepare.{prepareNode}
-use Rattle.pass.specs.Ready.{Ready, Preparable, AfterPreparation}
+use Rattle.pass.specs.inner.Ready.{Ready, Preparable, AfterPreparation}
 use Rattle.pass.specs.laws.Passes.{Passed}
 use Rattle.pass.specs.laws.Prepare.{prepare-passed}
-use Rattle.length.specs.declared.Answer.{Answer}
-use Rattle.length.specs.declared.Answer.the-variants.{Done, Refused}
-use Rattle.length.specs.Answer.{says}
-use Rattle.calls.specs.Refuse.{badNode, inBlossom, storeShort, nodeRefusal, unless}
-use Rattle.calls.specs.Reply.{Usable, Replies}
+use Rattle.update_length.specs.declared.Answer.{Answer}
+use Rattle.update_length.specs.declared.Answer.the-variants.{Done, Refused}
+use Rattle.update_length.specs.Answer.{says}
+use Rattle.calls.specs.Refuse.{badNode, inBlossom, storeShort, nodeRefusal}
+use Rattle.calls.specs.inner.Reply.{Replies, Usable}
 use Rattle.calls.specs.Remove.{isBlossom, removeRefusal, stopsOpening, openedBlossom, openPrepared, removeBlossom}
 use Rattle.calls.specs.laws.Accepted.{NodeAccepted}
 use Rattle.calls.specs.laws.Readable.{sound-sides-ok}
 use Rattle.calls.specs.laws.Refuse.{good-inside}
 use Rattle.calls.specs.laws.Remove.{RemoveAccepted, remove-accepted}
 use Rattle.calls.specs.laws.Replies.{usable-steady, accepted-ready, accepted-able, prepared-grows, replies-refused, replies-accepted}
-use Rattle.remove.specs.Stops.{SidesIn}
+use Rattle.remove.specs.inner.Stops.{SidesIn}
 
 -- ---- what refuses it
 
@@ -95,7 +96,8 @@ module _ {b : List ℤ} (f : Formed b) (n : ℕ) where
   unfolding openPrepared says
   opening-stops h = rw h (record { answer = refl; block = becomes-none b (stateOf b) f refl })
 
-  pub opening-done : {b' : List ℤ} → stopsOpening (stateOf b) n ≡ false → Becomes b b' (openedBlossom (stateOf b) n) → Replies b b' Done (openPrepared (stateOf b) n)
+  pub opening-done : {b' : List ℤ} → stopsOpening (stateOf b) n ≡ false → Becomes b b' (openedBlossom (stateOf b) n)
+      → Replies b b' Done (openPrepared (stateOf b) n)
   unfolding openPrepared
   opening-done h p = rw h (record { answer = refl; block = p })
 

@@ -3,20 +3,20 @@ use Prim.Native.Nat.{ℕ, _+_, _-_, _≤_, _<_}
 use native.Mathlib.Omega.{arith}
 use native.Mathlib.Numerals.{add-one}
 use mathlib.Core.Path.{_≡_, refl, sym, ap, _∙_, subst}
-use mathlib.Core.Logic.{_≢_}
-use mathlib.Core.Bool.{Bool, true, false}
-use mathlib.Core.List.{List, [], _∷_, _++_}
+use mathlib.Core.Bool.{true, false}
+use mathlib.Core.List.{List, []}
 use lib.IntN.{ℤ}
 use lib.Dec.{eqb}
 use lib.ListN.{length, getD, take, drop}
 use lib.Seq.{drop-length}
 use Rattle.graph.specs.Basic.{if_then_else_, fold, only, below}
-use Rattle.graph.specs.State.{State, Nodes, nodeCount, sideCount, parentOf, boundaryOf, overgrownOf, removed, withSides, withHolder, withParent, withClass, withGrowState}
-use Rattle.graph.specs.Form.{Formed, Becomes, sidesOk}
+use Rattle.graph.specs.State.{State, Nodes, nodeCount, parentOf, boundaryOf, overgrownOf, removed, withSides, withHolder, withParent, withClass, withGrowState}
+use Rattle.graph.specs.Form.{Formed}
+use Rattle.graph.specs.inner.Form.{Becomes, sidesOk}
 use Rattle.graph.specs.Sound.{entries, entriesOf}
 use Rattle.graph.specs.Word.{numbersAt}
 use Rattle.graph.specs.Layout.{stackFrom, stateOf}
-use Rattle.graph.specs.Replace.{withLists}
+use Rattle.graph.specs.inner.Replace.{withLists}
 use Rattle.graph.specs.laws.State.{if-both, fold-keeps, fold-more, fold-done, fold-snoc}
 use Rattle.graph.specs.laws.Members.{by-test}
 use Rattle.graph.specs.laws.Row.{becomes-then, becomes-none}
@@ -24,13 +24,14 @@ use Rattle.graph.specs.laws.Used.{entries-within}
 use Rattle.active_list.specs.laws.Renewal.{only-snoc}
 use Rattle.calls.specs.Remove.{membersOf, unheld, freeStep, returnStep, memberStep, removedNode, openedBlossom}
 use Rattle.calls.specs.laws.Remove.{one-rest, one-parent-off}
-use Rattle.remove.specs.Stops.{SidesIn, isMember}
-use Rattle.remove.specs.Opened.{setHolder}
+use Rattle.remove.specs.inner.Stops.{SidesIn, isMember}
+use Rattle.remove.specs.inner.Opened.{setHolder}
 
 -- ---- lists that hold sides
 
 -- another block with the same lists and as many nodes and sides
-pub sides-in : {b₀ b : List ℤ} {d : State} → Becomes b₀ b d → stateOf b .nodes .boundary ≡ stateOf b₀ .nodes .boundary → SidesIn (stateOf b₀) → SidesIn (stateOf b)
+pub sides-in : {b₀ b : List ℤ} {d : State} → Becomes b₀ b d → stateOf b .nodes .boundary ≡ stateOf b₀ .nodes .boundary
+    → SidesIn (stateOf b₀) → SidesIn (stateOf b)
 unfolding sidesOk
 sides-in p e f m h = rw (p .sides, e) (f m (omega (arith, p .nodes, h)))
 
@@ -47,7 +48,8 @@ holders-nodes : (x : ℕ) (c : State) (l : List ℕ) → holders x c l .nodes �
 unfolding setHolder withHolder withSides
 holders-nodes x c l = fold-keeps (setHolder x) (λ (d : State). d .nodes ≡ c .nodes) (λ d s e. e) c l refl
 
-pub holders-lists : {b₀ b : List ℤ} (x : ℕ) (l : List ℕ) → Becomes b₀ b (fold (setHolder x) (stateOf b₀) l) → stateOf b .nodes .boundary ≡ stateOf b₀ .nodes .boundary
+pub holders-lists : {b₀ b : List ℤ} (x : ℕ) (l : List ℕ) → Becomes b₀ b (fold (setHolder x) (stateOf b₀) l)
+    → stateOf b .nodes .boundary ≡ stateOf b₀ .nodes .boundary
 holders-lists {b₀} x l p = ap (λ (c : State). c .nodes .boundary) (p .state) ∙ ap (λ (y : Nodes). y .boundary) (holders-nodes x (stateOf b₀) l)
 
 pub record HoldersSet (b₀ b : List ℤ) (n x i : ℕ) : Type 0 where
@@ -144,7 +146,8 @@ module _ {b₀ b : List ℤ} {n k : ℕ} (p : Returned b₀ b n k) where
 
 -- ---- the node itself
 
-pub node-removed : {b₀ b₁ b₂ b₃ : List ℤ} (t : List ℤ) (n : ℕ) → Becomes b₀ b₁ (withClass (stateOf b₀) n removed) → Becomes b₁ b₂ (withGrowState (stateOf b₁) n 0)
+pub node-removed : {b₀ b₁ b₂ b₃ : List ℤ} (t : List ℤ) (n : ℕ) → Becomes b₀ b₁ (withClass (stateOf b₀) n removed)
+    → Becomes b₁ b₂ (withGrowState (stateOf b₁) n 0)
     → Becomes b₂ b₃ (withLists (stateOf b₂) n (numbersAt t 0 0) 0 (numbersAt t 0 0)) → Becomes b₀ b₃ (removedNode (stateOf b₀) n)
 unfolding removedNode withLists numbersAt stackFrom
 node-removed {b₀} {b₁} {b₂} {b₃} t n p q r =

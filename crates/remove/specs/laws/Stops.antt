@@ -12,19 +12,19 @@ use lib.ListN.{length, getD, set, replicate, take, length-append, List·getD-app
 use lib.Seq.{take-all, getD-append-add}
 use borrow.Author.Tests.{eq-eqb, ne-eqb, ltb-true}
 use Rattle.graph.specs.Basic.{if_then_else_, all, any, member, only, below, distinct}
-use Rattle.graph.specs.State.{State, nodeCount, sideCount, holderAt, parentOf, boundaryOf, overgrownOf}
-use Rattle.graph.specs.Form.{sidesOk}
-use Rattle.graph.specs.Scans.{onceAll, Carry, Stamped}
+use Rattle.graph.specs.State.{State, nodeCount, sideCount, holderAt, boundaryOf, overgrownOf}
+use Rattle.graph.specs.inner.Form.{sidesOk}
+use Rattle.graph.specs.inner.Scans.{onceAll, Carry}
 use Rattle.graph.specs.laws.State.{and-left, and-right}
 use Rattle.graph.specs.laws.Members.{by-test, member-head, member-tail, all-append}
 use Rattle.graph.specs.laws.Opened.{getD-zeros}
 use Rattle.graph.specs.laws.Scan.{list-more, list-done, list-fails}
-use Rattle.graph.specs.laws.Shape.{Shape}
+use Rattle.graph.specs.Shape.{Shape}
 use Rattle.graph.specs.laws.Stamp.{carry-more, stamped-none, stamped-more, stamped-all, stamped-fails}
 use Rattle.active_list.specs.laws.Renewal.{only-snoc}
 use Rattle.calls.specs.Remove.{membersOf, listsOf, unheld, stopsOpening}
 use Rattle.calls.specs.laws.Remove.{of-members, unheld-held}
-use Rattle.remove.specs.Stops.{SidesIn, isHeld, freeBy, memberLists, isMember, entriesBefore, Met}
+use Rattle.remove.specs.inner.Stops.{SidesIn, hasHolder, freeBy, memberLists, isMember, entriesBefore, Met}
 
 not-both : (x y : Bool) → not x || not y ≡ not (x && y)
 not-both true y = refl
@@ -40,30 +40,30 @@ carry-none m l x h = rw (getD-zeros m x)
 -- the first i sides of node n are held and marked, and no other side is marked
 pub record HeldTo (c : State) (n i : ℕ) (own : List ℕ) : Type 0 where
   pub carries : Carry 1 (boundaryOf c n) i own
-  pub held : all (isHeld c) (take i (boundaryOf c n)) ≡ true
+  pub held : all (hasHolder c) (take i (boundaryOf c n)) ≡ true
 
 pub held-none : (c : State) (n : ℕ) (own : List ℕ) → Carry 1 (boundaryOf c n) 0 own → HeldTo c n 0 own
 unfolding all
 held-none c n own k = record { carries = k; held = refl }
 
 module _ {c : State} {n i : ℕ} {own : List ℕ} (q : HeldTo c n i own) where
-  pub held-all-sides : length (boundaryOf c n) ≤ i → true ≡ all (isHeld c) (boundaryOf c n)
-  held-all-sides h = list-done (isHeld c) (boundaryOf c n) i h (q .held)
+  pub held-all-sides : length (boundaryOf c n) ≤ i → true ≡ all (hasHolder c) (boundaryOf c n)
+  held-all-sides h = list-done (hasHolder c) (boundaryOf c n) i h (q .held)
 
   pub held-carries : i ≡ length (boundaryOf c n) → Carry 1 (boundaryOf c n) (length (boundaryOf c n)) own
   held-carries e = rw e at (q .carries)
 
   module _ (s : ℕ) (h : i < length (boundaryOf c n)) (e : s ≡ getD (boundaryOf c n) i 0) where
     pub held-more : s < length own → holderAt c s ≢ 0 → HeldTo c n (i + 1) (set own s 1)
-    unfolding isHeld
+    unfolding hasHolder
     held-more b ne = record {
       carries = carry-more 1 (boundaryOf c n) i own s h e b (q .carries);
-      held = list-more (isHeld c) (boundaryOf c n) i 0 h (q .held) (rw (← e, ne-eqb (holderAt c s) 0 ne));
+      held = list-more (hasHolder c) (boundaryOf c n) i 0 h (q .held) (rw (← e, ne-eqb (holderAt c s) 0 ne));
     }
 
-    pub held-not : holderAt c s ≡ 0 → false ≡ all (isHeld c) (boundaryOf c n)
-    unfolding isHeld
-    held-not z = sym (list-fails (isHeld c) (boundaryOf c n) i 0 h (rw (← e, eq-eqb (holderAt c s) 0 z)))
+    pub held-not : holderAt c s ≡ 0 → false ≡ all (hasHolder c) (boundaryOf c n)
+    unfolding hasHolder
+    held-not z = sym (list-fails (hasHolder c) (boundaryOf c n) i 0 h (rw (← e, eq-eqb (holderAt c s) 0 z)))
 
 -- ---- the members' lists, one behind the other
 
@@ -154,24 +154,31 @@ module _ (c : State) (n : ℕ) where
 pub met-none : (c : State) (n : ℕ) (own : List ℕ) (k : ℕ) → Met c n own (entriesBefore c n 0) (replicate k 0)
 met-none c n own k = rw (before-none c n) (stamped-none 0 (freeBy c own) (memberLists c n) (replicate k 0) (λ x. omega (arith, getD-zeros k x)))
 
-pub met-other : (c : State) (n m : ℕ) (own met : List ℕ) → isMember c n m ≡ false → Met c n own (entriesBefore c n m) met → Met c n own (entriesBefore c n (m + 1)) met
+pub met-other : (c : State) (n m : ℕ) (own met : List ℕ) → isMember c n m ≡ false
+    → Met c n own (entriesBefore c n m) met → Met c n own (entriesBefore c n (m + 1)) met
 met-other c n m own met h q = rw (before-other c n m h) q
 
-pub met-all : (c : State) (n m : ℕ) (own met : List ℕ) → m ≡ nodeCount c → Met c n own (entriesBefore c n m) met → true ≡ onceAll (freeBy c own) (memberLists c n)
+pub met-all : (c : State) (n m : ℕ) (own met : List ℕ) → m ≡ nodeCount c → Met c n own (entriesBefore c n m) met
+    → true ≡ onceAll (freeBy c own) (memberLists c n)
 met-all c n m own met e q = stamped-all 1 (freeBy c own) (memberLists c n) (entriesBefore c n m) met q (rw e (omega (arith, before-all c n)))
 
 module _ (c : State) (n m : ℕ) (own met : List ℕ) (h : isMember c n m ≡ true) (l : m < nodeCount c) where
   pub met-list : (i : ℕ) → i ≡ length (boundaryOf c m) → Met c n own (entriesBefore c n m + i) met → Met c n own (entriesBefore c n (m + 1)) met
   met-list i e q = rw (before-member c n m h, ← e) q
 
-  module _ (i s : ℕ) (q : Met c n own (entriesBefore c n m + i) met) (b : i < length (boundaryOf c m)) (e : s ≡ getD (boundaryOf c m) i 0) (small : s < length met) where
+  module _ (i s : ℕ) (q : Met c n own (entriesBefore c n m + i) met) (b : i < length (boundaryOf c m))
+      (e : s ≡ getD (boundaryOf c m) i 0) (small : s < length met) where
     pub met-more : freeBy c own s && not (eqb (getD met s 0) 1) ≡ true → Met c n own (entriesBefore c n m + (i + 1)) (set met s 1)
     met-more f =
         let z : entriesBefore c n m + (i + 1) ≡ entriesBefore c n m + i + 1 = omega arith in
-        rw z (stamped-more 1 (freeBy c own) (memberLists c n) (entriesBefore c n m + i) met q s (entry-within c n m i h b l) (e ∙ entry-at c n m i h b l) small f)
+        rw z
+        (stamped-more 1 (freeBy c own) (memberLists c n) (entriesBefore c n m + i) met q s (entry-within c n m i h b l)
+        (e ∙ entry-at c n m i h b l) small f)
 
     pub met-fails : freeBy c own s && not (eqb (getD met s 0) 1) ≡ false → false ≡ onceAll (freeBy c own) (memberLists c n)
-    met-fails f = stamped-fails 1 (freeBy c own) (memberLists c n) (entriesBefore c n m + i) met q s (entry-within c n m i h b l) (e ∙ entry-at c n m i h b l) small f
+    met-fails f =
+        stamped-fails 1 (freeBy c own) (memberLists c n) (entriesBefore c n m + i) met q s (entry-within c n m i h b l)
+        (e ∙ entry-at c n m i h b l) small f
 
 -- ---- a side that is free once those of the blossom are
 
@@ -206,10 +213,10 @@ lists-in c f (m ∷ ms) h =
 -- ---- the whole test
 
 -- a listed side has no holder
-held-all : (c : State) (l : List ℕ) → any (λ s. eqb (holderAt c s) 0) l ≡ not (all (isHeld c) l)
-unfolding any all isHeld
+held-all : (c : State) (l : List ℕ) → any (λ s. eqb (holderAt c s) 0) l ≡ not (all (hasHolder c) l)
+unfolding any all hasHolder
 held-all c [] = refl
-held-all c (s ∷ l) = rw (held-all c l) (go (eqb (holderAt c s) 0) (all (isHeld c) l))
+held-all c (s ∷ l) = rw (held-all c l) (go (eqb (holderAt c s) 0) (all (hasHolder c) l))
   where
     go : (x y : Bool) → x || not y ≡ not (not x && y)
     go true y = refl
@@ -220,12 +227,12 @@ module _ (c : State) (z : Shape c) (f : SidesIn c) (n : ℕ) where
   unfolding stopsOpening
   stops-overgrown h = rw (ne-eqb (length (overgrownOf c n)) 0 h)
 
-  pub stops-unheld : length (overgrownOf c n) ≡ 0 → all (isHeld c) (boundaryOf c n) ≡ false → true ≡ stopsOpening c n
+  pub stops-unheld : length (overgrownOf c n) ≡ 0 → all (hasHolder c) (boundaryOf c n) ≡ false → true ≡ stopsOpening c n
   unfolding stopsOpening
   stops-unheld o h = rw (eq-eqb (length (overgrownOf c n)) 0 o, held-all c (boundaryOf c n), h)
 
   pub stops-members : (own : List ℕ) → sideCount c ≤ length own → Carry 1 (boundaryOf c n) (length (boundaryOf c n)) own
-      → length (overgrownOf c n) ≡ 0 → all (isHeld c) (boundaryOf c n) ≡ true → {r : Bool} → r ≡ onceAll (freeBy c own) (memberLists c n)
+      → length (overgrownOf c n) ≡ 0 → all (hasHolder c) (boundaryOf c n) ≡ true → {r : Bool} → r ≡ onceAll (freeBy c own) (memberLists c n)
       → not r ≡ stopsOpening c n
   unfolding stopsOpening onceAll
   stops-members own room k o h e =

@@ -24,7 +24,10 @@ part-same-start : tie.Need-part-same-start
 part-same-start c = search needs
 
 part-same-end : tie.Need-part-same-end
-part-same-end c = let s = c .before .before .before .before .before .before .before .before in let k = c .before .before .before .cardrun-lines in omega (arith, k .kept .1 .0, fitted (s .args .records .now) (length (s .args .lines .now)) (k .ensures .count))
+part-same-end c =
+    let s = c .before .before .before .before .before .before .before .before in
+    let k = c .before .before .before .cardrun-lines in
+    omega (arith, k .kept .1 .0, fitted (s .args .records .now) (length (s .args .lines .now)) (k .ensures .count))
 
 same-requires : tie.Need-same-requires
 same-requires c κs = search needs

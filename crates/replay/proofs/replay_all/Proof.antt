@@ -29,7 +29,9 @@ counted x h k l m =
     ]
 
 abbrev Inv-loop : tie.InvT-loop
-Inv-loop records₀ wanted₀ lines₀ more₀ frames₀ differ₀ records wanted lines more frames differ = (differ ≤ frames) × (frames ≤ 1000000) × (length records ≡ length records₀) × (length wanted ≡ length wanted₀) × (length lines ≡ length lines₀)
+Inv-loop records₀ wanted₀ lines₀ more₀ frames₀ differ₀ records wanted lines more frames differ =
+    (differ ≤ frames) × (frames ≤ 1000000) × (length records ≡ length records₀) × (length wanted ≡ length wanted₀)
+    × (length lines ≡ length lines₀)
 
 abbrev μ-loop : tie.MeasureT-loop
 μ-loop records₀ wanted₀ lines₀ more₀ frames₀ differ₀ records wanted lines more frames differ = if more then 1000001 - frames else 0
@@ -44,19 +46,49 @@ read-requires : tie.Need-read-requires Inv-loop μ-loop
 read-requires c κs = tt
 
 add-frames : tie.Need-add-frames Inv-loop μ-loop
-add-frames c = omega (arith, c .before .before .before .before .before .before .before .before .before .before .before .before .loop .inv .1, c .read .ensures .2)
+add-frames c =
+    omega (
+      arith,
+      c .before .before .before .before .before .before .before .before .before .before .before .before .loop .inv .1,
+      c .read .ensures .2,
+    )
 
 differs-requires : tie.Need-differs-requires Inv-loop μ-loop
 differs-requires c κs = tt
 
 add-differ : tie.Need-add-differ Inv-loop μ-loop
-add-differ c = omega (arith, c .before .before .before .before .before .before .before .before .before .before .before .before .before .loop .inv .0, c .before .before .before .before .before .before .before .before .before .before .before .before .before .loop .inv .1, c .differs .ensures .1)
+add-differ c =
+    omega (
+      arith,
+      c .before .before .before .before .before .before .before .before .before .before .before .before .before .loop .inv .0,
+      c .before .before .before .before .before .before .before .before .before .before .before .before .before .loop .inv .1,
+      c .differs .ensures .1,
+    )
 
 loop-less : tie.Need-loop-less Inv-loop μ-loop
-loop-less c = let d = c .before .before .before .before .before .before .before .before .before .before .before .before .before .loop in let t = c .before .before .before .before .before .before .before .before .before .before .before .before .loop-test .taken in falls (c .before .before .before .before .before .before .before .before .next .result) (d .frames) (c .before .read .result) (d .more) (and-left (d .more) (ltb (d .frames) 1000000) t) (ltb-true (d .frames) 1000000 (and-right (d .more) (ltb (d .frames) 1000000) t)) (c .before .read .ensures .1)
+loop-less c =
+    let d =
+    c .before .before .before .before .before .before .before .before .before .before .before .before .before .loop in
+    let t =
+    c .before .before .before .before .before .before .before .before .before .before .before .before .loop-test .taken in
+    falls (c .before .before .before .before .before .before .before .before .next .result) (d .frames)
+    (c .before .read .result) (d .more) (and-left (d .more) (ltb (d .frames) 1000000) t)
+    (ltb-true (d .frames) 1000000 (and-right (d .more) (ltb (d .frames) 1000000) t)) (c .before .read .ensures .1)
 
 loop-again : tie.Need-loop-again Inv-loop μ-loop
-loop-again c = let d = c .before .before .before .before .before .before .before .before .before .before .before .before .before .loop in let t = c .before .before .before .before .before .before .before .before .before .before .before .before .loop-test .taken in (counted (c .before .before .before .before .before .before .before .before .next .result) (d .inv .0) (c .before .read .ensures .1) (c .differs .ensures .0) (c .differs .ensures .1), omega (arith, c .before .read .ensures .2, ltb-true (d .frames) 1000000 (and-right (d .more) (ltb (d .frames) 1000000) t)), c .before .before .before .before .before .before .before .before .next .kept .0 ∙ d .inv .2, c .before .before .before .before .before .before .before .before .next .kept .1 .0 ∙ d .inv .3, c .before .before .before .before .before .before .before .before .next .kept .1 .1 .0 ∙ d .inv .4)
+loop-again c =
+    let d =
+    c .before .before .before .before .before .before .before .before .before .before .before .before .before .loop in
+    let t =
+    c .before .before .before .before .before .before .before .before .before .before .before .before .loop-test .taken in (
+      counted (c .before .before .before .before .before .before .before .before .next .result) (d .inv .0)
+          (c .before .read .ensures .1) (c .differs .ensures .0) (c .differs .ensures .1),
+      omega
+          (arith, c .before .read .ensures .2, ltb-true (d .frames) 1000000 (and-right (d .more) (ltb (d .frames) 1000000) t)),
+      c .before .before .before .before .before .before .before .before .next .kept .0 ∙ d .inv .2,
+      c .before .before .before .before .before .before .before .before .next .kept .1 .0 ∙ d .inv .3,
+      c .before .before .before .before .before .before .before .before .next .kept .1 .1 .0 ∙ d .inv .4,
+    )
 
 same-length : tie.Need-same-length Inv-loop μ-loop
 same-length c = c .before .loop .inv .2

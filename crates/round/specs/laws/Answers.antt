@@ -15,11 +15,11 @@ use Rattle.graph.specs.Basic.{if_then_else_, all, fold, only}
 use Rattle.graph.specs.State.{State}
 use Rattle.graph.specs.laws.Members.{clash}
 use Rattle.active_list.specs.laws.Renewal.{only-snoc}
-use Rattle.length.specs.declared.Answer.{Answer}
-use Rattle.length.specs.Scan.{lesser}
+use Rattle.update_length.specs.declared.Answer.{Answer}
+use Rattle.update_length.specs.Scan.{lesser}
 use Rattle.calls.specs.declared.group.GroupMaxUpdateLength.{GroupMaxUpdateLength as Group}
 use Rattle.calls.specs.Round.{refusalOf, answersOf, firstRefusal, isFree, isConflict, joinFree, conflictsOf}
-use Rattle.round.specs.Asked.{answerOf}
+use Rattle.round.specs.inner.Asked.{answerOf}
 
 next : (c : State) (l : List ℕ) (i : ℕ) → i < length l → answersOf c (drop i l) ≡ answerOf c (getD l i 0) ∷ answersOf c (drop (i + 1) l)
 unfolding answersOf answerOf
@@ -82,7 +82,10 @@ answers-snoc c (x ∷ xs) n =
     let ih : answersOf c (xs ++ (n ∷ [])) ≡ answersOf c xs ++ (answerOf c n ∷ []) = unfold answersOf answerOf in (answers-snoc c xs n) in
     ap (λ (r : List Answer). answerOf c x ∷ r) ih
 
-pub conflicts-more : (c : State) (l : List ℕ) (i : ℕ) → i < length l → conflictsOf (answersOf c (take (i + 1) l)) ≡ conflictsOf (answersOf c (take i l)) ++ (if isConflict (answerOf c (getD l i 0)) then answerOf c (getD l i 0) ∷ [] else [])
+pub conflicts-more : (c : State) (l : List ℕ) (i : ℕ) → i < length l
+    → conflictsOf (answersOf c (take (i + 1) l))
+    ≡ conflictsOf (answersOf c (take i l))
+    ++ (if isConflict (answerOf c (getD l i 0)) then answerOf c (getD l i 0) ∷ [] else [])
 unfolding conflictsOf
 conflicts-more c l i h =
     let a : Answer = answerOf c (getD l i 0) in

@@ -16,23 +16,25 @@ use Rattle.graph.specs.Active.{activeIn, renewed}
 use Rattle.graph.specs.Sound.{activeSound, sound, soundRemoved, stateSound}
 use Rattle.graph.specs.laws.State.{and-left}
 use Rattle.graph.specs.Layout.{stateOf}
-use Rattle.graph.specs.Form.{Becomes, sidesOk}
-use Rattle.graph.specs.Readable.{Readable}
+use Rattle.graph.specs.inner.Form.{Becomes, sidesOk}
+use Rattle.graph.specs.inner.Readable.{Readable}
 use Rattle.graph.specs.laws.Form.{laid-shape, formed-vertices}
 use Rattle.graph.specs.laws.Active.{active-kept, active-below, renewed-active, in-active}
 use Rattle.graph.specs.laws.Members.{by-test, member-cons, member-nil}
-use Rattle.graph.specs.laws.Shape.{Shape, sound-active, sound-node, node-facts}
+use Rattle.graph.specs.laws.Shape.{sound-active, sound-node, node-facts}
+use Rattle.graph.specs.Shape.{Shape}
 use Rattle.pass.specs.laws.Prepare.{prepare-passed}
-use Rattle.length.specs.Answer.{Reply, says}
+use Rattle.update_length.specs.Answer.{Reply, says}
 use Rattle.calls.specs.Refuse.{nodeRefusal, storeShort}
 use Rattle.calls.specs.Calls.{prepareDualNodeGrowth}
-use Rattle.calls.specs.Reply.{Usable}
+use Rattle.calls.specs.inner.Reply.{Usable}
 use Rattle.calls.specs.Round.{Tried, refusalOf, begun, tryAll, noneOf, soundAgain, inTurn, preparing, preparedAll}
 use Rattle.calls.specs.laws.Accepted.{unless-cases, node-accepted}
-use Rattle.calls.specs.laws.Phase.{Phase, sound-phase, renewed-phase, shrinking-prepares, StillSound, growing-prepares}
+use Rattle.calls.specs.laws.Phase.{sound-phase, renewed-phase, shrinking-prepares, StillSound, growing-prepares}
+use Rattle.calls.specs.inner.Phase.{Phase}
 use Rattle.calls.specs.laws.Trial.{Turned, Stepped, turn-accepted, try-start, try-step, try-keeps, unless-accepted}
 use Rattle.calls.specs.laws.Listed.{prepared-active}
-use Rattle.round.specs.Asked.{Askable}
+use Rattle.round.specs.inner.Asked.{Askable}
 use Rattle.round.specs.laws.InTurn.{none-empty, renewed-ok}
 
 -- ---- a node that was prepared is outermost

@@ -15,8 +15,8 @@ use Rattle.graph.specs.Active.{renewed}
 use Rattle.graph.specs.Layout.{stateOf}
 use Rattle.graph.specs.Form.{Laid}
 use Rattle.pass.specs.laws.Prepare.{prepare-passed}
-use Rattle.length.specs.declared.Answer.{Answer}
-use Rattle.length.specs.Answer.{Reply, says}
+use Rattle.update_length.specs.declared.Answer.{Answer}
+use Rattle.update_length.specs.Answer.{Reply, says}
 use Rattle.calls.specs.declared.group.GroupMaxUpdateLength.{GroupMaxUpdateLength as Group}
 use Rattle.calls.specs.declared.group.GroupMaxUpdateLength.the-variants.{Unlimited as groupUnlimited, Conflicts as groupConflicts, Refused as groupRefused}
 use Rattle.calls.specs.Refuse.{nodeRefusal, storeShort}
@@ -25,20 +25,25 @@ use Rattle.calls.specs.Round.{isFree, joinFree, answersOf, firstRefusal, confli
 use Rattle.calls.specs.laws.Accepted.{unless-cases}
 use Rattle.calls.specs.laws.Listed.{both-lists, answers-length}
 use Rattle.calls.specs.laws.Trial.{turn-keeps}
-use Rattle.round.specs.Turn.{turned, TriedTo}
-use Rattle.round.specs.Asked.{listedFrom, Listing}
-use Rattle.round.specs.Group.{ListedGroup, AskedGroup, GroupTried}
+use Rattle.round.specs.inner.Step.{wholeTrial, TriedTo}
+use Rattle.round.specs.Asked.{listedFrom}
+use Rattle.round.specs.inner.Asked.{Listing}
+use Rattle.round.specs.inner.Group.{ListedGroup, AskedGroup, GroupTried}
 use Rattle.round.specs.laws.InTurn.{turned-none}
 use Rattle.round.specs.laws.Listing.{listed-append, listed-none}
 
 -- ---- what is listed
 
 -- a list of N entries has room for all
-pub list-room : (b : List ℤ) → Laid b → length (conflictsOf (answersOf (stateOf b) (stateOf b .active))) + length (stopsOf (answersOf (stateOf b) (stateOf b .active))) ≤ stateOf b .nodeLimit
+pub list-room : (b : List ℤ) → Laid b
+    → length (conflictsOf (answersOf (stateOf b) (stateOf b .active))) + length
+    (stopsOf (answersOf (stateOf b) (stateOf b .active)))
+    ≤ stateOf b .nodeLimit
 unfolding Laid
 list-room b q = omega (arith, both-lists (answersOf (stateOf b) (stateOf b .active)), answers-length (stateOf b) (stateOf b .active), q .counted)
 
-pub listed-group : {list list₁ list₂ : List ℕ} {k j : ℕ} (xs : List Answer) → Listing 0 (conflictsOf xs) list list₁ k → 5 * length (conflictsOf xs) ≤ length list → Listing k (stopsOf xs) list₁ list₂ j
+pub listed-group : {list list₁ list₂ : List ℕ} {k j : ℕ} (xs : List Answer) → Listing 0 (conflictsOf xs) list list₁ k
+    → 5 * length (conflictsOf xs) ≤ length list → Listing k (stopsOf xs) list₁ list₂ j
     → ListedGroup xs list list₂ (groupConflicts k (j - k))
 listed-group {list} {list₁} {list₂} {k} {j} xs p room q =
     let a : k ≡ length (conflictsOf xs) = omega (arith, p .count) in
@@ -63,12 +68,17 @@ module _ (xs : List Answer) (list : List ℕ) where
 
 limit-kept : (c : State) → preparedAll c .state .nodeLimit ≡ c .nodeLimit
 unfolding preparedAll
-limit-kept c = turn-keeps (λ (d : State). d .nodeLimit ≡ c .nodeLimit) (preparing down) (preparing up) (keeps down) (keeps up) c (unfold renewed withActive in refl)
+limit-kept c =
+    turn-keeps (λ (d : State). d .nodeLimit ≡ c .nodeLimit) (preparing down) (preparing up) (keeps down) (keeps up) c
+    (unfold renewed withActive in refl)
   where
     keeps : (d : ℕ) (e : State) (n : ℕ) → e .nodeLimit ≡ c .nodeLimit → preparing d e n .state .nodeLimit ≡ c .nodeLimit
-    keeps d e n h = unfold preparing prepareDualNodeGrowth says in (unless-cases (λ (r : Reply). r .state .nodeLimit ≡ c .nodeLimit) (nodeRefusal e n (ltb up d) (storeShort e (n ∷ []) 1)) e _ (λ k. h) (λ k. prepare-passed e n d .nodeLimit ∙ h))
+    keeps d e n h =
+        unfold preparing prepareDualNodeGrowth says in
+        (unless-cases (λ (r : Reply). r .state .nodeLimit ≡ c .nodeLimit)
+        (nodeRefusal e n (ltb up d) (storeShort e (n ∷ []) 1)) e _ (λ k. h) (λ k. prepare-passed e n d .nodeLimit ∙ h))
 
-module _ (b b' : List ℤ) (r : ℕ) (p : TriedTo b b' r (turned 0 (stateOf b))) where
+module _ (b b' : List ℤ) (r : ℕ) (p : TriedTo b b' r (wholeTrial 0 (stateOf b))) where
   pub prepared-to : TriedTo b b' r (preparedAll (stateOf b))
   prepared-to = rw (← turned-none (stateOf b)) p
 

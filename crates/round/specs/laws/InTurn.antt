@@ -14,32 +14,33 @@ use Rattle.graph.specs.Active.{activeIn, renewed}
 use Rattle.graph.specs.Sound.{sound, soundRemoved, stateSound}
 use Rattle.graph.specs.laws.State.{and-left}
 use Rattle.graph.specs.Layout.{stateOf, blockSound}
-use Rattle.graph.specs.Form.{Formed, Becomes}
+use Rattle.graph.specs.Form.{Formed}
+use Rattle.graph.specs.inner.Form.{Becomes}
 use Rattle.graph.specs.laws.Form.{laid-shape, formed-vertices}
 use Rattle.graph.specs.laws.Active.{active-kept, renewed-sound, with-active-sound}
 use Rattle.graph.specs.laws.Members.{by-test}
 use Rattle.graph.specs.laws.Row.{becomes-none, becomes-then}
 use Rattle.graph.specs.laws.Shape.{sound-active}
-use Rattle.sound.specs.laws.Block.{block-state-sound}
-use Rattle.sound.specs.laws.Whole.{formed-sized, formed-sound}
+use Rattle.memory_tests.specs.laws.Block.{block-state-sound}
+use Rattle.memory_tests.specs.laws.Whole.{formed-sized, formed-sound}
 use Rattle.pass.specs.Scratch.{zeroScratch}
 use Rattle.calls.specs.Calls.{toward}
-use Rattle.calls.specs.Reply.{Usable}
+use Rattle.calls.specs.inner.Reply.{Usable}
 use Rattle.calls.specs.Round.{Tried, begun, tryAll, noneOf, soundAgain, inTurn, preparedAll, movedAll}
 use Rattle.calls.specs.laws.Phase.{renewed-phase}
 use Rattle.calls.specs.laws.Trial.{try-keeps}
-use Rattle.round.specs.Turn.{turn, grownFrom, turned, TriedTo, Going, Shrunk}
-use Rattle.round.specs.laws.Turn.{SameActive, turn-same}
+use Rattle.round.specs.inner.Step.{nodeCall, grownFrom, wholeTrial, TriedTo, CallsPossible, Shrunk}
+use Rattle.round.specs.laws.Step.{SameActive, turn-same}
 use Rattle.round.specs.laws.Trying.{try-refused}
 
 -- ---- the trial by its length
 
-pub turned-none : (c : State) → turned 0 c ≡ preparedAll c
-unfolding turned turn preparedAll
+pub turned-none : (c : State) → wholeTrial 0 c ≡ preparedAll c
+unfolding wholeTrial nodeCall preparedAll
 turned-none c = refl
 
-pub turned-some : (l : ℕ) (c : State) → turned (suc l) c ≡ movedAll (suc l) c
-unfolding turned turn movedAll
+pub turned-some : (l : ℕ) (c : State) → wholeTrial (suc l) c ≡ movedAll (suc l) c
+unfolding wholeTrial nodeCall movedAll
 turned-some l c = refl
 
 -- ---- the Grow nodes
@@ -61,9 +62,9 @@ grown-none l c h = rw (none-empty (activeIn c growing) h) (both (noneOf (activeI
     both false = refl
 
 module _ (l : ℕ) (c : State) (some : noneOf (activeIn c growing) ≡ false) where
-  pub grown-on : noneOf (activeIn c shrinking) || stateSound c ≡ true → grownFrom l c ≡ tryAll (turn l up) (begun c) (activeIn c growing)
+  pub grown-on : noneOf (activeIn c shrinking) || stateSound c ≡ true → grownFrom l c ≡ tryAll (nodeCall l up) (begun c) (activeIn c growing)
   unfolding grownFrom soundAgain
-  grown-on h = ap (λ (u : Tried). tryAll (turn l up) u (activeIn c growing)) (rw some (go (noneOf (activeIn c shrinking)) (stateSound c) h))
+  grown-on h = ap (λ (u : Tried). tryAll (nodeCall l up) u (activeIn c growing)) (rw some (go (noneOf (activeIn c shrinking)) (stateSound c) h))
     where
       go : (s t : Bool) → s || t ≡ true → (if s || false || false || t then begun c else record { refusal = 2; state = c }) ≡ begun c
       go true t h = refl
@@ -73,8 +74,8 @@ module _ (l : ℕ) (c : State) (some : noneOf (activeIn c growing) ≡ false) wh
   pub grown-stopped : noneOf (activeIn c shrinking) || stateSound c ≡ false → grownFrom l c ≡ record { refusal = 2; state = c }
   unfolding grownFrom soundAgain
   grown-stopped h =
-      ap (λ (u : Tried). tryAll (turn l up) u (activeIn c growing)) (rw some (go (noneOf (activeIn c shrinking)) (stateSound c) h))
-      ∙ try-refused (turn l up) (record { refusal = 2; state = c }) (activeIn c growing) (λ e. omega (arith, e))
+      ap (λ (u : Tried). tryAll (nodeCall l up) u (activeIn c growing)) (rw some (go (noneOf (activeIn c shrinking)) (stateSound c) h))
+      ∙ try-refused (nodeCall l up) (record { refusal = 2; state = c }) (activeIn c growing) (λ e. omega (arith, e))
     where
       go : (s t : Bool) → s || t ≡ false → (if s || false || false || t then begun c else record { refusal = 2; state = c }) ≡ record { refusal = 2; state = c }
       go true t h = ap (λ (x : Bool). if x then begun c else record { refusal = 2; state = c }) h
@@ -87,14 +88,14 @@ same-in : (c d : State) (x : ℕ) → SameActive c d → activeIn d x ≡ active
 unfolding activeIn
 same-in c d x s = rw (s .active, s .states) refl
 
-try-same : (l d : ℕ) (c : State) (ns : List ℕ) → SameActive c (tryAll (turn l d) (begun c) ns .state)
+try-same : (l d : ℕ) (c : State) (ns : List ℕ) → SameActive c (tryAll (nodeCall l d) (begun c) ns .state)
 try-same l d c ns =
-    try-keeps (SameActive c) (turn l d) (λ e n s. let k = turn-same l d e n in record { active = k .active ∙ s .active; states = k .states ∙ s .states })
+    try-keeps (SameActive c) (nodeCall l d) (λ e n s. let k = turn-same l d e n in record { active = k .active ∙ s .active; states = k .states ∙ s .states })
     (begun c) ns (record { active = refl; states = refl })
 
 -- the Shrink nodes' part from r
 abbrev shrunkFrom : ℕ → State → Tried
-shrunkFrom l r = tryAll (turn l (toward shrinking)) (begun r) (activeIn r shrinking)
+shrunkFrom l r = tryAll (nodeCall l (toward shrinking)) (begun r) (activeIn r shrinking)
 
 again-refused : (ms ns : List ℕ) (u : Tried) → u .refusal ≢ 0 → soundAgain ms ns u ≡ u
 unfolding soundAgain
@@ -106,22 +107,22 @@ again-refused ms ns u h = rw (ne-eqb (u .refusal) 0 h) (go (noneOf ms) (noneOf n
     go false true = refl
     go false false = refl
 
-turned-stopped : (l : ℕ) (c : State) → shrunkFrom l (renewed c) .refusal ≢ 0 → turned l c ≡ shrunkFrom l (renewed c)
-unfolding turned inTurn toward
+turned-stopped : (l : ℕ) (c : State) → shrunkFrom l (renewed c) .refusal ≢ 0 → wholeTrial l c ≡ shrunkFrom l (renewed c)
+unfolding wholeTrial inTurn toward
 turned-stopped l c h =
     let u : Tried = shrunkFrom l (renewed c) in
     let ns : List ℕ = activeIn (renewed c) growing in
-    ap (λ (x : Tried). tryAll (turn l up) x ns) (again-refused (activeIn (renewed c) shrinking) ns u h) ∙ try-refused (turn l up) u ns h
+    ap (λ (x : Tried). tryAll (nodeCall l up) x ns) (again-refused (activeIn (renewed c) shrinking) ns u h) ∙ try-refused (nodeCall l up) u ns h
 
 tried-eq : (u : Tried) → u .refusal ≡ 0 → u ≡ begun (u .state)
 tried-eq u e = ap (λ (k : ℕ). record { refusal = k; state = u .state }) e
 
-turned-on : (l : ℕ) (c d : State) → shrunkFrom l (renewed c) ≡ begun d → turned l c ≡ grownFrom l d
-unfolding turned inTurn grownFrom toward
+turned-on : (l : ℕ) (c d : State) → shrunkFrom l (renewed c) ≡ begun d → wholeTrial l c ≡ grownFrom l d
+unfolding wholeTrial inTurn grownFrom toward
 turned-on l c d e =
     let s : SameActive (renewed c) d = rw e at (try-same l (toward shrinking) (renewed c) (activeIn (renewed c) shrinking)) in
     rw (same-in (renewed c) d shrinking s, same-in (renewed c) d growing s)
-    (ap (λ (x : Tried). tryAll (turn l up) (soundAgain (activeIn (renewed c) shrinking) (activeIn (renewed c) growing) x) (activeIn (renewed c) growing)) e)
+    (ap (λ (x : Tried). tryAll (nodeCall l up) (soundAgain (activeIn (renewed c) shrinking) (activeIn (renewed c) growing) x) (activeIn (renewed c) growing)) e)
 
 -- ---- in a block
 
@@ -136,7 +137,7 @@ unfolding renewed
 renewed-ok c h = with-active-sound c _ h (unfold renewed in (renewed-sound c (sound-active c h)))
 
 module _ (b b₁ t : List ℤ) (u : Usable b t) (p : Becomes b b₁ (renewed (stateOf b))) where
-  pub renewed-going : Going shrinking b₁ t
+  pub renewed-going : CallsPossible shrinking b₁ t
   renewed-going = record {
     formed = p .formed;
     scratch = u .scratch ∙ ap (λ m. zeroScratch (3 * m)) (sym (p .sides));
@@ -150,7 +151,7 @@ module _ (b b₁ t : List ℤ) (u : Usable b t) (p : Becomes b b₁ (renewed (st
     same-from : shrunkFrom l (stateOf b₁) ≡ shrunkFrom l (renewed (stateOf b))
     same-from = rw (p .state) refl
 
-    pub turn-stops : r ≢ 0 → TriedTo b b₂ r (turned l (stateOf b))
+    pub turn-stops : r ≢ 0 → TriedTo b b₂ r (wholeTrial l (stateOf b))
     turn-stops h =
         let k : shrunkFrom l (renewed (stateOf b)) .refusal ≢ 0 = λ z. h (q .refusal ∙ ap (λ (x : Tried). x .refusal) same-from ∙ z) in
         rw (turned-stopped l (stateOf b) k, ← same-from) (record { refusal = q .refusal; block = becomes-then p (q .block) })
@@ -173,15 +174,32 @@ module _ (b b₁ t : List ℤ) (u : Usable b t) (p : Becomes b b₁ (renewed (st
       shrunk-part = record {
         formed = q .block .formed;
         scratch = e ∙ renewed-going .scratch ∙ ap (λ m. zeroScratch (3 * m)) (sym (q .block .sides));
-        active = active-kept (renewed (stateOf b)) (stateOf b₂) (same-then .active) (omega (arith, counts)) (renewed-sound (stateOf b) (sound-active (stateOf b) (u .sounds)));
+        active = active-kept (renewed (stateOf b)) (stateOf b₂) (same-then .active) (omega (arith, counts))
+            (renewed-sound (stateOf b) (sound-active (stateOf b) (u .sounds)));
         still = λ h. rw (← nothing h) (renewed-ok (stateOf b) (u .sounds));
       }
         where
           counts : nodeCount (stateOf b₂) ≡ nodeCount (renewed (stateOf b))
           counts = ap (λ (k : List ℕ). length k) (same-then .states)
 
-      pub turn-ends : (b₃ : List ℤ) (s : ℕ) → TriedTo b₂ b₃ s (grownFrom l (stateOf b₂)) → TriedTo b b₃ s (turned l (stateOf b))
-      turn-ends b₃ s w = rw (turned-on l (stateOf b) (stateOf b₂) shrunk-is) (record { refusal = w .refusal; block = becomes-then (becomes-then p (record { formed = q .block .formed; state = refl; vertices = q .block .vertices; edges = q .block .edges; sides = q .block .sides; nodes = q .block .nodes; len = q .block .len })) (w .block) })
+      pub turn-ends : (b₃ : List ℤ) (s : ℕ) → TriedTo b₂ b₃ s (grownFrom l (stateOf b₂)) → TriedTo b b₃ s (wholeTrial l (stateOf b))
+      turn-ends b₃ s w =
+          rw (turned-on l (stateOf b) (stateOf b₂) shrunk-is)
+          (record {
+            refusal = w .refusal;
+            block = becomes-then
+                (becomes-then p
+                (record {
+                  formed = q .block .formed;
+                  state = refl;
+                  vertices = q .block .vertices;
+                  edges = q .block .edges;
+                  sides = q .block .sides;
+                  nodes = q .block .nodes;
+                  len = q .block .len;
+                }))
+                (w .block);
+          })
 
 -- ---- the Grow nodes' part in a block
 
@@ -189,10 +207,11 @@ module _ (b t : List ℤ) (l : ℕ) (s : Shrunk b t) where
   pub grow-none : noneOf (activeIn (stateOf b) growing) ≡ true → TriedTo b b 0 (grownFrom l (stateOf b))
   grow-none h = rw (grown-none l (stateOf b) h) (record { refusal = refl; block = becomes-none b (stateOf b) (s .formed) refl })
 
-  pub grow-stopped : noneOf (activeIn (stateOf b) growing) ≡ false → noneOf (activeIn (stateOf b) shrinking) || stateSound (stateOf b) ≡ false → TriedTo b b 2 (grownFrom l (stateOf b))
+  pub grow-stopped : noneOf (activeIn (stateOf b) growing) ≡ false
+      → noneOf (activeIn (stateOf b) shrinking) || stateSound (stateOf b) ≡ false → TriedTo b b 2 (grownFrom l (stateOf b))
   grow-stopped h k = rw (grown-stopped l (stateOf b) h k) (record { refusal = refl; block = becomes-none b (stateOf b) (s .formed) refl })
 
-  pub grow-going : noneOf (activeIn (stateOf b) shrinking) || stateSound (stateOf b) ≡ true → Going growing b t
+  pub grow-going : noneOf (activeIn (stateOf b) shrinking) || stateSound (stateOf b) ≡ true → CallsPossible growing b t
   unfolding stateSound
   grow-going h = record {
     formed = s .formed;
@@ -204,6 +223,8 @@ module _ (b t : List ℤ) (l : ℕ) (s : Shrunk b t) where
   }
 
   pub grow-ends : noneOf (activeIn (stateOf b) growing) ≡ false → noneOf (activeIn (stateOf b) shrinking) || stateSound (stateOf b) ≡ true
-      → (b' : List ℤ) (r : ℕ) → TriedTo b b' r (tryAll (turn l (toward growing)) (begun (stateOf b)) (activeIn (stateOf b) growing)) → TriedTo b b' r (grownFrom l (stateOf b))
+      → (b' : List ℤ) (r : ℕ)
+      → TriedTo b b' r (tryAll (nodeCall l (toward growing)) (begun (stateOf b)) (activeIn (stateOf b) growing))
+      → TriedTo b b' r (grownFrom l (stateOf b))
   unfolding toward
   grow-ends h k b' r p = rw (grown-on l (stateOf b) h k) p

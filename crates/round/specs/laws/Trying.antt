@@ -15,16 +15,16 @@ use Rattle.graph.specs.State.{State, nodeCount, growStateOf}
 use Rattle.graph.specs.Active.{activeIn}
 use Rattle.graph.specs.Sound.{activeSound}
 use Rattle.graph.specs.Layout.{stateOf}
-use Rattle.graph.specs.Form.{Becomes}
+use Rattle.graph.specs.inner.Form.{Becomes}
 use Rattle.graph.specs.laws.Active.{active-inside}
 use Rattle.graph.specs.laws.Members.{by-test}
 use Rattle.graph.specs.laws.Row.{becomes-none, becomes-then}
 use Rattle.graph.specs.laws.Scan.{list-at}
-use Rattle.length.specs.Answer.{Reply}
+use Rattle.update_length.specs.Answer.{Reply}
 use Rattle.calls.specs.Calls.{toward}
 use Rattle.calls.specs.Round.{Tried, begun, triedBy, tryStep, tryAll, noneOf}
-use Rattle.round.specs.Turn.{turn, turnAt, TriedTo, Going}
-use Rattle.round.specs.laws.Turn.{SameActive, at-same, going-on}
+use Rattle.round.specs.inner.Step.{nodeCall, nodeCallAt, TriedTo, CallsPossible}
+use Rattle.round.specs.laws.Step.{SameActive, at-same, going-on}
 
 -- a trial that was refused stays as it is
 pub try-refused : (f : State → ℕ → Reply) (u : Tried) (ns : List ℕ) → u .refusal ≢ 0 → tryAll f u ns ≡ u
@@ -53,15 +53,24 @@ inState c x n = eqb (growStateOf c n) x
 
 -- after i entries of the list of b₀, none of them refused
 pub record Trying (l x : ℕ) (b₀ b t₀ t : List ℤ) (i : ℕ) : Type 0 where
-  pub whole : tryAll (turn l (toward x)) (begun (stateOf b)) (only (inState (stateOf b₀) x) (drop i (stateOf b₀ .active))) ≡ tryAll (turn l (toward x)) (begun (stateOf b₀)) (activeIn (stateOf b₀) x)
+  pub whole : tryAll (nodeCall l (toward x)) (begun (stateOf b))
+      (only (inState (stateOf b₀) x) (drop i (stateOf b₀ .active)))
+      ≡ tryAll (nodeCall l (toward x)) (begun (stateOf b₀)) (activeIn (stateOf b₀) x)
   pub block : Becomes b₀ b (stateOf b)
   pub same : SameActive (stateOf b₀) (stateOf b)
-  pub going : Going x b t
+  pub going : CallsPossible x b t
   pub scratch : t ≡ t₀
 
-pub trying-none : (l x : ℕ) (b t : List ℤ) → Going x b t → Trying l x b b t t 0
+pub trying-none : (l x : ℕ) (b t : List ℤ) → CallsPossible x b t → Trying l x b b t t 0
 unfolding activeIn
-trying-none l x b t g = record { whole = refl; block = becomes-none b (stateOf b) (g .formed) refl; same = record { active = refl; states = refl }; going = g; scratch = refl }
+trying-none l x b t g =
+    record {
+      whole = refl;
+      block = becomes-none b (stateOf b) (g .formed) refl;
+      same = record { active = refl; states = refl };
+      going = g;
+      scratch = refl;
+    }
 
 module _ (l x : ℕ) (b₀ b t₀ t : List ℤ) (i : ℕ) (q : Trying l x b₀ b t₀ t i) (h : i < length (stateOf b₀ .active)) where
   abbrev node : ℕ
@@ -70,68 +79,98 @@ module _ (l x : ℕ) (b₀ b t₀ t : List ℤ) (i : ℕ) (q : Trying l x b₀ b
   abbrev rest : List ℕ
   rest = only (inState (stateOf b₀) x) (drop (i + 1) (stateOf b₀ .active))
 
-  -- the turn of entry i, by the list and the grow states at the start
-  turn-is : turnAt l x (stateOf b) i ≡ (if inState (stateOf b₀) x node then triedBy (turn l (toward x) (stateOf b) node) else begun (stateOf b))
-  unfolding turnAt
+  -- the call of entry i, by the list and the grow states at the start
+  turn-is : nodeCallAt l x (stateOf b) i ≡ (if inState (stateOf b₀) x node then triedBy (nodeCall l (toward x) (stateOf b) node) else begun (stateOf b))
+  unfolding nodeCallAt
   turn-is = rw (q .same .active, q .same .states) refl
 
-  module _ (b' t' : List ℤ) (r : ℕ) (p : TriedTo b b' r (turnAt l x (stateOf b) i)) (e : t' ≡ t) where
+  module _ (b' t' : List ℤ) (r : ℕ) (p : TriedTo b b' r (nodeCallAt l x (stateOf b) i)) (e : t' ≡ t) where
     pub trying-more : r ≡ 0 → Trying l x b₀ b' t₀ t' (i + 1)
     trying-more z = record {
       whole = by-test (inState (stateOf b₀) x node) went passed ∙ q .whole;
-      block = becomes-then (q .block) (record { formed = p .block .formed; state = refl; vertices = p .block .vertices; edges = p .block .edges; sides = p .block .sides; nodes = p .block .nodes; len = p .block .len });
+      block = becomes-then (q .block)
+          (record {
+            formed = p .block .formed;
+            state = refl;
+            vertices = p .block .vertices;
+            edges = p .block .edges;
+            sides = p .block .sides;
+            nodes = p .block .nodes;
+            len = p .block .len;
+          });
       same = same-then;
       going = going-on x l i r b b' t t' (q .going) p e;
       scratch = e ∙ q .scratch;
     }
       where
         same-then : SameActive (stateOf b₀) (stateOf b')
-        same-then = let s = at-same l x (stateOf b) i in record { active = ap (λ (c : State). c .active) (p .block .state) ∙ s .active ∙ q .same .active; states = ap (λ (c : State). c .nodes .growState) (p .block .state) ∙ s .states ∙ q .same .states }
+        same-then =
+            let s = at-same l x (stateOf b) i in
+            record {
+              active = ap (λ (c : State). c .active) (p .block .state) ∙ s .active ∙ q .same .active;
+              states = ap (λ (c : State). c .nodes .growState) (p .block .state) ∙ s .states ∙ q .same .states;
+            }
 
-        left : turnAt l x (stateOf b) i ≡ begun (stateOf b')
-        left = rw (p .block .state) (tried-eq (turnAt l x (stateOf b) i) (sym (p .refusal) ∙ z))
+        left : nodeCallAt l x (stateOf b) i ≡ begun (stateOf b')
+        left = rw (p .block .state) (tried-eq (nodeCallAt l x (stateOf b) i) (sym (p .refusal) ∙ z))
           where
             tried-eq : (u : Tried) → u .refusal ≡ 0 → u ≡ begun (u .state)
             tried-eq u g = ap (λ (k : ℕ). record { refusal = k; state = u .state }) g
 
-        went : inState (stateOf b₀) x node ≡ true → tryAll (turn l (toward x)) (begun (stateOf b')) rest ≡ tryAll (turn l (toward x)) (begun (stateOf b)) (only (inState (stateOf b₀) x) (drop i (stateOf b₀ .active)))
-        went g = sym (try-next (turn l (toward x)) (inState (stateOf b₀) x) (stateOf b) (stateOf b₀ .active) i h g ∙ ap (λ (u : Tried). tryAll (turn l (toward x)) u rest) (sym (rw g at turn-is) ∙ left))
+        went : inState (stateOf b₀) x node ≡ true
+            → tryAll (nodeCall l (toward x)) (begun (stateOf b')) rest
+            ≡ tryAll (nodeCall l (toward x)) (begun (stateOf b))
+            (only (inState (stateOf b₀) x) (drop i (stateOf b₀ .active)))
+        went g =
+            sym
+            (try-next (nodeCall l (toward x)) (inState (stateOf b₀) x) (stateOf b) (stateOf b₀ .active) i h g
+            ∙ ap (λ (u : Tried). tryAll (nodeCall l (toward x)) u rest) (sym (rw g at turn-is) ∙ left))
 
-        passed : inState (stateOf b₀) x node ≡ false → tryAll (turn l (toward x)) (begun (stateOf b')) rest ≡ tryAll (turn l (toward x)) (begun (stateOf b)) (only (inState (stateOf b₀) x) (drop i (stateOf b₀ .active)))
-        passed g = sym (try-skip (turn l (toward x)) (inState (stateOf b₀) x) (stateOf b) (stateOf b₀ .active) i h g ∙ ap (λ (u : Tried). tryAll (turn l (toward x)) u rest) (sym (rw g at turn-is) ∙ left))
+        passed : inState (stateOf b₀) x node ≡ false
+            → tryAll (nodeCall l (toward x)) (begun (stateOf b')) rest
+            ≡ tryAll (nodeCall l (toward x)) (begun (stateOf b))
+            (only (inState (stateOf b₀) x) (drop i (stateOf b₀ .active)))
+        passed g =
+            sym
+            (try-skip (nodeCall l (toward x)) (inState (stateOf b₀) x) (stateOf b) (stateOf b₀ .active) i h g
+            ∙ ap (λ (u : Tried). tryAll (nodeCall l (toward x)) u rest) (sym (rw g at turn-is) ∙ left))
 
-    pub trying-stop : r ≢ 0 → TriedTo b₀ b' r (tryAll (turn l (toward x)) (begun (stateOf b₀)) (activeIn (stateOf b₀) x)) × (t' ≡ t₀)
+    pub trying-stop : r ≢ 0 → TriedTo b₀ b' r (tryAll (nodeCall l (toward x)) (begun (stateOf b₀)) (activeIn (stateOf b₀) x)) × (t' ≡ t₀)
     trying-stop z = (rw (← q .whole, ended) (record { refusal = p .refusal; block = becomes-then (q .block) (p .block) }), e ∙ q .scratch)
       where
-        some : turnAt l x (stateOf b) i .refusal ≢ 0
+        some : nodeCallAt l x (stateOf b) i .refusal ≢ 0
         some g = z (p .refusal ∙ g)
 
-        ended : tryAll (turn l (toward x)) (begun (stateOf b)) (only (inState (stateOf b₀) x) (drop i (stateOf b₀ .active))) ≡ turnAt l x (stateOf b) i
+        ended : tryAll (nodeCall l (toward x)) (begun (stateOf b)) (only (inState (stateOf b₀) x) (drop i (stateOf b₀ .active))) ≡ nodeCallAt l x (stateOf b) i
         ended =
             by-test (inState (stateOf b₀) x node)
-            (λ g. try-next (turn l (toward x)) (inState (stateOf b₀) x) (stateOf b) (stateOf b₀ .active) i h g ∙ ap (λ (u : Tried). tryAll (turn l (toward x)) u rest) (sym (rw g at turn-is)) ∙ try-refused (turn l (toward x)) (turnAt l x (stateOf b) i) rest some)
+            (λ g. try-next (nodeCall l (toward x)) (inState (stateOf b₀) x) (stateOf b) (stateOf b₀ .active) i h g
+            ∙ ap (λ (u : Tried). tryAll (nodeCall l (toward x)) u rest) (sym (rw g at turn-is))
+            ∙ try-refused (nodeCall l (toward x)) (nodeCallAt l x (stateOf b) i) rest some)
             (λ g. absurd (some (ap (λ (u : Tried). u .refusal) (rw g at turn-is))))
 
-pub trying-all : (l x : ℕ) (b₀ b t₀ t : List ℤ) (i : ℕ) → Trying l x b₀ b t₀ t i → length (stateOf b₀ .active) ≤ i → TriedTo b₀ b 0 (tryAll (turn l (toward x)) (begun (stateOf b₀)) (activeIn (stateOf b₀) x)) × (t ≡ t₀)
+pub trying-all : (l x : ℕ) (b₀ b t₀ t : List ℤ) (i : ℕ) → Trying l x b₀ b t₀ t i → length (stateOf b₀ .active) ≤ i
+    → TriedTo b₀ b 0 (tryAll (nodeCall l (toward x)) (begun (stateOf b₀)) (activeIn (stateOf b₀) x)) × (t ≡ t₀)
 trying-all l x b₀ b t₀ t i q h =
     (rw (← q .whole, none) (record { refusal = refl; block = q .block }), q .scratch)
   where
-    none : tryAll (turn l (toward x)) (begun (stateOf b)) (only (inState (stateOf b₀) x) (drop i (stateOf b₀ .active))) ≡ begun (stateOf b)
+    none : tryAll (nodeCall l (toward x)) (begun (stateOf b)) (only (inState (stateOf b₀) x) (drop i (stateOf b₀ .active))) ≡ begun (stateOf b)
     none = rw (drop-of-length-le (stateOf b₀ .active) h) (unfold only tryAll fold in refl)
 
 -- ---- whether none is in grow state x
 
-pub none-yes : (c : State) (x : ℕ) (i : ℕ) → noneOf (only (inState c x) (drop i (c .active))) ≡ noneOf (activeIn c x) → length (c .active) ≤ i → true ≡ noneOf (activeIn c x)
+pub none-yes : (c : State) (x : ℕ) (i : ℕ) → noneOf (only (inState c x) (drop i (c .active))) ≡ noneOf (activeIn c x)
+    → length (c .active) ≤ i → true ≡ noneOf (activeIn c x)
 unfolding only noneOf
 none-yes c x i e h = rw (drop-of-length-le (c .active) h) at e
 
 module _ (c : State) (x i : ℕ) (e : noneOf (only (inState c x) (drop i (c .active))) ≡ noneOf (activeIn c x)) (h : i < length (c .active)) where
   pub none-no : growStateOf c (getD (c .active) i 0) ≡ x → false ≡ noneOf (activeIn c x)
   unfolding noneOf
-  none-no g = rw (next (turn 0 0) (inState c x) c (c .active) i h, eq-eqb _ _ g) at e
+  none-no g = rw (next (nodeCall 0 0) (inState c x) c (c .active) i h, eq-eqb _ _ g) at e
 
   pub none-more : growStateOf c (getD (c .active) i 0) ≢ x → noneOf (only (inState c x) (drop (i + 1) (c .active))) ≡ noneOf (activeIn c x)
-  none-more g = rw (next (turn 0 0) (inState c x) c (c .active) i h, ne-eqb (growStateOf c (getD (c .active) i 0)) x g) at e
+  none-more g = rw (next (nodeCall 0 0) (inState c x) c (c .active) i h, ne-eqb (growStateOf c (getD (c .active) i 0)) x g) at e
 
 -- an entry of the list is a node
 pub entry-node : (c : State) (i : ℕ) → activeSound c ≡ true → i < length (c .active) → getD (c .active) i 0 < nodeCount c

@@ -17,8 +17,8 @@ use Rattle.graph.specs.Opening.{givenAt, edgeAt, edgesIn, edgesFrom, virtualsFr
 use Rattle.graph.specs.laws.State.{passed, and-left, and-right}
 use Rattle.graph.specs.laws.Members.{both, by-test}
 use Rattle.graph.specs.laws.Scan.{list-at, list-from}
-use Rattle.memory.specs.laws.Open.{given-none, edges-count, edges-get}
-use Rattle.memory.specs.laws.OpenedBlock.{opened-block}
+use Rattle.open_graph.specs.laws.Open.{given-none, edges-count, edges-get}
+use Rattle.open_graph.specs.laws.OpenedBlock.{opened-block}
 use Rattle.sheet.specs.declared.SheetOpened.the-variants.{Opened, Refused}
 use Rattle.sheet.specs.Sheet.{valuesFrom, largest, sheetOk, vanished, weighed}
 use Rattle.sheet.specs.Called.{endsOk, sheetRefusal, sheetAnswer, sheetEdges, SheetCalled}

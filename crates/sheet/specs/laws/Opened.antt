@@ -15,8 +15,8 @@ use Rattle.graph.specs.Open.{Edge, openRefusal}
 use Rattle.graph.specs.Opening.{edgeAt, edgesIn, edgesFrom, virtualsFrom, fits, OpenCalled}
 use Rattle.graph.specs.laws.Members.{by-test}
 use Rattle.graph.specs.laws.Scan.{and-false, list-at, list-from}
-use Rattle.memory.specs.laws.Open.{edges-count, edges-get}
-use Rattle.memory.specs.laws.OpenedBlock.{opened-block}
+use Rattle.open_graph.specs.laws.Open.{edges-count, edges-get}
+use Rattle.open_graph.specs.laws.OpenedBlock.{opened-block}
 use Rattle.sheet.specs.declared.SheetOpened.the-variants.{Opened, Refused}
 use Rattle.sheet.specs.Weight.{scaled}
 use Rattle.sheet.specs.Sheet.{valuesFrom, largest, vanishes, vanished, sheetWeight, weighed, withWeight}

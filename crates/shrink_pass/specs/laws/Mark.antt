@@ -11,7 +11,7 @@ use lib.Seq.{getD-at, getD-set-same, getD-set-other, ext-getD}
 use Rattle.graph.specs.Basic.{member, below, distinct}
 use Rattle.graph.specs.Open.{flagIn}
 use Rattle.graph.specs.laws.Members.{by-test, clash, member-head, member-tail, member-cons, member-nil, member-append-left, member-append-right, not-member-append, not-member-single, length-below, distinct-head}
-use Rattle.shrink_pass.specs.Shrinking.{marks}
+use Rattle.shrink_pass.specs.inner.Shrinking.{marks}
 
 -- ---- a flag
 
@@ -80,7 +80,10 @@ pub marks-take : (m : ℕ) (x : ℕ) (l : List ℕ) → x < m → distinct (x �
 marks-take m x l h d =
     marks-same m (x ∷ l) l x 0 h
     (sym (flag-no l x (distinct-head x l d)))
-    (λ i q. sym (flag-same l (x ∷ l) i (member-tail i x l) (λ e. by-test (member i (x ∷ l)) (λ r. member-cons i x l r (λ z. absurd (q z)) (λ z. clash (member i l) z e)) (λ r. r))))
+    (λ i q. sym
+    (flag-same l (x ∷ l) i (member-tail i x l)
+    (λ e. by-test (member i (x ∷ l)) (λ r. member-cons i x l r (λ z. absurd (q z)) (λ z. clash (member i l) z e))
+    (λ r. r))))
 
 pub marks-none : (m : ℕ) → marks m [] ≡ replicate m 0
 marks-none m =

@@ -12,68 +12,82 @@ use borrow.Author.Tests.{eq-eqb, ne-eqb}
 use Rattle.graph.specs.Basic.{fold}
 use Rattle.graph.specs.State.{State, Graph, opposite, sidesAt, weightOver, vertexHolderAt, freeSide, freeVertex}
 use Rattle.graph.specs.Layout.{stateOf}
-use Rattle.graph.specs.Form.{Becomes}
-use Rattle.graph.specs.laws.State.{Kept, kept-free-side, kept-free-vertex}
+use Rattle.graph.specs.inner.Form.{Becomes}
+use Rattle.graph.specs.laws.State.{kept-free-side, kept-free-vertex}
+use Rattle.graph.specs.inner.Kept.{SameButHolders}
 use Rattle.pass.specs.Work.{onState, keepOnce}
 use Rattle.pass.specs.Shrink.{closed, dropSide, dropStep, releaseSide, releaseStep}
-use Rattle.shrink_pass.specs.Shrinking.{Busy, Does, partSide, partVertex}
+use Rattle.shrink_pass.specs.inner.Shrinking.{ShrinkWorking, ShrinkWorked, partSide, partVertex}
 use Rattle.shrink_pass.specs.laws.Shrinking.{does-none, does-then, does-same, does-state, does-call}
-use Rattle.shrink_pass.specs.declared.keep.Progress.{Progress}
+use Rattle.shrink_pass.specs.declared.keep.ShrinkProgress.{ShrinkProgress}
 
 -- the sides at a vertex stay
-pub same-sides : {c d : State} (v : ℕ) → Kept c d → sidesAt d v ≡ sidesAt c v
+pub same-sides : {c d : State} (v : ℕ) → SameButHolders c d → sidesAt d v ≡ sidesAt c v
 same-sides v k = ap (λ (g : Graph). getD (g .at) v []) (k .graph)
 
-module _ {b t : List ℤ} {m : ℕ} {p : Progress} (q : Busy b t m p) where
+module _ {b t : List ℤ} {m : ℕ} {p : ShrinkProgress} (q : ShrinkWorking b t m p) where
   -- the side across is a side
   pub across-below : (s r : ℕ) → s < m → r / 2 ≡ s / 2 → r < m
   across-below s r h e = omega (arith, h, e, q .sides, q .formed .pairs)
 
-  pub does-free-side : {b' : List ℤ} (s : ℕ) → Becomes b b' (freeSide (stateOf b) s) → Does b t b' t m p p (λ w. onState w (freeSide (w .state) s))
+  pub does-free-side : {b' : List ℤ} (s : ℕ) → Becomes b b' (freeSide (stateOf b) s) → ShrinkWorked b t b' t m p p (λ w. onState w (freeSide (w .state) s))
   does-free-side s e = does-state q (λ c. freeSide c s) (λ c. kept-free-side c s) e
 
-  pub does-free-vertex : {b' : List ℤ} (v : ℕ) → Becomes b b' (freeVertex (stateOf b) v) → Does b t b' t m p p (λ w. onState w (freeVertex (w .state) v))
+  pub does-free-vertex : {b' : List ℤ} (v : ℕ) → Becomes b b' (freeVertex (stateOf b) v)
+      → ShrinkWorked b t b' t m p p (λ w. onState w (freeVertex (w .state) v))
   does-free-vertex v e = does-state q (λ c. freeVertex c v) (λ c. kept-free-vertex c v) e
 
-  pub does-drop-side : {b' t' : List ℤ} {p' : Progress} (s : ℕ) (z : Bool) → Becomes b b' (freeSide (stateOf b) s) → z ≡ eqb (weightOver (stateOf b) s) 0 → (Busy b' t m p → Does b' t b' t' m p p' (λ w. keepOnce w (opposite s))) → Does b t b' t' m p (record { kept = p' .kept; noted = p' .noted; another = p' .another || z }) (λ w. dropSide w s)
+  pub does-drop-side : {b' t' : List ℤ} {p' : ShrinkProgress} (s : ℕ) (z : Bool) → Becomes b b' (freeSide (stateOf b) s)
+      → z ≡ eqb (weightOver (stateOf b) s) 0
+      → (ShrinkWorking b' t m p → ShrinkWorked b' t b' t' m p p' (λ w. keepOnce w (opposite s)))
+      → ShrinkWorked b t b' t' m p (record { kept = p' .kept; noted = p' .noted; another = p' .another || z })
+      (λ w. dropSide w s)
   unfolding dropSide
   does-drop-side s z e k f =
       let freed = does-free-side s e in
-      let kept = does-then freed (f (freed .busy)) in
-      does-same (λ w. dropSide w s) (λ w h. rw (← h .state, k)) (does-then kept (does-call (kept .busy) z))
+      let kept = does-then freed (f (freed .working)) in
+      does-same (λ w. dropSide w s) (λ w h. rw (← h .state, k)) (does-then kept (does-call (kept .working) z))
 
   -- a vertex that goes, with its sides
-  pub does-part-vertex : {b' b'' t'' : List ℤ} {p' : Progress} (d : Bool) (n v : ℕ) → Becomes b b' (freeVertex (stateOf b) v) → (Busy b' t m p → Does b' t b'' t'' m p p' (λ w. fold (partSide d n) w (sidesAt (stateOf b') v))) → Does b t b'' t'' m p p' (λ w. partVertex d n w v)
+  pub does-part-vertex : {b' b'' t'' : List ℤ} {p' : ShrinkProgress} (d : Bool) (n v : ℕ)
+      → Becomes b b' (freeVertex (stateOf b) v)
+      → (ShrinkWorking b' t m p → ShrinkWorked b' t b'' t'' m p p' (λ w. fold (partSide d n) w (sidesAt (stateOf b') v)))
+      → ShrinkWorked b t b'' t'' m p p' (λ w. partVertex d n w v)
   unfolding partVertex
   does-part-vertex d n v e f =
       let freed = does-free-vertex v e in
-      does-same (λ w. partVertex d n w v) (λ w h. rw (same-sides v (freed .keeps), h .state)) (does-then freed (f (freed .busy)))
+      does-same (λ w. partVertex d n w v) (λ w h. rw (same-sides v (freed .keeps), h .state)) (does-then freed (f (freed .working)))
 
-module _ {b t b' t' : List ℤ} {m : ℕ} {p p' : Progress} (n : ℕ) where
+module _ {b t b' t' : List ℤ} {m : ℕ} {p p' : ShrinkProgress} (n : ℕ) where
   -- a side of it, by what the test says
-  pub does-part-drop : (d : Bool) (s : ℕ) → (d || closed n (stateOf b) s) ≡ true → Does b t b' t' m p p' (λ w. dropSide w s) → Does b t b' t' m p p' (λ w. partSide d n w s)
+  pub does-part-drop : (d : Bool) (s : ℕ) → (d || closed n (stateOf b) s) ≡ true
+      → ShrinkWorked b t b' t' m p p' (λ w. dropSide w s) → ShrinkWorked b t b' t' m p p' (λ w. partSide d n w s)
   unfolding partSide
   does-part-drop d s h q = does-same (λ w. partSide d n w s) (λ w e. rw (← e .state, h)) q
 
-  pub does-part-free : (d : Bool) (s : ℕ) → (d || closed n (stateOf b) s) ≡ false → Does b t b' t' m p p' (λ w. onState w (freeSide (w .state) s)) → Does b t b' t' m p p' (λ w. partSide d n w s)
+  pub does-part-free : (d : Bool) (s : ℕ) → (d || closed n (stateOf b) s) ≡ false
+      → ShrinkWorked b t b' t' m p p' (λ w. onState w (freeSide (w .state) s))
+      → ShrinkWorked b t b' t' m p p' (λ w. partSide d n w s)
   unfolding partSide
   does-part-free d s h q = does-same (λ w. partSide d n w s) (λ w e. rw (← e .state, h)) q
 
   -- a vertex that is taken off the overgrown stack, and one that is released
-  pub does-drop : (v : ℕ) → vertexHolderAt (stateOf b) v ≡ n + 1 → Does b t b' t' m p p' (λ w. partVertex true n w v) → Does b t b' t' m p p' (λ w. dropStep n w v)
+  pub does-drop : (v : ℕ) → vertexHolderAt (stateOf b) v ≡ n + 1
+      → ShrinkWorked b t b' t' m p p' (λ w. partVertex true n w v) → ShrinkWorked b t b' t' m p p' (λ w. dropStep n w v)
   unfolding dropStep partVertex partSide
   does-drop v h q = does-same (λ w. dropStep n w v) (λ w e. rw (← e .state, eq-eqb _ _ h)) q
 
-  pub does-release : (v : ℕ) → vertexHolderAt (stateOf b) v ≢ 0 → Does b t b' t' m p p' (λ w. partVertex false n w v) → Does b t b' t' m p p' (λ w. releaseStep n w v)
+  pub does-release : (v : ℕ) → vertexHolderAt (stateOf b) v ≢ 0
+      → ShrinkWorked b t b' t' m p p' (λ w. partVertex false n w v) → ShrinkWorked b t b' t' m p p' (λ w. releaseStep n w v)
   unfolding releaseStep partVertex partSide releaseSide dropSide
   does-release v h q = does-same (λ w. releaseStep n w v) (λ w e. rw (← e .state, ne-eqb _ _ h)) q
 
 -- neither
-module _ {b t : List ℤ} {m : ℕ} {p : Progress} (q : Busy b t m p) (n v : ℕ) where
-  pub does-no-drop : vertexHolderAt (stateOf b) v ≢ n + 1 → Does b t b t m p p (λ w. dropStep n w v)
+module _ {b t : List ℤ} {m : ℕ} {p : ShrinkProgress} (q : ShrinkWorking b t m p) (n v : ℕ) where
+  pub does-no-drop : vertexHolderAt (stateOf b) v ≢ n + 1 → ShrinkWorked b t b t m p p (λ w. dropStep n w v)
   unfolding dropStep
   does-no-drop h = does-same (λ w. dropStep n w v) (λ w e. rw (← e .state, ne-eqb _ _ h)) (does-none q)
 
-  pub does-no-release : vertexHolderAt (stateOf b) v ≡ 0 → Does b t b t m p p (λ w. releaseStep n w v)
+  pub does-no-release : vertexHolderAt (stateOf b) v ≡ 0 → ShrinkWorked b t b t m p p (λ w. releaseStep n w v)
   unfolding releaseStep
   does-no-release h = does-same (λ w. releaseStep n w v) (λ w e. rw (← e .state, eq-eqb _ _ h)) (does-none q)

@@ -1,31 +1,31 @@
 -- Laws of the loops of a shrinking pass over the boundary and over what was noted.
 use Prim.Native.Nat.{ℕ, _+_, _-_, _≤_, _<_}
-use native.Mathlib.Numerals.{add-one}
 use native.Mathlib.Omega.{arith}
 use mathlib.Core.Path.{_≡_, refl, sym, ap, _∙_}
-use mathlib.Core.Bool.{Bool, true, false}
+use mathlib.Core.Bool.{true, false}
 use mathlib.Core.List.{List, []}
 use lib.IntN.{ℤ}
 use lib.Dec.{eqb, ltb}
-use lib.ListN.{length, getD, take, drop, drop-of-length-le}
-use lib.Seq.{drop-cons, length-take-le}
+use lib.ListN.{length, getD, take}
+use lib.Seq.{length-take-le}
 use borrow.Author.Tests.{ltb-true}
-use Rattle.graph.specs.Basic.{fold, all, any, distinct}
+use Rattle.graph.specs.Basic.{fold, all, distinct}
 use Rattle.graph.specs.State.{State, vertexCount, sideCount, endAt, sidesAt, vertexHolderAt, boundaryOf, overgrownOf, freeSide, freeVertex, opposite}
 use Rattle.graph.specs.Word.{wordAt, numbersAt}
 use Rattle.graph.specs.Layout.{stateOf}
-use Rattle.graph.specs.Form.{sidesOk}
-use Rattle.graph.specs.laws.State.{Kept, if-both, fold-keeps, fold-keeps-rest}
+use Rattle.graph.specs.inner.Form.{sidesOk}
+use Rattle.graph.specs.laws.State.{if-both, fold-keeps, fold-keeps-rest}
+use Rattle.graph.specs.inner.Kept.{SameButHolders}
 use Rattle.graph.specs.laws.Members.{distinct-length, all-member, member-at}
 use Rattle.pass.specs.Work.{Work, onState, keepOnce, note, callAnother, startPass}
 use Rattle.pass.specs.Shrink.{belowTops, emptyTops, dropStep, shrinkStep, closed, releaseSide, releaseStep, dropped, shrinkScanned, shrinkPass}
 use Rattle.pass.specs.laws.Scratch.{holding-zero, zeros-third, second-entry, second-numbers}
-use Rattle.pass.specs.Ready.{Ready, Shrinkable}
+use Rattle.pass.specs.inner.Ready.{Ready, Shrinkable}
 use Rattle.pass.specs.laws.Fits.{Noted, noted-keep-once, noted-drop-step, count-shrink-step}
-use Rattle.shrink_pass.specs.Shrinking.{Shrinking, Busy, Does, emptied}
+use Rattle.shrink_pass.specs.inner.Shrinking.{HasShrinkWork, ShrinkWorking, ShrinkWorked, vertexLeft}
 use Rattle.shrink_pass.specs.laws.Mark.{marks-none}
 use Rattle.shrink_pass.specs.laws.Shrinking.{busy-of, does-same}
-use Rattle.shrink_pass.specs.declared.keep.Progress.{Progress}
+use Rattle.shrink_pass.specs.declared.keep.ShrinkProgress.{ShrinkProgress}
 
 -- ---- over the boundary
 
@@ -33,23 +33,29 @@ pub boundary-fits : (c : State) (n : ℕ) → Shrinkable c n → length (boundar
 unfolding sidesOk
 boundary-fits c n s = distinct-length (sideCount c) (boundaryOf c n) (s .once) (s .sides)
 
-module _ {b t b' t' : List ℤ} {m : ℕ} {p p' : Progress} (s : ℕ) where
-  pub does-scan-note : emptied (stateOf b) s ≡ true → Does b t b' t' m p p' (λ w. note w (endAt (stateOf b) s)) → Does b t b' t' m p p' (λ w. shrinkStep w s)
-  unfolding shrinkStep emptied
+module _ {b t b' t' : List ℤ} {m : ℕ} {p p' : ShrinkProgress} (s : ℕ) where
+  pub does-scan-note : vertexLeft (stateOf b) s ≡ true
+      → ShrinkWorked b t b' t' m p p' (λ w. note w (endAt (stateOf b) s))
+      → ShrinkWorked b t b' t' m p p' (λ w. shrinkStep w s)
+  unfolding shrinkStep vertexLeft
   does-scan-note h d = does-same (λ w. shrinkStep w s) (λ w e. rw (← e .state, h)) d
 
-  pub does-scan-keep : emptied (stateOf b) s ≡ false → Does b t b' t' m p p' (λ w. keepOnce w s) → Does b t b' t' m p p' (λ w. shrinkStep w s)
-  unfolding shrinkStep emptied
+  pub does-scan-keep : vertexLeft (stateOf b) s ≡ false → ShrinkWorked b t b' t' m p p' (λ w. keepOnce w s)
+      → ShrinkWorked b t b' t' m p p' (λ w. shrinkStep w s)
+  unfolding shrinkStep vertexLeft
   does-scan-keep h d = does-same (λ w. shrinkStep w s) (λ w e. rw (← e .state, h)) d
 
 -- at most one vertex is noted for each side
 scan-notes : (w : Work) (l : List ℕ) → length (fold shrinkStep w l .noted) ≤ length (w .noted) + length l
 scan-notes w l =
     let k : ℕ = length (w .noted) + length l in
-    let h : length (fold shrinkStep w l .noted) + 0 ≤ k = fold-keeps-rest shrinkStep (λ (x : Work) (r : List ℕ). length (x .noted) + length r ≤ k) (count-shrink-step k) w l (omega arith) in
+    let h : length (fold shrinkStep w l .noted) + 0 ≤ k =
+    fold-keeps-rest shrinkStep (λ (x : Work) (r : List ℕ). length (x .noted) + length r ≤ k) (count-shrink-step k) w l
+    (omega arith) in
     omega arith
 
-pub scan-room : {b t b' t' : List ℤ} {m : ℕ} {p p' : Progress} (l : List ℕ) (i : ℕ) → i ≤ length l → Busy b t m p → Does b t b' t' m p p' (λ w. fold shrinkStep w (take i l)) → p' .noted ≤ p .noted + i
+pub scan-room : {b t b' t' : List ℤ} {m : ℕ} {p p' : ShrinkProgress} (l : List ℕ) (i : ℕ) → i ≤ length l
+    → ShrinkWorking b t m p → ShrinkWorked b t b' t' m p p' (λ w. fold shrinkStep w (take i l)) → p' .noted ≤ p .noted + i
 scan-room l i h q d =
     let after = d .run (q .work) (q .has) in
     omega (arith, after .noted, q .has .noted, scan-notes (q .work) (take i l), length-take-le i l h)
@@ -63,62 +69,95 @@ module _ (l : List ℕ) where
 
   noted-release-step : (n : ℕ) (w : Work) (v : ℕ) → Noted l w → Noted l (releaseStep n w v)
   unfolding releaseStep
-  noted-release-step n w v p = if-both (Noted l) (eqb (vertexHolderAt (w .state) v) 0) p (fold-keeps (releaseSide n) (Noted l) (noted-release-side n) (onState w (freeVertex (w .state) v)) (sidesAt (w .state) v) (unfold onState in p))
+  noted-release-step n w v p =
+      if-both (Noted l) (eqb (vertexHolderAt (w .state) v) 0) p
+      (fold-keeps (releaseSide n) (Noted l) (noted-release-side n) (onState w (freeVertex (w .state) v))
+      (sidesAt (w .state) v) (unfold onState in p))
 
 release-noted : (n : ℕ) (w : Work) (l : List ℕ) → fold (releaseStep n) w l .noted ≡ w .noted
 release-noted n w l = fold-keeps (releaseStep n) (Noted (w .noted)) (noted-release-step (w .noted) n) w l refl
 
 -- what was noted stands in the second section
-pub noted-words : {b t : List ℤ} {m : ℕ} {p : Progress} {w : Work} → Shrinking b t m p w → numbersAt t m (p .noted) ≡ w .noted
+pub noted-words : {b t : List ℤ} {m : ℕ} {p : ShrinkProgress} {w : Work} → HasShrinkWork b t m p w → numbersAt t m (p .noted) ≡ w .noted
 noted-words h = rw (h .noted) (second-numbers (h .scratch))
 
-pub noted-size : {b t : List ℤ} {m : ℕ} {p : Progress} → Busy b t m p → length (numbersAt t m (p .noted)) ≡ p .noted
+pub noted-size : {b t : List ℤ} {m : ℕ} {p : ShrinkProgress} → ShrinkWorking b t m p → length (numbersAt t m (p .noted)) ≡ p .noted
 noted-size q = ap length (noted-words (q .has)) ∙ sym (q .has .noted)
 
 -- entry i of it is read, while vertices are released: a vertex
-pub noted-word : {b t b' t' : List ℤ} {m : ℕ} {p p' : Progress} (n i : ℕ) (l : List ℕ) → i < p .noted → Busy b t m p → Does b t b' t' m p p' (λ w. fold (releaseStep n) w l) → (wordAt t' (m + i) ≡ getD (numbersAt t m (p .noted)) i 0) × (wordAt t' (m + i) < vertexCount (stateOf b'))
+pub noted-word : {b t b' t' : List ℤ} {m : ℕ} {p p' : ShrinkProgress} (n i : ℕ) (l : List ℕ) → i < p .noted
+    → ShrinkWorking b t m p → ShrinkWorked b t b' t' m p p' (λ w. fold (releaseStep n) w l)
+    → (wordAt t' (m + i) ≡ getD (numbersAt t m (p .noted)) i 0) × (wordAt t' (m + i) < vertexCount (stateOf b'))
 noted-word {b' = b'} {t' = t'} {m = m} n i l h q d =
     let w : Work = q .work in
     let after = d .run w (q .has) in
     let same = release-noted n w l in
     let size : i < length (fold (releaseStep n) w l .noted) = rw same (omega (arith, h, q .has .noted)) in
     let word : wordAt t' (m + i) ≡ getD (fold (releaseStep n) w l .noted) i 0 = second-entry (after .scratch) i size in
-    let inside : getD (fold (releaseStep n) w l .noted) i 0 < vertexCount (stateOf b') = ltb-true _ _ (all-member (λ v. ltb v (vertexCount (stateOf b'))) (fold (releaseStep n) w l .noted) (getD (fold (releaseStep n) w l .noted) i 0) (after .ends) (member-at (fold (releaseStep n) w l .noted) i 0 size)) in
+    let inside : getD (fold (releaseStep n) w l .noted) i 0 < vertexCount (stateOf b') =
+    ltb-true _ _
+    (all-member (λ v. ltb v (vertexCount (stateOf b'))) (fold (releaseStep n) w l .noted)
+    (getD (fold (releaseStep n) w l .noted) i 0) (after .ends)
+    (member-at (fold (releaseStep n) w l .noted) i 0 size)) in
     (word ∙ ap (λ x. getD x i 0) (same ∙ sym (noted-words (q .has))), rw word inside)
 
-pub does-release-noted : {b t b' t' : List ℤ} {m : ℕ} {p p' : Progress} (n : ℕ) → Does b t b' t' m p p' (λ w. fold (releaseStep n) w (numbersAt t m (p .noted))) → Does b t b' t' m p p' (λ w. fold (releaseStep n) w (w .noted))
+pub does-release-noted : {b t b' t' : List ℤ} {m : ℕ} {p p' : ShrinkProgress} (n : ℕ)
+    → ShrinkWorked b t b' t' m p p' (λ w. fold (releaseStep n) w (numbersAt t m (p .noted)))
+    → ShrinkWorked b t b' t' m p p' (λ w. fold (releaseStep n) w (w .noted))
 does-release-noted n d = does-same (λ w. fold (releaseStep n) w (w .noted)) (λ w h. ap (fold (releaseStep n) w) (noted-words h)) d
 
 -- ---- the whole work
 
 -- no side kept, no vertex noted, no other pass called for
-abbrev pub nothing : Progress
+abbrev pub nothing : ShrinkProgress
 nothing = record { kept = 0; noted = 0; another = false }
 
-shrink-start : (b t : List ℤ) (m n : ℕ) → Ready b t n → m ≡ sideCount (stateOf b) → Shrinking b t m nothing (startPass (stateOf b) (belowTops (overgrownOf (stateOf b) n)))
+shrink-start : (b t : List ℤ) (m n : ℕ) → Ready b t n → m ≡ sideCount (stateOf b)
+    → HasShrinkWork b t m nothing (startPass (stateOf b) (belowTops (overgrownOf (stateOf b) n)))
 unfolding startPass all distinct
 shrink-start b t m n r e =
-    record { state = refl; scratch = rw (marks-none m) (zeros-third (holding-zero t m (rw e (r .scratch))) refl); kept = refl; noted = refl; another = refl; inside = refl; once = refl; ends = refl }
+    record {
+      state = refl;
+      scratch = rw (marks-none m) (zeros-third (holding-zero t m (rw e (r .scratch))) refl);
+      kept = refl;
+      noted = refl;
+      another = refl;
+      inside = refl;
+      once = refl;
+      ends = refl;
+    }
 
-pub start-busy : (b t : List ℤ) (m n : ℕ) → Ready b t n → m ≡ sideCount (stateOf b) → Busy b t m nothing
+pub start-busy : (b t : List ℤ) (m n : ℕ) → Ready b t n → m ≡ sideCount (stateOf b) → ShrinkWorking b t m nothing
 start-busy b t m n r e = busy-of (r .formed) e (shrink-start b t m n r e)
 
 -- what the pass asks of the state stays while vertices go
-pub shrinkable-kept : {c d : State} (n : ℕ) → Kept c d → Shrinkable c n → Shrinkable d n
+pub shrinkable-kept : {c d : State} (n : ℕ) → SameButHolders c d → Shrinkable c n → Shrinkable d n
 unfolding sidesOk
-shrinkable-kept n k s = record { sides = rw (k .graph, k .nodes) (s .sides); once = rw (k .nodes) (s .once); stack = rw (k .graph, k .nodes) (s .stack); size = rw (k .graph, k .nodes) (s .size) }
+shrinkable-kept n k s =
+    record {
+      sides = rw (k .graph, k .nodes) (s .sides);
+      once = rw (k .nodes) (s .once);
+      stack = rw (k .graph, k .nodes) (s .stack);
+      size = rw (k .graph, k .nodes) (s .size);
+    }
 
-module _ {b t b₁ t₁ : List ℤ} {m : ℕ} {p₁ : Progress} (n : ℕ) (r : Ready b t n) (e : m ≡ sideCount (stateOf b)) (d₁ : Does b t b₁ t₁ m nothing p₁ (λ w. fold (dropStep n) w (emptyTops (overgrownOf (stateOf b) n)))) where
+module _ {b t b₁ t₁ : List ℤ} {m : ℕ} {p₁ : ShrinkProgress} (n : ℕ) (r : Ready b t n) (e : m ≡ sideCount (stateOf b))
+    (d₁ : ShrinkWorked b t b₁ t₁ m nothing p₁ (λ w. fold (dropStep n) w (emptyTops (overgrownOf (stateOf b) n)))) where
   -- nothing is noted by then
   pub none-noted : p₁ .noted ≡ 0
   none-noted =
-      let none : fold (dropStep n) (startPass (stateOf b) (belowTops (overgrownOf (stateOf b) n))) (emptyTops (overgrownOf (stateOf b) n)) .noted ≡ [] = unfold startPass in (fold-keeps (dropStep n) (Noted []) (noted-drop-step n []) (startPass (stateOf b) (belowTops (overgrownOf (stateOf b) n))) (emptyTops (overgrownOf (stateOf b) n)) refl) in
+      let none : fold (dropStep n) (startPass (stateOf b) (belowTops (overgrownOf (stateOf b) n)))
+      (emptyTops (overgrownOf (stateOf b) n)) .noted
+      ≡ [] =
+      unfold startPass in
+      (fold-keeps (dropStep n) (Noted []) (noted-drop-step n [])
+      (startPass (stateOf b) (belowTops (overgrownOf (stateOf b) n))) (emptyTops (overgrownOf (stateOf b) n)) refl) in
       d₁ .run _ (shrink-start b t m n r e) .noted ∙ ap length none
 
-  pub shrink-worked : {b₂ t₂ b₃ t₃ : List ℤ} {p₂ p₃ : Progress}
-      → Does b₁ t₁ b₂ t₂ m p₁ p₂ (λ w. fold shrinkStep w (boundaryOf (stateOf b₁) n))
-      → Does b₂ t₂ b₃ t₃ m p₂ p₃ (λ w. fold (releaseStep n) w (w .noted))
-      → Shrinking b₃ t₃ m p₃ (shrinkPass (stateOf b) n)
+  pub shrink-worked : {b₂ t₂ b₃ t₃ : List ℤ} {p₂ p₃ : ShrinkProgress}
+      → ShrinkWorked b₁ t₁ b₂ t₂ m p₁ p₂ (λ w. fold shrinkStep w (boundaryOf (stateOf b₁) n))
+      → ShrinkWorked b₂ t₂ b₃ t₃ m p₂ p₃ (λ w. fold (releaseStep n) w (w .noted))
+      → HasShrinkWork b₃ t₃ m p₃ (shrinkPass (stateOf b) n)
   unfolding shrinkPass shrinkScanned dropped
   shrink-worked d₂ d₃ =
       let same : boundaryOf (stateOf b₁) n ≡ boundaryOf (stateOf b) n = ap (λ x. getD (x .boundary) n []) (d₁ .keeps .nodes) in

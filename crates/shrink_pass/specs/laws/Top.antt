@@ -13,13 +13,14 @@ use borrow.Author.Tests.{eq-eqb, ne-eqb, ltb-true}
 use Rattle.graph.specs.Basic.{all}
 use Rattle.graph.specs.State.{State, Nodes, Overgrown, vertexCount, overgrownOf}
 use Rattle.graph.specs.Layout.{stateOf}
-use Rattle.graph.specs.laws.State.{Kept, and-left, and-right}
+use Rattle.graph.specs.laws.State.{and-left, and-right}
+use Rattle.graph.specs.inner.Kept.{SameButHolders}
 use Rattle.graph.specs.laws.Members.{by-test}
 use Rattle.pass.specs.Work.{Work}
 use Rattle.pass.specs.Shrink.{emptyTops, belowTops}
-use Rattle.pass.specs.Ready.{Shrinkable}
-use Rattle.shrink_pass.specs.Shrinking.{Does}
-use Rattle.shrink_pass.specs.declared.keep.Progress.{Progress}
+use Rattle.pass.specs.inner.Ready.{Shrinkable}
+use Rattle.shrink_pass.specs.inner.Shrinking.{ShrinkWorked}
+use Rattle.shrink_pass.specs.declared.keep.ShrinkProgress.{ShrinkProgress}
 
 -- the first i entries are empty: those, and the empty tops of what follows
 abbrev pub Counted : List Overgrown → ℕ → Type 0
@@ -61,7 +62,10 @@ pub top-at : (o : List Overgrown) (i : ℕ) (d : Overgrown) → i < length (empt
 unfolding emptyTops
 top-at [] i d h = absurd (omega arith)
 top-at (x ∷ o) zero d h = by-test (eqb (x .amount) 0) (λ e. rw e) (λ e. let z : 0 < 0 = rw e at h in absurd (omega arith))
-top-at (x ∷ o) (suc i) d h = let ih = top-at o i d in by-test (eqb (x .amount) 0) (λ e. let z : suc i < suc (length (emptyTops o)) = rw e at h in rw e (ih (omega arith))) (λ e. let z : suc i < 0 = rw e at h in absurd (omega arith))
+top-at (x ∷ o) (suc i) d h =
+    let ih = top-at o i d in
+    by-test (eqb (x .amount) 0) (λ e. let z : suc i < suc (length (emptyTops o)) = rw e at h in rw e (ih (omega arith)))
+    (λ e. let z : suc i < 0 = rw e at h in absurd (omega arith))
 
 -- what is left of the stack
 pub below-tops : (o : List Overgrown) → belowTops o ≡ drop (length (emptyTops o)) o
@@ -70,7 +74,8 @@ below-tops [] = refl
 below-tops (x ∷ o) = let ih : belowTops o ≡ drop (length (emptyTops o)) o = below-tops o in by-test (eqb (x .amount) 0) (λ e. rw e ih) (λ e. rw e)
 
 -- a vertex of the stack, where all are below k
-stack-vertex : (k : ℕ) (o : List Overgrown) (i : ℕ) (d : Overgrown) → all (λ (x : Overgrown). ltb (x .vertex) k) o ≡ true → i < length o → getD o i d .vertex < k
+stack-vertex : (k : ℕ) (o : List Overgrown) (i : ℕ) (d : Overgrown)
+    → all (λ (x : Overgrown). ltb (x .vertex) k) o ≡ true → i < length o → getD o i d .vertex < k
 unfolding all
 stack-vertex k [] i d h l = absurd (omega arith)
 stack-vertex k (x ∷ o) zero d h l = ltb-true (x .vertex) k (and-left (ltb (x .vertex) k) (all (λ (y : Overgrown). ltb (y .vertex) k) o) h)
@@ -78,10 +83,11 @@ stack-vertex k (x ∷ o) (suc i) d h l = stack-vertex k o i d (and-right (ltb (x
 
 -- ---- in a block, while vertices go
 
-pub over-kept : {c d : State} (n : ℕ) → Kept c d → overgrownOf d n ≡ overgrownOf c n
+pub over-kept : {c d : State} (n : ℕ) → SameButHolders c d → overgrownOf d n ≡ overgrownOf c n
 over-kept n k = ap (λ (x : Nodes). getD (x .overgrown) n []) (k .nodes)
 
-module _ {b₀ t₀ b t : List ℤ} {m : ℕ} {p₀ p : Progress} {f : Work → Work} (n i : ℕ) (h : i < length (emptyTops (overgrownOf (stateOf b₀) n))) (q : Does b₀ t₀ b t m p₀ p f) where
+module _ {b₀ t₀ b t : List ℤ} {m : ℕ} {p₀ p : ShrinkProgress} {f : Work → Work} (n i : ℕ)
+    (h : i < length (emptyTops (overgrownOf (stateOf b₀) n))) (q : ShrinkWorked b₀ t₀ b t m p₀ p f) where
   pub top-below : i < length (overgrownOf (stateOf b) n)
   top-below = rw (over-kept n (q .keeps)) (omega (arith, h, tops-le (overgrownOf (stateOf b₀) n)))
 
@@ -90,4 +96,7 @@ module _ {b₀ t₀ b t : List ℤ} {m : ℕ} {p₀ p : Progress} {f : Work → 
   top-read v d e = e ∙ ap (λ o. getD o i d .vertex) (over-kept n (q .keeps)) ∙ top-at (overgrownOf (stateOf b₀) n) i d h
 
   pub top-vertex : Shrinkable (stateOf b₀) n → (v : ℕ) (d : Overgrown) → v ≡ getD (overgrownOf (stateOf b) n) i d .vertex → v < vertexCount (stateOf b)
-  top-vertex s v d e = rw (e, q .block .vertices, over-kept n (q .keeps)) (stack-vertex (vertexCount (stateOf b₀)) (overgrownOf (stateOf b₀) n) i d (s .stack) (omega (arith, h, tops-le (overgrownOf (stateOf b₀) n))))
+  top-vertex s v d e =
+      rw (e, q .block .vertices, over-kept n (q .keeps))
+      (stack-vertex (vertexCount (stateOf b₀)) (overgrownOf (stateOf b₀) n) i d (s .stack)
+      (omega (arith, h, tops-le (overgrownOf (stateOf b₀) n))))

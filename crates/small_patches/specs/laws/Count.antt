@@ -1,7 +1,6 @@
 -- How many small patches there are of which each vertex reaches vertex 3, and of which not.
 use mathlib.Core.Path.{_≡_, refl}
 use mathlib.Core.Bool.{not}
-use mathlib.Core.List.{[]}
 use lib.ListN.{length}
 use Rattle.graph.specs.Basic.{fold, only, allBelow}
 use Rattle.small_patches.specs.SmallPatch.{pairs, patchesOver, patches}

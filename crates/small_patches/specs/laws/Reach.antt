@@ -8,12 +8,12 @@ use native.Mathlib.Omega.{arith}
 use lib.Dec.{ltb}
 use lib.ListN.{length, getD, take}
 use borrow.Author.Tests.{eqb-true, ltb-true, lt-ltb}
-use Rattle.graph.specs.Basic.{if_then_else_, fold, member, any, below}
+use Rattle.graph.specs.Basic.{fold, member, any, below}
 use Rattle.graph.specs.Open.{Edge, endsOf, flagIn}
 use Rattle.graph.specs.laws.State.{if-cases, fold-none, fold-more, fold-done, by-parity}
 use Rattle.graph.specs.laws.Shape.{length-ends}
 use Rattle.graph.specs.laws.Members.{all-below-at, all-below-from}
-use Rattle.distance.specs.Graph.{Graph, WellFormed, Virtual, sides, near, across, opposite, Walk, trivial}
+use Rattle.distance.specs.Graph.{WeightedGraph, WellFormed, Virtual, sides, near, across, otherSide, Walk, trivial}
 use Rattle.distance.specs.Nearest.{ReachesVirtual}
 use Rattle.distance.specs.Reach.{HasMark, ReachMarks, AllSpread}
 use Rattle.distance.specs.Theorems.{mark-spreads, marks-tell-reach}
@@ -67,7 +67,7 @@ marked-first (suc (suc (suc zero))) h = refl
 marked-first (suc (suc (suc (suc u)))) h = absurd (omega arith)
 
 module _ (es : List Edge) (ok : WellFormed (patchGraph es)) where
-  abbrev g : Graph
+  abbrev g : WeightedGraph
   g = patchGraph es
 
   -- vertex 3 reaches itself
@@ -103,14 +103,14 @@ module _ (es : List Edge) (ok : WellFormed (patchGraph es)) where
     near-is = left-end es i h
 
     across-is : across g (2 * i) ≡ getD es i noEdge .right
-    unfolding openedGraph across opposite
+    unfolding openedGraph across otherSide
     across-is = let z : 2 * i + 1 - 2 * (2 * i % 2) ≡ 2 * i + 1 = omega arith in rw z (right-end es i h)
 
     edge-keeps : (m : List ℕ) → ReachMarks g m → ReachMarks g (spreadAlong m (getD es i noEdge))
     unfolding spreadAlong
     edge-keeps m r =
         let there = to-keeps m (2 * i) inside r in
-        let back = to-keeps _ (opposite (2 * i)) (opposite-in g ok (2 * i) inside) there in
+        let back = to-keeps _ (otherSide (2 * i)) (opposite-in g ok (2 * i) inside) there in
         rw (near-opposite g (2 * i), across-opposite g (2 * i), near-is, across-is) at back
 
   -- along all edges, n times
@@ -147,7 +147,7 @@ module _ (es : List Edge) (ok : WellFormed (patchGraph es)) where
         by-parity (HasMark (marksOf es) (near g s) → HasMark (marksOf es) (across g s)) s
         (λ e. let z : 2 * (s / 2) ≡ s = omega arith in λ k. omega (arith, rw z at (same-mark (s / 2) i)))
         (λ e.
-        let z : opposite (2 * (s / 2)) ≡ s = unfold opposite in (omega arith) in
+        let z : otherSide (2 * (s / 2)) ≡ s = unfold otherSide in (omega arith) in
         rw (← z, near-opposite g (2 * (s / 2)), across-opposite g (2 * (s / 2))) (λ k. omega (arith, same-mark (s / 2) i)))
 
 -- ---- every vertex

@@ -12,8 +12,7 @@ use Rattle.graph.specs.Basic.{if_then_else_, all, any}
 use Rattle.graph.specs.Open.{Edge}
 use Rattle.graph.specs.laws.State.{if-cases, and-left, and-right}
 use Rattle.graph.specs.laws.Members.{by-test, or-cases, all-first, all-others, any-none}
-use Rattle.small_patches.specs.SmallPatch.{Pair, pairs, edgeOver, PatchOver, noPairs, absent, ofWeight2, ofWeight4, SmallPatch}
-use Rattle.small_patches.specs.SmallPatch.{patchesOver, amongFour, joins, weightBetween, SameWeights}
+use Rattle.small_patches.specs.SmallPatch.{Pair, pairs, edgeOver, PatchOver, noPairs, absent, ofWeight2, ofWeight4, SmallPatch, patchesOver, amongFour, joins, weightBetween, SameWeights}
 use Rattle.small_patches.specs.laws.Entries.{all-entry, patch-entry}
 
 -- ---- either way round

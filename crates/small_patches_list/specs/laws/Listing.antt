@@ -6,8 +6,8 @@ use Prim.Native.Nat.{ℕ, zero, suc, _+_, _-_, _≤_, _<_}
 use native.Mathlib.Omega.{arith}
 use lib.ListN.{length, getD, take}
 use Rattle.records.specs.Text.{spaced}
-use Rattle.records.specs.Lines.{line, joined}
-use Rattle.records.specs.Write.{Told}
+use Rattle.records.specs.Lines.{line, joinedLines}
+use Rattle.records.specs.Write.{LinesPut}
 use Rattle.records.specs.laws.Write.{told-few}
 use Rattle.small_patches.specs.SmallPatch.{patchAt}
 use Rattle.small_patches.specs.Reach.{allReach}
@@ -48,7 +48,7 @@ unfolding listing
 lines-at k h i = let z : 1 + (k - 1) ≡ k = omega arith in rw z at (line-at 1 728 (k - 1) (omega arith))
 
 -- in 128 bytes a line there is room for all
-pub listing-told : {b c : List ℕ} {m : ℕ} {stopped : Bool} → Told b 0 false c m stopped listing → 93184 ≤ length b
-    → take m c ≡ joined listing
+pub listing-told : {b c : List ℕ} {m : ℕ} {stopped : Bool} → LinesPut b 0 false c m stopped listing → 93184 ≤ length b
+    → take m c ≡ joinedLines listing
 unfolding listing
 listing-told t h = told-few listing t (omega (arith, lines-count 1 728))

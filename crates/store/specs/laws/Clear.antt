@@ -1,20 +1,22 @@
 -- A block cleared: its rows, the state that it then holds, and its form.
-use Prim.Native.Nat.{ℕ, zero, _-_, _/_, _%_, _≤_, _<_}
+use Prim.Native.Nat.{ℕ, _-_, _/_, _%_, _≤_, _<_}
 use native.Mathlib.Omega.{arith}
 use mathlib.Core.Path.{_≡_, refl, sym, ap, _∙_}
 use mathlib.Core.List.{List, [], _∷_, map}
 use lib.IntN.{ℤ, pos}
 use lib.ListN.{length, getD, set, length-set, length-map}
 use lib.Seq.{getD-set-same, getD-set-other}
-use Rattle.graph.specs.State.{vertexCount, edgeCount, sideCount, nodeCount}
 use Rattle.graph.specs.Open.{blankState, cleared}
 use Rattle.graph.specs.Rows.{rows, offset}
 use Rattle.graph.specs.Word.{wordAt, toNat}
 use Rattle.graph.specs.Layout.{countOf, activeCountOf, rowsOf, row, boundaries, stacks, stateFrom, stateOf}
-use Rattle.graph.specs.Form.{Sized, Counted, LaidOut, Laid, Wired, PackedRows, GraphRows, Formed, Rowed, startsFrom, totalFrom}
+use Rattle.graph.specs.Form.{Sized, Counted, LaidOut, Laid, Wired, PackedRows, GraphRows, Formed, startsFrom, totalFrom}
+use Rattle.graph.specs.inner.Form.{Rowed}
 use Rattle.graph.specs.laws.Row.{word-other, rows-put, sized-put, counted-of, rows-length, formed-of}
-use Rattle.store.specs.laws.Store.{Kept, rowed-kept, kept-then}
-use Rattle.graph.specs.Opening.{zeros, clearedRows, Recounted, ActiveRecounted, Cleared}
+use Rattle.store.specs.laws.Store.{rowed-kept, kept-then}
+use Rattle.store.specs.inner.Store.{Rewritten, clearedVertices, clearedSides}
+use Rattle.graph.specs.Opening.{zeros, clearedRows, Cleared}
+use Rattle.graph.specs.inner.Recounted.{ActiveRecounted, Recounted}
 use Rattle.graph.specs.laws.Table.{vertex-row, side-row}
 
 -- ---- the number of nodes, and of active nodes
@@ -71,31 +73,28 @@ active-recounted b x q h =
 
 -- ---- rows of zeros
 
--- after b₀, the block b has the rows r, and all counts as they were
-pub record Rewritten (b₀ b : List ℤ) (r : List (List ℕ)) : Type 0 where
-  pub kept : Kept b₀ b
-  pub rows : rowsOf b ≡ r
-
 pub rewritten-first : {k : ℕ} {b₀ b : List ℤ} {w : List ℕ} → Rowed k b₀ b w → Rewritten b₀ b (set (rowsOf b₀) k w)
 rewritten-first q = record { kept = rowed-kept q; rows = q .rows }
 
 -- one more row becomes zero
-pub rewritten-zeros : {k : ℕ} {b₀ b b' : List ℤ} {r : List (List ℕ)} → Rewritten b₀ b r → Rowed k b b' (zeros (length (row (rowsOf b) k))) → Rewritten b₀ b' (set r k (zeros (length (row r k))))
-rewritten-zeros {k} {b₀} {b} {b'} {r} h q = record { kept = kept-then (h .kept) (rowed-kept q); rows = q .rows ∙ ap (λ z. set z k (zeros (length (row z k)))) (h .rows) }
-
--- the rows over vertices and the rows over sides, cleared
-unfoldable pub clearedVertices : List (List ℕ) → List (List ℕ)
-clearedVertices r = set (set (set r 1 (map (λ x. x % 2) (row r 1))) 2 (zeros (length (row r 2)))) 3 (zeros (length (row r 3)))
-
-unfoldable pub clearedSides : List (List ℕ) → List (List ℕ)
-clearedSides r = set (set (set r 6 (zeros (length (row r 6)))) 7 (zeros (length (row r 7)))) 8 (zeros (length (row r 8)))
+pub rewritten-zeros : {k : ℕ} {b₀ b b' : List ℤ} {r : List (List ℕ)} → Rewritten b₀ b r
+    → Rowed k b b' (zeros (length (row (rowsOf b) k))) → Rewritten b₀ b' (set r k (zeros (length (row r k))))
+rewritten-zeros {k} {b₀} {b} {b'} {r} h q =
+    record {
+      kept = kept-then (h .kept) (rowed-kept q);
+      rows = q .rows ∙ ap (λ z. set z k (zeros (length (row z k)))) (h .rows);
+    }
 
 module _ (b₀ b₁ b₂ b : List ℤ) where
-  pub vertices-rewritten : Rowed 1 b₀ b₁ (map (λ x. x % 2) (row (rowsOf b₀) 1)) → Rowed 2 b₁ b₂ (zeros (length (row (rowsOf b₁) 2))) → Rowed 3 b₂ b (zeros (length (row (rowsOf b₂) 3))) → Rewritten b₀ b (clearedVertices (rowsOf b₀))
+  pub vertices-rewritten : Rowed 1 b₀ b₁ (map (λ x. x % 2) (row (rowsOf b₀) 1))
+      → Rowed 2 b₁ b₂ (zeros (length (row (rowsOf b₁) 2))) → Rowed 3 b₂ b (zeros (length (row (rowsOf b₂) 3)))
+      → Rewritten b₀ b (clearedVertices (rowsOf b₀))
   unfolding clearedVertices rowsOf rows
   vertices-rewritten p q r = rewritten-zeros (rewritten-zeros (rewritten-first p) q) r
 
-  pub sides-rewritten : Rowed 6 b₀ b₁ (zeros (length (row (rowsOf b₀) 6))) → Rowed 7 b₁ b₂ (zeros (length (row (rowsOf b₁) 7))) → Rowed 8 b₂ b (zeros (length (row (rowsOf b₂) 8))) → Rewritten b₀ b (clearedSides (rowsOf b₀))
+  pub sides-rewritten : Rowed 6 b₀ b₁ (zeros (length (row (rowsOf b₀) 6)))
+      → Rowed 7 b₁ b₂ (zeros (length (row (rowsOf b₁) 7))) → Rowed 8 b₂ b (zeros (length (row (rowsOf b₂) 8)))
+      → Rewritten b₀ b (clearedSides (rowsOf b₀))
   unfolding clearedSides rowsOf rows
   sides-rewritten p q r = rewritten-zeros (rewritten-zeros (rewritten-first p) q) r
 
@@ -134,12 +133,33 @@ module _ (r : List (List ℕ)) (h : 5 < length (row r 0)) where
 
   cleared-wired : GraphRows r → GraphRows (clearedRows r)
   unfolding header clearedRows
-  cleared-wired g = record { ends = rw (size-still 0 (omega arith)) (g .ends); sides = rw (size-still 0 (omega arith)) (g .sides); firsts = rw (size-still 1 (omega arith)) (g .firsts); weights = g .weights }
+  cleared-wired g =
+      record {
+        ends = rw (size-still 0 (omega arith)) (g .ends);
+        sides = rw (size-still 0 (omega arith)) (g .sides);
+        firsts = rw (size-still 1 (omega arith)) (g .firsts);
+        weights = g .weights;
+      }
 
-  cleared-state : length (row r 2) ≡ length (row r 1) → length (row r 3) ≡ length (row r 1) → length (row r 6) ≡ length (row r 5) → length (row r 7) ≡ length (row r 5) → length (row r 8) ≡ length (row r 5) → stateFrom (clearedRows r) ≡ cleared (stateFrom r)
+  cleared-state : length (row r 2) ≡ length (row r 1) → length (row r 3) ≡ length (row r 1)
+      → length (row r 6) ≡ length (row r 5) → length (row r 7) ≡ length (row r 5) → length (row r 8) ≡ length (row r 5)
+      → stateFrom (clearedRows r) ≡ cleared (stateFrom r)
   unfolding header clearedRows stateFrom cleared blankState boundaries stacks
   cleared-state l₂ l₃ l₆ l₇ l₈ =
-      rw (count-none, active-none, size-still 2 (omega arith), size-still 3 (omega arith), flags-twice (row r 1), flags-none (row r 1), l₂, l₃, l₆, l₇, l₈, length-map (row r 1) (λ x. x % 2))
+      rw (
+        count-none,
+        active-none,
+        size-still 2 (omega arith),
+        size-still 3 (omega arith),
+        flags-twice (row r 1),
+        flags-none (row r 1),
+        l₂,
+        l₃,
+        l₆,
+        l₇,
+        l₈,
+        length-map (row r 1) (λ x. x % 2),
+      )
 
 module _
     (b₀ b₁ b₂ b₃ b : List ℤ)
@@ -166,11 +186,15 @@ module _
         let v = vertex-row b₀ 0 (f .laid) (omega arith) in
         let s = side-row b₀ 0 (f .laid) (omega arith) in
         rw rows-cleared
-        (cleared-state (rowsOf b₀) header-length (vertex-row b₀ 1 (f .laid) (omega arith) ∙ sym v) (vertex-row b₀ 2 (f .laid) (omega arith) ∙ sym v) (side-row b₀ 1 (f .laid) (omega arith) ∙ sym s) (side-row b₀ 2 (f .laid) (omega arith) ∙ sym s) (side-row b₀ 3 (f .laid) (omega arith) ∙ sym s))
+        (cleared-state (rowsOf b₀) header-length (vertex-row b₀ 1 (f .laid) (omega arith) ∙ sym v)
+        (vertex-row b₀ 2 (f .laid) (omega arith) ∙ sym v) (side-row b₀ 1 (f .laid) (omega arith) ∙ sym s)
+        (side-row b₀ 2 (f .laid) (omega arith) ∙ sym s) (side-row b₀ 3 (f .laid) (omega arith) ∙ sym s))
 
     formed-cleared : Formed b
     unfolding Wired
-    formed-cleared = formed-of b (r .kept .laid) (rw rows-cleared (cleared-packed (rowsOf b₀) header-length)) (rw rows-cleared (cleared-wired (rowsOf b₀) header-length (f .wired)))
+    formed-cleared =
+        formed-of b (r .kept .laid) (rw rows-cleared (cleared-packed (rowsOf b₀) header-length))
+        (rw rows-cleared (cleared-wired (rowsOf b₀) header-length (f .wired)))
 
     pub cleared-of : Cleared b₀ b
     cleared-of = record {

@@ -1,32 +1,29 @@
 -- One more node without lists: the block stays in form and holds the state with that node.
-use Prim.Native.Nat.{ℕ, zero, suc, _+_, _-_, _*_, _≤_, _<_}
+use Prim.Native.Nat.{ℕ, zero, suc, _+_, _-_, _≤_, _<_}
 use native.Mathlib.Omega.{arith}
 use native.Mathlib.Numerals.{add-one}
 use mathlib.Core.Path.{_≡_, refl, sym, ap, _∙_}
-use mathlib.Core.Bool.{true}
 use mathlib.Core.List.{List, [], _∷_, _++_, map}
-use lib.IntN.{ℤ, pos}
-use lib.Dec.{ltb}
+use lib.IntN.{ℤ}
 use lib.ListN.{length, set, getD, take, drop, length-append, List·getD-append}
 use lib.Seq.{getD-at, set-at, getD-set-same, getD-set-other, take-suc-set, length-take-le}
 use Rattle.graph.specs.Basic.{sumBelow}
-use Rattle.graph.specs.State.{State, Overgrown, NodeClass, vertexCount, edgeCount, sideCount, nodeCount, withNodes, withNode, withBoundary, withOvergrown}
+use Rattle.graph.specs.State.{State, NodeClass, vertexCount, nodeCount, withNodes, withNode, withBoundary, withOvergrown}
 use Rattle.graph.specs.Sound.{entries, entriesOf}
-use Rattle.graph.specs.Open.{sidesOf, weightLimit}
-use Rattle.graph.specs.Word.{wordAt, numbersAt}
 use Rattle.graph.specs.Rows.{rows, offset}
-use Rattle.graph.specs.Layout.{vOf, nOf, countOf, rowsOf, row, classFrom, stackFrom, boundaries, stacks, stretches, risingTo, stateFrom, stateOf}
-use Rattle.graph.specs.Form.{Laid, LaidOut, Listed, Wired, PackedRows, GraphRows, GraphOk, Packed, Formed, Becomes, Rowed, startsFrom, totalFrom}
-use Rattle.graph.specs.Replace.{withLists}
-use Rattle.graph.specs.Opening.{Recounted}
+use Rattle.graph.specs.Layout.{rowsOf, row, classFrom, stackFrom, boundaries, stacks, stateFrom, stateOf}
+use Rattle.graph.specs.Form.{Laid, Listed, Wired, PackedRows, GraphRows, Formed, startsFrom, totalFrom}
+use Rattle.graph.specs.inner.Form.{Rowed, Becomes}
+use Rattle.graph.specs.inner.Replace.{withLists}
+use Rattle.graph.specs.inner.Recounted.{Recounted}
 use Rattle.graph.specs.Node.{newNode}
 use Rattle.graph.specs.declared.dual_node.DualNode.{DualNode}
-use Rattle.graph.specs.Insert.{Inserted, put, headPut, tailPut}
+use Rattle.graph.specs.inner.Insert.{Inserted, put, headPut, tailPut}
 use Rattle.graph.specs.laws.Row.{header-get, rows-length, formed-of, state-of-rows}
 use Rattle.graph.specs.laws.Sums.{sum-same}
-use Rattle.graph.specs.laws.Shape.{Shape}
-use Rattle.store.specs.laws.Store.{Kept, rowed-kept, kept-then}
-use Rattle.store.specs.laws.Clear.{Rewritten, rewritten-first}
+use Rattle.graph.specs.Shape.{Shape}
+use Rattle.store.specs.laws.Store.{rowed-kept, kept-then}
+use Rattle.store.specs.inner.Store.{Rewritten}
 
 -- ---- lists one behind another, and one more
 
@@ -34,7 +31,8 @@ map-snoc : {A B : Type 0} (f : A → B) (xs : List A) (x : A) → map f (xs ++ (
 map-snoc f [] x = refl
 map-snoc f (y ∷ xs) x = ap (λ r. f y ∷ r) (map-snoc f xs x)
 
-starts-snoc : (a : ℕ) (bs os : List ℕ) (b o : ℕ) → length bs ≡ length os → startsFrom a (bs ++ (b ∷ [])) (os ++ (o ∷ [])) ≡ startsFrom a bs os ++ (totalFrom a bs os ∷ [])
+starts-snoc : (a : ℕ) (bs os : List ℕ) (b o : ℕ) → length bs ≡ length os
+    → startsFrom a (bs ++ (b ∷ [])) (os ++ (o ∷ [])) ≡ startsFrom a bs os ++ (totalFrom a bs os ∷ [])
 unfolding startsFrom totalFrom
 starts-snoc a [] [] b o h = refl
 starts-snoc a [] (y ∷ os) b o h = absurd (omega arith)
@@ -64,16 +62,19 @@ stacks-snoc (x ∷ bs) (y ∷ os) l h = ap (λ r. stackFrom (take y (drop x l)) 
 
 -- ---- rows rewritten, one after another
 
-pub rewritten-put : {k : ℕ} (n x : ℕ) {b₀ b b' : List ℤ} {r : List (List ℕ)} → Rewritten b₀ b r → Rowed k b b' (set (row (rowsOf b) k) n x) → Rewritten b₀ b' (put k n x r)
+pub rewritten-put : {k : ℕ} (n x : ℕ) {b₀ b b' : List ℤ} {r : List (List ℕ)} → Rewritten b₀ b r
+    → Rowed k b b' (set (row (rowsOf b) k) n x) → Rewritten b₀ b' (put k n x r)
 rewritten-put {k} n x {b₀} {b} {b'} {r} h q = record { kept = kept-then (h .kept) (rowed-kept q); rows = q .rows ∙ ap (λ z. put k n x z) (h .rows) }
 
-pub rewritten-then : {b₀ b₁ b₂ : List ℤ} (f : List (List ℕ) → List (List ℕ)) {r : List (List ℕ)} → Rewritten b₀ b₁ r → Rewritten b₁ b₂ (f (rowsOf b₁)) → Rewritten b₀ b₂ (f r)
+pub rewritten-then : {b₀ b₁ b₂ : List ℤ} (f : List (List ℕ) → List (List ℕ)) {r : List (List ℕ)} → Rewritten b₀ b₁ r
+    → Rewritten b₁ b₂ (f (rowsOf b₁)) → Rewritten b₀ b₂ (f r)
 rewritten-then f p q = record { kept = kept-then (p .kept) (q .kept); rows = q .rows ∙ ap f (p .rows) }
 
 -- ---- the rows of the block
 
 module _ (b₀ b₁ b₂ : List ℤ) (n class x a : ℕ) (f : Formed b₀) (is-count : n ≡ nodeCount (stateOf b₀)) (room : n < stateOf b₀ .nodeLimit)
-    (p : Rewritten b₀ b₁ (tailPut n a (headPut n (newNode class x) (rowsOf b₀)))) (r : Recounted b₁ b₂ (n + 1)) (is-start : a ≡ totalFrom 0 (take n (row (rowsOf b₀) 16)) (take n (row (rowsOf b₀) 17))) where
+    (p : Rewritten b₀ b₁ (tailPut n a (headPut n (newNode class x) (rowsOf b₀)))) (r : Recounted b₁ b₂ (n + 1))
+    (is-start : a ≡ totalFrom 0 (take n (row (rowsOf b₀) 16)) (take n (row (rowsOf b₀) 17))) where
   header : List ℕ
   header = row (rowsOf b₀) 0
 
@@ -134,8 +135,24 @@ module _ (b₀ b₁ b₂ : List ℤ) (n class x a : ℕ) (f : Formed b₀) (is-c
       let z : totalFrom 0 bs os + 0 + 0 ≡ totalFrom 0 bs os = omega arith in
       record {
         count-max = rw (header-count, header-other 2 (λ e. omega arith), limit-then) (omega arith);
-        starts = rw (header-count, one-more 4 a (omega arith), one-more 5 0 (omega arith), one-more 6 0 (omega arith), starts-snoc 0 bs os 0 0 same-length, s, is-start);
-        total = rw (header-count, one-more 5 0 (omega arith), one-more 6 0 (omega arith), total-snoc 0 bs os 0 0 same-length, z, header-other 3 (λ e. omega arith)) t;
+        starts = rw (
+          header-count,
+          one-more 4 a (omega arith),
+          one-more 5 0 (omega arith),
+          one-more 6 0 (omega arith),
+          starts-snoc 0 bs os 0 0 same-length,
+          s,
+          is-start,
+        );
+        total = rw (
+          header-count,
+          one-more 5 0 (omega arith),
+          one-more 6 0 (omega arith),
+          total-snoc 0 bs os 0 0 same-length,
+          z,
+          header-other 3 (λ e. omega arith),
+        )
+            t;
       }
 
   graph-end : GraphRows rowsEnd
@@ -156,7 +173,24 @@ module _ (b₀ b₁ b₂ : List ℤ) (n class x a : ℕ) (f : Formed b₀) (is-c
   state-end : stateFrom rowsEnd ≡ withNode (stateOf b₀) (classFrom (vertexCount (stateOf b₀)) class) x []
   unfolding rowsOf rows rowsEnd header stateOf stateFrom withNode withNodes
   state-end =
-      rw (header-count, header-other 0 (λ e. omega arith), header-other 2 (λ e. omega arith), header-other 3 (λ e. omega arith), header-other 5 (λ e. omega arith), one-more 0 class (omega arith), one-more 1 x (omega arith), one-more 2 0 (omega arith), one-more 3 0 (omega arith), one-more 5 0 (omega arith), one-more 6 0 (omega arith), boundaries-snoc (take n (row (rowsOf b₀) 16)) (take n (row (rowsOf b₀) 17)) (row (rowsOf b₀) 18) same-length, stacks-snoc (take n (row (rowsOf b₀) 16)) (take n (row (rowsOf b₀) 17)) (row (rowsOf b₀) 18) same-length, map-snoc (classFrom (getD header 0 0)) (take n (row (rowsOf b₀) 11)) class, count-then, vertices-then)
+      rw (
+        header-count,
+        header-other 0 (λ e. omega arith),
+        header-other 2 (λ e. omega arith),
+        header-other 3 (λ e. omega arith),
+        header-other 5 (λ e. omega arith),
+        one-more 0 class (omega arith),
+        one-more 1 x (omega arith),
+        one-more 2 0 (omega arith),
+        one-more 3 0 (omega arith),
+        one-more 5 0 (omega arith),
+        one-more 6 0 (omega arith),
+        boundaries-snoc (take n (row (rowsOf b₀) 16)) (take n (row (rowsOf b₀) 17)) (row (rowsOf b₀) 18) same-length,
+        stacks-snoc (take n (row (rowsOf b₀) 16)) (take n (row (rowsOf b₀) 17)) (row (rowsOf b₀) 18) same-length,
+        map-snoc (classFrom (getD header 0 0)) (take n (row (rowsOf b₀) 11)) class,
+        count-then,
+        vertices-then,
+      )
 
   pub pushed-empty : Inserted b₀ b₂ (withNode (stateOf b₀) (classFrom (vertexCount (stateOf b₀)) class) x [])
   pushed-empty = record {
@@ -181,12 +215,15 @@ tail-limit n a p = ap (λ z. getD (row z 0) 2 0) (p .rows)
 
 -- ---- the lists of the new node
 
-new-lists : (c : State) (p : NodeClass) (x n : ℕ) (l : List ℕ) → length (c .nodes .boundary) ≡ n → length (c .nodes .overgrown) ≡ n → withLists (withNode c p x []) n l 0 [] ≡ withNode c p x l
+new-lists : (c : State) (p : NodeClass) (x n : ℕ) (l : List ℕ) → length (c .nodes .boundary) ≡ n
+    → length (c .nodes .overgrown) ≡ n → withLists (withNode c p x []) n l 0 [] ≡ withNode c p x l
 unfolding withLists withNode withNodes withBoundary withOvergrown stackFrom
 new-lists c p x n l hb ho =
     rw (getD-at (c .nodes .overgrown) [] [] [] n ho, set-at (c .nodes .boundary) [] [] l n hb, set-at (c .nodes .overgrown) [] [] [] n ho)
 
-pub pushed-lists : {b₀ b₁ b₂ : List ℤ} (p : NodeClass) (x n : ℕ) (l : List ℕ) → Shape (stateOf b₀) → n ≡ nodeCount (stateOf b₀) → Inserted b₀ b₁ (withNode (stateOf b₀) p x []) → Becomes b₁ b₂ (withLists (stateOf b₁) n l 0 []) → Inserted b₀ b₂ (withNode (stateOf b₀) p x l)
+pub pushed-lists : {b₀ b₁ b₂ : List ℤ} (p : NodeClass) (x n : ℕ) (l : List ℕ) → Shape (stateOf b₀)
+    → n ≡ nodeCount (stateOf b₀) → Inserted b₀ b₁ (withNode (stateOf b₀) p x [])
+    → Becomes b₁ b₂ (withLists (stateOf b₁) n l 0 []) → Inserted b₀ b₂ (withNode (stateOf b₀) p x l)
 pushed-lists {b₀} {b₁} {b₂} p x n l z e i w = record {
   formed = w .formed;
   state = w .state ∙ rw (i .state) (new-lists (stateOf b₀) p x n l (z .boundary ∙ sym e) (z .overgrown ∙ sym e));
@@ -203,9 +240,14 @@ unfolding entries entriesOf withNode withNodes sumBelow
 entries-new c p x z =
     rw (length-append (c .nodes .growState) (x ∷ []), add-one)
     (ap (λ k. k + entriesOf (withNode c p x []) (nodeCount c)) (sum-same (entriesOf (withNode c p x [])) (entriesOf c) (nodeCount c)
-    (λ i h. rw (List·getD-append (c .nodes .boundary) ([] ∷ []) [] i (omega (arith, z .boundary)), List·getD-append (c .nodes .overgrown) ([] ∷ []) [] i (omega (arith, z .overgrown))))))
+    (λ i h. rw (
+      List·getD-append (c .nodes .boundary) ([] ∷ []) [] i (omega (arith, z .boundary)),
+      List·getD-append (c .nodes .overgrown) ([] ∷ []) [] i (omega (arith, z .overgrown)),
+    ))))
 
-pub new-room : {b₀ b₁ : List ℤ} (p : NodeClass) (x n k : ℕ) → Shape (stateOf b₀) → n ≡ nodeCount (stateOf b₀) → Inserted b₀ b₁ (withNode (stateOf b₀) p x []) → entries (stateOf b₀) + k ≤ stateOf b₀ .storeLimit → entries (stateOf b₁) + (k + 0 + 0) ≤ stateOf b₁ .storeLimit + entriesOf (stateOf b₁) n
+pub new-room : {b₀ b₁ : List ℤ} (p : NodeClass) (x n k : ℕ) → Shape (stateOf b₀) → n ≡ nodeCount (stateOf b₀)
+    → Inserted b₀ b₁ (withNode (stateOf b₀) p x []) → entries (stateOf b₀) + k ≤ stateOf b₀ .storeLimit
+    → entries (stateOf b₁) + (k + 0 + 0) ≤ stateOf b₁ .storeLimit + entriesOf (stateOf b₁) n
 new-room {b₀} {b₁} p x n k z e i h =
     let limit : withNode (stateOf b₀) p x [] .storeLimit ≡ stateOf b₀ .storeLimit = (unfold withNode withNodes in refl) in
     rw (i .state, e) (omega (arith, h, limit, entries-new (stateOf b₀) p x z))

@@ -10,24 +10,21 @@ use lib.Seq.{getD-set-same, getD-set-other}
 use Rattle.graph.specs.Word.{wordAt}
 use Rattle.graph.specs.Rows.{offset}
 use Rattle.graph.specs.Layout.{rowsOf, row, stateOf}
-use Rattle.graph.specs.Form.{Laid, Rowed}
+use Rattle.graph.specs.Form.{Laid}
+use Rattle.graph.specs.inner.Form.{Rowed}
 use Rattle.graph.specs.laws.Row.{rows-length, rowed-row, rowed-then, rowed-none}
-use Rattle.graph.specs.laws.List.{startWord, storeOf, store-length}
-
--- after b₀, row k of b has f p at each place p from lo up to hi, and all else of b is as it was
-pub record Wrote (k : ℕ) (b₀ b : List ℤ) (lo hi : ℕ) (f : ℕ → ℕ) : Type 0 where
-  pub still : Rowed k b₀ b (row (rowsOf b) k)
-  pub inside : (p : ℕ) → lo ≤ p → p < hi → getD (row (rowsOf b) k) p 0 ≡ f p
-  pub below : (p : ℕ) → p < lo → getD (row (rowsOf b) k) p 0 ≡ getD (row (rowsOf b₀) k) p 0
-  pub above : (p : ℕ) → hi ≤ p → getD (row (rowsOf b) k) p 0 ≡ getD (row (rowsOf b₀) k) p 0
-  pub size : length (row (rowsOf b) k) ≡ length (row (rowsOf b₀) k)
+use Rattle.graph.specs.laws.List.{store-length}
+use Rattle.graph.specs.inner.Lists.{storeOf, startWord}
+use Rattle.store.specs.inner.Wrote.{Wrote, Copied, Filled, Shifted}
 
 -- nothing to write
 pub wrote-none : (k : ℕ) (b : List ℤ) (lo hi : ℕ) (f : ℕ → ℕ) → Laid b → ((p : ℕ) → lo ≤ p → p < hi → getD (row (rowsOf b) k) p 0 ≡ f p) → Wrote k b b lo hi f
 wrote-none k b lo hi f q h = record { still = rowed-none k b q; inside = h; below = λ p x. refl; above = λ p x. refl; size = refl }
 
 -- a word next to the stretch
-pub wrote-more : {k lo hi : ℕ} {b₀ b b' : List ℤ} {f : ℕ → ℕ} (lo' hi' q x : ℕ) → k < 20 → Wrote k b₀ b lo hi f → Rowed k b b' (set (row (rowsOf b) k) q x) → q < length (row (rowsOf b₀) k) → x ≡ f q → lo ≤ q + 1 → q ≤ hi → lo' ≡ min lo q → hi' ≡ max hi (q + 1) → Wrote k b₀ b' lo' hi' f
+pub wrote-more : {k lo hi : ℕ} {b₀ b b' : List ℤ} {f : ℕ → ℕ} (lo' hi' q x : ℕ) → k < 20 → Wrote k b₀ b lo hi f
+    → Rowed k b b' (set (row (rowsOf b) k) q x) → q < length (row (rowsOf b₀) k) → x ≡ f q → lo ≤ q + 1 → q ≤ hi
+    → lo' ≡ min lo q → hi' ≡ max hi (q + 1) → Wrote k b₀ b' lo' hi' f
 wrote-more {k} {lo} {hi} {b₀} {b} {b'} {f} lo' hi' q x h a r j e u v y z =
     let w : row (rowsOf b') k ≡ set (row (rowsOf b) k) q x = rowed-row h r in
     record {
@@ -42,50 +39,53 @@ wrote-more {k} {lo} {hi} {b₀} {b} {b'} {f} lo' hi' q x h a r j e u v y z =
     }
 
 -- a stretch given by the distance from its beginning
-pub wrote-at : {k : ℕ} {b₀ b : List ℤ} (a n : ℕ) (g : ℕ → ℕ) → Wrote k b₀ b a (a + n) (λ p. g (p - a)) → (i : ℕ) → i < n → getD (row (rowsOf b) k) (a + i) 0 ≡ g i
+pub wrote-at : {k : ℕ} {b₀ b : List ℤ} (a n : ℕ) (g : ℕ → ℕ) → Wrote k b₀ b a (a + n) (λ p. g (p - a)) → (i : ℕ) → i < n
+    → getD (row (rowsOf b) k) (a + i) 0 ≡ g i
 wrote-at a n g w i h = w .inside (a + i) (omega arith) (omega arith) ∙ ap g (let z : a + i - a ≡ i = omega arith in z)
 
 -- ---- the loops
 
--- the n words of the store at `from` are copied to `to`
-abbrev pub Copied : List ℤ → List ℤ → ℕ → ℕ → ℕ → Type 0
-Copied b₀ b from to n = Wrote 18 b₀ b to (to + n) (λ p. getD (storeOf b₀) (from + (p - to)) 0)
-
--- the n words of t from s on are put into the store at a
-abbrev pub Filled : List ℤ → List ℤ → List ℤ → ℕ → ℕ → ℕ → Type 0
-Filled b₀ b t s a n = Wrote 18 b₀ b a (a + n) (λ p. wordAt t (s + (p - a)))
-
--- the starts of the nodes from lo up to hi are larger by add and smaller by sub
-abbrev pub Shifted : List ℤ → List ℤ → ℕ → ℕ → ℕ → ℕ → Type 0
-Shifted b₀ b lo hi add sub = Wrote 15 b₀ b lo hi (λ p. startWord b₀ p + add - sub)
-
 module _ {b₀ b b' : List ℤ} (q : Laid b₀) where
-  pub move-down-more : (from to i x : ℕ) → Copied b₀ b from to i → to ≤ from → from + i < stateOf b₀ .storeLimit → x ≡ getD (storeOf b) (from + i) 0 → Rowed 18 b b' (set (storeOf b) (to + i) x) → Copied b₀ b' from to (i + 1)
+  pub move-down-more : (from to i x : ℕ) → Copied b₀ b from to i → to ≤ from → from + i < stateOf b₀ .storeLimit
+      → x ≡ getD (storeOf b) (from + i) 0 → Rowed 18 b b' (set (storeOf b) (to + i) x) → Copied b₀ b' from to (i + 1)
   move-down-more from to i x a h k e r =
       let z : to + i - to ≡ i = omega arith in
-      wrote-more to (to + (i + 1)) (to + i) x (omega arith) a r (omega (arith, store-length b₀ q)) (rw z (e ∙ a .above (from + i) (omega arith))) (omega arith) (omega arith) (omega arith) (omega arith)
+      wrote-more to (to + (i + 1)) (to + i) x (omega arith) a r (omega (arith, store-length b₀ q))
+      (rw z (e ∙ a .above (from + i) (omega arith))) (omega arith) (omega arith) (omega arith) (omega arith)
 
-  pub move-up-more : (from to n i x : ℕ) → Wrote 18 b₀ b (to + (i + 1)) (to + n) (λ p. getD (storeOf b₀) (from + (p - to)) 0) → from ≤ to → i < n → to + n ≤ stateOf b₀ .storeLimit → x ≡ getD (storeOf b) (from + i) 0 → Rowed 18 b b' (set (storeOf b) (to + i) x) → Wrote 18 b₀ b' (to + i) (to + n) (λ p. getD (storeOf b₀) (from + (p - to)) 0)
+  pub move-up-more : (from to n i x : ℕ)
+      → Wrote 18 b₀ b (to + (i + 1)) (to + n) (λ p. getD (storeOf b₀) (from + (p - to)) 0) → from ≤ to → i < n
+      → to + n ≤ stateOf b₀ .storeLimit → x ≡ getD (storeOf b) (from + i) 0 → Rowed 18 b b' (set (storeOf b) (to + i) x)
+      → Wrote 18 b₀ b' (to + i) (to + n) (λ p. getD (storeOf b₀) (from + (p - to)) 0)
   move-up-more from to n i x a h j k e r =
       let z : to + i - to ≡ i = omega arith in
-      wrote-more (to + i) (to + n) (to + i) x (omega arith) a r (omega (arith, store-length b₀ q)) (rw z (e ∙ a .below (from + i) (omega arith))) (omega arith) (omega arith) (omega arith) (omega arith)
+      wrote-more (to + i) (to + n) (to + i) x (omega arith) a r (omega (arith, store-length b₀ q))
+      (rw z (e ∙ a .below (from + i) (omega arith))) (omega arith) (omega arith) (omega arith) (omega arith)
 
-  pub fill-more : (t : List ℤ) (s at i x : ℕ) → Filled b₀ b t s at i → at + i < stateOf b₀ .storeLimit → x ≡ wordAt t (s + i) → Rowed 18 b b' (set (storeOf b) (at + i) x) → Filled b₀ b' t s at (i + 1)
+  pub fill-more : (t : List ℤ) (s at i x : ℕ) → Filled b₀ b t s at i → at + i < stateOf b₀ .storeLimit
+      → x ≡ wordAt t (s + i) → Rowed 18 b b' (set (storeOf b) (at + i) x) → Filled b₀ b' t s at (i + 1)
   fill-more t s at i x a k e r =
       let z : at + i - at ≡ i = omega arith in
-      wrote-more at (at + (i + 1)) (at + i) x (omega arith) a r (omega (arith, store-length b₀ q)) (rw z e) (omega arith) (omega arith) (omega arith) (omega arith)
+      wrote-more
+      at (at + (i + 1)) (at + i) x (omega arith) a r (omega (arith, store-length b₀ q)) (rw z e) (omega arith)
+      (omega arith) (omega arith) (omega arith)
 
 starts-length : (b : List ℤ) → Laid b → length (row (rowsOf b) 15) ≡ stateOf b .nodeLimit
 unfolding Laid offset
 starts-length b q = rows-length b 15 (omega arith) ∙ sym (q .counted .node-limit)
 
-pub shift-more : {b₀ b b' : List ℤ} (q : Laid b₀) (add sub lo i x : ℕ) → Shifted b₀ b lo i add sub → lo ≤ i → i < stateOf b₀ .nodeLimit → x ≡ startWord b i + add - sub → Rowed 15 b b' (set (row (rowsOf b) 15) i x) → Shifted b₀ b' lo (i + 1) add sub
+pub shift-more : {b₀ b b' : List ℤ} (q : Laid b₀) (add sub lo i x : ℕ) → Shifted b₀ b lo i add sub → lo ≤ i
+    → i < stateOf b₀ .nodeLimit → x ≡ startWord b i + add - sub → Rowed 15 b b' (set (row (rowsOf b) 15) i x)
+    → Shifted b₀ b' lo (i + 1) add sub
 shift-more {b₀} {b} {b'} q add sub lo i x a h k e r =
-    wrote-more lo (i + 1) i x (omega arith) a r (omega (arith, starts-length b₀ q)) (rw (a .above i (omega arith)) at e) (omega arith) (omega arith) (omega arith) (omega arith)
+    wrote-more lo (i + 1) i x (omega arith) a r (omega (arith, starts-length b₀ q)) (rw (a .above i (omega arith)) at e)
+    (omega arith) (omega arith) (omega arith) (omega arith)
 
 -- nothing moves where a stretch stays, and no start changes where as much comes as goes
 pub moved-none : (b : List ℤ) (from to n : ℕ) → Laid b → from ≡ to → Copied b b from to n
-moved-none b from to n q e = wrote-none 18 b to (to + n) (λ p. getD (storeOf b) (from + (p - to)) 0) q (λ p x y. ap (λ i. getD (storeOf b) i 0) (let z : p ≡ from + (p - to) = omega arith in z))
+moved-none b from to n q e =
+    wrote-none 18 b to (to + n) (λ p. getD (storeOf b) (from + (p - to)) 0) q
+    (λ p x y. ap (λ i. getD (storeOf b) i 0) (let z : p ≡ from + (p - to) = omega arith in z))
 
 pub shifted-none : (b : List ℤ) (add sub lo hi : ℕ) → Laid b → add ≡ sub → Shifted b b lo hi add sub
 shifted-none b add sub lo hi q e = wrote-none 15 b lo hi (λ p. startWord b p + add - sub) q (λ p x y. omega arith)

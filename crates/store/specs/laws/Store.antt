@@ -8,25 +8,21 @@ use mathlib.Core.List.{List, _++_}
 use lib.IntN.{ℤ}
 use lib.ListN.{length, set, getD, take, drop, length-drop, List·getD-append}
 use lib.Seq.{getD-take, getD-drop, getD-append-add, length-take-le}
-use Rattle.graph.specs.State.{vertexCount, edgeCount, sideCount, nodeCount}
 use Rattle.graph.specs.Word.{wordAt, numbersAt}
 use Rattle.graph.specs.Rows.{rows}
 use Rattle.graph.specs.Layout.{rowsOf, row, stateOf}
-use Rattle.graph.specs.Form.{Laid, Rowed}
+use Rattle.graph.specs.Form.{Laid}
+use Rattle.graph.specs.inner.Form.{Rowed}
 use Rattle.graph.specs.laws.Row.{rowed-then}
 use Rattle.graph.specs.laws.Number.{numbers-entry, numbers-length}
-use Rattle.graph.specs.laws.List.{startWord, storeOf, store-length}
-use Rattle.store.specs.laws.Move.{Copied, Filled, Shifted, wrote-at}
-use Rattle.graph.specs.laws.Cut.{Agree}
+use Rattle.graph.specs.laws.List.{store-length}
+use Rattle.graph.specs.inner.Lists.{storeOf}
+use Rattle.store.specs.laws.Move.{wrote-at}
+use Rattle.store.specs.inner.Wrote.{Shifted, Filled, Copied}
+use Rattle.graph.specs.inner.Cut.{Agree}
+use Rattle.store.specs.inner.Store.{SameCounts, Moved, newLists, Stored, Resized}
 
 -- ---- the kept stack and the rest behind the lists, moved
-
--- the m words at a + x stand at a + k, the rest at a + y stands at a + z
-pub record Moved (b₀ b : List ℤ) (a x y rest k m z : ℕ) : Type 0 where
-  pub still : Rowed 18 b₀ b (storeOf b)
-  pub before : Agree a (storeOf b) (storeOf b₀)
-  pub kept : (i : ℕ) → i < m → getD (storeOf b) (a + k + i) 0 ≡ getD (storeOf b₀) (a + x + i) 0
-  pub after : (i : ℕ) → i < rest → getD (storeOf b) (a + z + i) 0 ≡ getD (storeOf b₀) (a + y + i) 0
 
 module _ (b₀ b₁ b : List ℤ) (a x y rest k m z : ℕ) (hx : x + m ≤ y) (hk : k + m ≤ z) where
   -- the rest first, where it goes up
@@ -48,16 +44,6 @@ module _ (b₀ b₁ b : List ℤ) (a x y rest k m z : ℕ) (hx : x + m ≤ y) (h
   }
 
 -- ---- the new words put in
-
--- the new lists: k numbers of t from 0 on, the kept stack, o numbers of t from q on
-unfoldable pub newLists : List ℤ → List ℤ → ℕ → ℕ → ℕ → ℕ → ℕ → ℕ → List ℕ
-newLists b t a x k m q o = numbersAt t 0 k ++ (take m (drop (a + x) (storeOf b)) ++ numbersAt t q o)
-
-pub record Stored (b₀ b t : List ℤ) (a x y rest k m q o : ℕ) : Type 0 where
-  pub still : Rowed 18 b₀ b (storeOf b)
-  pub before : Agree a (storeOf b) (storeOf b₀)
-  pub inner : Agree (k + (m + o)) (drop a (storeOf b)) (newLists b₀ t a x k m q o)
-  pub after : Agree rest (drop (a + (k + (m + o))) (storeOf b)) (drop (a + y) (storeOf b₀))
 
 module _ (b₀ b₁ b₂ b t : List ℤ) (a x y rest k m q o : ℕ) (g : Laid b₀) (hx : x + m ≤ y) (room : a + y + rest ≤ stateOf b₀ .storeLimit)
     (h : Moved b₀ b₁ a x y rest k m (k + (m + o)))
@@ -91,12 +77,17 @@ module _ (b₀ b₁ b₂ b t : List ℤ) (a x y rest k m q o : ℕ) (g : Laid b�
             elim (decLt (p - k) m) [
               | yes f ↦
                   let z : a + p ≡ a + k + (p - k) = omega arith in
-                  rw z (middle (p - k) f) ∙ sym (ap (λ r. getD (A ++ (B ++ C)) r 0) e ∙ getD-append-add A (B ++ C) (p - k) 0 ∙ List·getD-append B C 0 (p - k) (omega (arith, lm, f)))
+                  rw z (middle (p - k) f)
+                  ∙ sym
+                  (ap (λ r. getD (A ++ (B ++ C)) r 0) e ∙ getD-append-add A (B ++ C) (p - k) 0
+                  ∙ List·getD-append B C 0 (p - k) (omega (arith, lm, f)))
               | no f ↦
                   let z : a + p ≡ a + k + m + (p - k - m) = omega arith in
                   let w : p - k ≡ length B + (p - k - m) = omega (arith, lm, f) in
                   rw z (last (p - k - m) (omega arith))
-                  ∙ sym (ap (λ r. getD (A ++ (B ++ C)) r 0) e ∙ getD-append-add A (B ++ C) (p - k) 0 ∙ ap (λ r. getD (B ++ C) r 0) w ∙ getD-append-add B C (p - k - m) 0)
+                  ∙ sym
+                  (ap (λ r. getD (A ++ (B ++ C)) r 0) e ∙ getD-append-add A (B ++ C) (p - k) 0
+                  ∙ ap (λ r. getD (B ++ C) r 0) w ∙ getD-append-add B C (p - k - m) 0)
             ]
       ]
 
@@ -112,28 +103,19 @@ module _ (b₀ b₁ b₂ b t : List ℤ) (a x y rest k m q o : ℕ) (g : Laid b�
 
 -- ---- starts and lengths
 
--- sizes and counts as they were
-pub record Kept (b₀ b : List ℤ) : Type 0 where
-  pub laid : Laid b
-  pub vertices : vertexCount (stateOf b) ≡ vertexCount (stateOf b₀)
-  pub edges : edgeCount (stateOf b) ≡ edgeCount (stateOf b₀)
-  pub sides : sideCount (stateOf b) ≡ sideCount (stateOf b₀)
-  pub nodes : nodeCount (stateOf b) ≡ nodeCount (stateOf b₀)
-  pub len : length b ≡ length b₀
-
-pub rowed-kept : {k : ℕ} {b₀ b : List ℤ} {w : List ℕ} → Rowed k b₀ b w → Kept b₀ b
+pub rowed-kept : {k : ℕ} {b₀ b : List ℤ} {w : List ℕ} → Rowed k b₀ b w → SameCounts b₀ b
 rowed-kept r = record { laid = r .laid; vertices = r .vertices; edges = r .edges; sides = r .sides; nodes = r .nodes; len = r .len }
 
-pub kept-then : {b₀ b₁ b : List ℤ} → Kept b₀ b₁ → Kept b₁ b → Kept b₀ b
-kept-then p q = record { laid = q .laid; vertices = q .vertices ∙ p .vertices; edges = q .edges ∙ p .edges; sides = q .sides ∙ p .sides; nodes = q .nodes ∙ p .nodes; len = q .len ∙ p .len }
-
--- the starts of the nodes behind n, up to c, shifted for lists of k + o words in place of y, and the lengths of node n written
-pub record Resized (b₀ b : List ℤ) (n c k o y : ℕ) : Type 0 where
-  pub kept : Kept b₀ b
-  pub rows : rowsOf b ≡ set (set (set (rowsOf b₀) 15 (row (rowsOf b) 15)) 16 (set (row (rowsOf b₀) 16) n k)) 17 (set (row (rowsOf b₀) 17) n o)
-  pub behind : (p : ℕ) → n < p → p < c → startWord b p ≡ startWord b₀ p + (k + o) - y
-  pub before : (p : ℕ) → p ≤ n → startWord b p ≡ startWord b₀ p
-  pub size : length (row (rowsOf b) 15) ≡ length (row (rowsOf b₀) 15)
+pub kept-then : {b₀ b₁ b : List ℤ} → SameCounts b₀ b₁ → SameCounts b₁ b → SameCounts b₀ b
+kept-then p q =
+    record {
+      laid = q .laid;
+      vertices = q .vertices ∙ p .vertices;
+      edges = q .edges ∙ p .edges;
+      sides = q .sides ∙ p .sides;
+      nodes = q .nodes ∙ p .nodes;
+      len = q .len ∙ p .len;
+    }
 
 module _ (b₀ b₁ b₂ b : List ℤ) (n c k o y : ℕ)
     (s : Shifted b₀ b₁ (n + 1) c (k + o) y)

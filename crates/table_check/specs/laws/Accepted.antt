@@ -15,7 +15,7 @@ use Rattle.graph.specs.Opening.{edgesIn, edgesFrom, virtualsFrom}
 use Rattle.graph.specs.laws.State.{passed, and-left, and-right}
 use Rattle.graph.specs.laws.Members.{distinct-length}
 use Rattle.graph.specs.laws.Size.{sizes-in}
-use Rattle.memory.specs.laws.Open.{first-passed, edges-count}
+use Rattle.open_graph.specs.laws.Open.{first-passed, edges-count}
 use Rattle.distance.specs.Graph.{WellFormed}
 use Rattle.opened_graph.specs.laws.Opening.{well-formed}
 use Rattle.table_check.specs.Verdict.{sizesRight, lengthsRight, graphInRange, defectsInRange, distancesInRange, numbersRight, tableRefusal}

@@ -8,9 +8,8 @@ use mathlib.Core.List.{List, [], _∷_}
 use lib.ListN.{length, getD, set, replicate}
 use borrow.Author.Tests.{eq-eqb, ne-eqb}
 use Rattle.graph.specs.Basic.{all, distinct}
-use Rattle.graph.specs.Scans.{onceAll}
+use Rattle.graph.specs.inner.Scans.{onceAll, Stamped}
 use Rattle.graph.specs.laws.Stamp.{stamped-none, stamped-more, stamped-fails, stamped-all}
-use Rattle.graph.specs.Scans.{Stamped}
 use Rattle.graph.specs.laws.Opened.{getD-zeros}
 
 -- the marks of the first i numbers

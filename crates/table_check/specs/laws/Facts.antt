@@ -16,7 +16,7 @@ use Rattle.graph.specs.Opening.{virtualsFrom}
 use Rattle.graph.specs.laws.State.{and-left, and-right}
 use Rattle.graph.specs.laws.Number.{word-below}
 use Rattle.graph.specs.laws.Members.{by-test, both, or-cases, or-left, or-right, member-at, all-at, all-first, all-others, all-below-at, all-below-from}
-use Rattle.memory.specs.laws.Open.{virtuals-count, virtuals-get}
+use Rattle.open_graph.specs.laws.Open.{virtuals-count, virtuals-get}
 use Rattle.distance.specs.Graph.{WellFormed, Positive, Virtual}
 use Rattle.distance.specs.Distance.{unreachable, dist}
 use Rattle.distance.specs.Nearest.{VirtualInReach}
@@ -24,7 +24,7 @@ use Rattle.distance.specs.Reach.{HasMark}
 use Rattle.distance.specs.Table.{share}
 use Rattle.table_check.specs.Handed.{distanceOf, distanceIn, rowOf}
 use Rattle.table_check.specs.Verdict.{distancesInRange}
-use Rattle.table_check.specs.Tests.{nearIn, acrossIn, weightIn, marked, coversAt, coverMarks, coveredBy, certified, pairAt, virtualAt, sideAt, freeAt, rowRight, rowsRight, positiveIn, allMarked, tested}
+use Rattle.table_check.specs.Tests.{nearIn, acrossIn, weightIn, marked, coversAt, coverMarks, coveredBy, certified, defectPairAt, virtualPairAt, sideAt, freeAt, rowRight, rowsRight, positiveIn, allMarked, tested}
 use Rattle.table_check.specs.laws.Words.{distance-outside}
 use Rattle.table_check.specs.laws.Marks.{marked-has, not-marked, no-marks, marks-length, marks-there, marks-kept, marks-from}
 use Rattle.table_check.specs.laws.Wiring.{graphIn, sides-are, size-is, near-is, weight-is, virtual-member, member-virtual}
@@ -152,15 +152,15 @@ module _ (v e : ℕ) (edges virtuals defects duals growths distances : List ℤ)
           (and-left x y r, and-right x y r)
 
       row : (i : ℕ) → i < length defects → (certified v e edges (wordAt defects i) (given i) ≡ true)
-          × (allBelow (pairAt defects duals (given i) i) (length defects) ≡ true)
-          × (allBelow (virtualAt virtuals (given i) (wordAt duals i)) (length virtuals) ≡ true)
+          × (allBelow (defectPairAt defects duals (given i) i) (length defects) ≡ true)
+          × (allBelow (virtualPairAt virtuals (given i) (wordAt duals i)) (length virtuals) ≡ true)
           × (allBelow (sideAt edges growths (given i) (wordAt duals i)) (2 * e) ≡ true)
       unfolding rowRight
       row i h =
           let r = all-below-at (λ i. rowRight v e edges virtuals defects duals growths (given i) i) (length defects) i (rows .0) h in
           let x = certified v e edges (wordAt defects i) (given i) in
-          let y = allBelow (pairAt defects duals (given i) i) (length defects) in
-          let z = allBelow (virtualAt virtuals (given i) (wordAt duals i)) (length virtuals) in
+          let y = allBelow (defectPairAt defects duals (given i) i) (length defects) in
+          let z = allBelow (virtualPairAt virtuals (given i) (wordAt duals i)) (length virtuals) in
           let w = allBelow (sideAt edges growths (given i) (wordAt duals i)) (2 * e) in
           let r₂ = and-right x (y && (z && w)) r in
           let r₃ = and-right y (z && w) r₂ in
@@ -173,23 +173,23 @@ module _ (v e : ℕ) (edges virtuals defects duals growths distances : List ℤ)
 
       pairs' : (i j : ℕ) → i < length defects → j < length defects → i ≢ j
           → wordAt duals i + wordAt duals j ≤ dist (graphIn v edges virtuals) (wordAt defects i) (wordAt defects j)
-      unfolding pairAt
+      unfolding defectPairAt
       pairs' i j h k q =
           or-cases (eqb i j) (leb (wordAt duals i + wordAt duals j) (given i (wordAt defects j)))
-          (all-below-at (pairAt defects duals (given i) i) (length defects) j (row i h .1) k)
+          (all-below-at (defectPairAt defects duals (given i) i) (length defects) j (row i h .1) k)
           (λ z. absurd (q (eqb-true i j z)))
           (λ z. rw (← is i h (wordAt defects j)) (leb-true _ _ z))
 
       far' : (i a : ℕ) → i < length defects → a < v → Virtual (graphIn v edges virtuals) a
           → wordAt duals i ≤ dist (graphIn v edges virtuals) (wordAt defects i) a
-      unfolding virtualAt
+      unfolding virtualPairAt
       far' i a h l w =
           let p = place-of a (virtualsFrom virtuals) (virtual-member v edges virtuals a l w) in
           let q : wordAt virtuals (p .0) ≡ a = sym (virtuals-get virtuals (p .0)) ∙ p .2 in
           let k : p .0 < length virtuals = rw (virtuals-count virtuals) at (p .1) in
           rw (← is i h a, ← q)
           (leb-true (wordAt duals i) (given i (wordAt virtuals (p .0)))
-          (all-below-at (virtualAt virtuals (given i) (wordAt duals i)) (length virtuals) (p .0) (row i h .2) k))
+          (all-below-at (virtualPairAt virtuals (given i) (wordAt duals i)) (length virtuals) (p .0) (row i h .2) k))
 
       covered' : (i s : ℕ) → i < length defects → s < 2 * e → given i (nearIn edges s) < wordAt duals i
           → wordAt growths s ≡ share (wordAt duals i) (given i (nearIn edges s)) (given i (acrossIn edges s)) (weightIn edges s)
@@ -225,23 +225,24 @@ module _ (v e : ℕ) (edges virtuals defects duals growths distances : List ℤ)
 
     module _ (f : Facts) where
       row-passes : (i : ℕ) → i < length defects → rowRight v e edges virtuals defects duals growths (given i) i ≡ true
-      unfolding rowRight pairAt virtualAt sideAt
+      unfolding rowRight defectPairAt virtualPairAt sideAt
       row-passes i h =
           both (certified v e edges (wordAt defects i) (given i)) _
           (shortest-certified v e edges virtuals (acc .edge-count) ok (acc .v-max) (wordAt defects i) (defect-in i h) (given i) (λ u l. f .shortest i u h l))
-          (both (allBelow (pairAt defects duals (given i) i) (length defects)) _ (all-below-from (pairAt defects duals (given i) i) (length defects) pair)
-          (both (allBelow (virtualAt virtuals (given i) (wordAt duals i)) (length virtuals)) _
-          (all-below-from (virtualAt virtuals (given i) (wordAt duals i)) (length virtuals) apart)
+          (both (allBelow (defectPairAt defects duals (given i) i) (length defects)) _
+          (all-below-from (defectPairAt defects duals (given i) i) (length defects) pair)
+          (both (allBelow (virtualPairAt virtuals (given i) (wordAt duals i)) (length virtuals)) _
+          (all-below-from (virtualPairAt virtuals (given i) (wordAt duals i)) (length virtuals) apart)
           (all-below-from (sideAt edges growths (given i) (wordAt duals i)) (2 * e) side)))
         where
-          pair : (j : ℕ) → j < length defects → pairAt defects duals (given i) i j ≡ true
+          pair : (j : ℕ) → j < length defects → defectPairAt defects duals (given i) i j ≡ true
           pair j k =
               (by-cases (ℕ-discrete i j) (λ q. or-left _ _ (eq-eqb i j q))
               (λ q. or-right (eqb i j) _
               (le-leb (wordAt duals i + wordAt duals j) (given i (wordAt defects j))
               (rw (f .shortest i (wordAt defects j) h (defect-in j k)) (f .pairs i j h k q)))))
 
-          apart : (k : ℕ) → k < length virtuals → virtualAt virtuals (given i) (wordAt duals i) k ≡ true
+          apart : (k : ℕ) → k < length virtuals → virtualPairAt virtuals (given i) (wordAt duals i) k ≡ true
           apart k l =
               let k' : k < length (virtualsFrom virtuals) = rw (virtuals-count virtuals) l in
               let z : getD (virtualsFrom virtuals) k 0 ≡ wordAt virtuals k = virtuals-get virtuals k in

@@ -10,7 +10,7 @@ use lib.ListN.{length, getD}
 use borrow.Author.Tests.{eq-eqb, ne-eqb, eqb-true}
 use Rattle.graph.specs.Basic.{member, distinct}
 use Rattle.graph.specs.laws.Members.{by-test, clash, member-nil, member-cons, member-at, distinct-head, distinct-tail}
-use Rattle.table_check.specs.Verdict.{dualOf}
+use Rattle.table_check.specs.Verdict.{givenDualOf}
 
 -- an entry has a place
 pub place-of : (x : ℕ) (l : List ℕ) → member x l ≡ true → (i : ℕ) × (i < length l) × (getD l i 0 ≡ x)
@@ -26,8 +26,8 @@ apart-places (x ∷ l) d (suc i) zero h k n e = clash (member x l) (rw e at (mem
 apart-places (x ∷ l) d (suc i) (suc j) h k n e = apart-places l (distinct-tail x l d) i j (omega arith) (omega arith) (λ q. n (ap suc q)) e
 
 -- the dual variable of the vertex of defect i is that of the defect
-pub dual-of-defect : (xs ys : List ℕ) → distinct xs ≡ true → length ys ≡ length xs → (i : ℕ) → i < length xs → dualOf xs ys (getD xs i 0) ≡ getD ys i 0
-unfolding dualOf
+pub dual-of-defect : (xs ys : List ℕ) → distinct xs ≡ true → length ys ≡ length xs → (i : ℕ) → i < length xs → givenDualOf xs ys (getD xs i 0) ≡ getD ys i 0
+unfolding givenDualOf
 dual-of-defect [] ys d n i h = absurd (omega arith)
 dual-of-defect (x ∷ xs) [] d n i h = absurd (omega arith)
 dual-of-defect (x ∷ xs) (y ∷ ys) d n zero h = rw (eq-eqb x x refl)
@@ -37,9 +37,9 @@ dual-of-defect (x ∷ xs) (y ∷ ys) d n (suc i) h =
     rw (ne-eqb (getD xs i 0) x q) ih
 
 -- a vertex whose dual variable is above 0 is that of a defect
-pub defect-of-dual : (xs ys : List ℕ) (a : ℕ) → length ys ≡ length xs → 0 < dualOf xs ys a
-    → (i : ℕ) × (i < length xs) × (getD xs i 0 ≡ a) × (getD ys i 0 ≡ dualOf xs ys a)
-unfolding dualOf
+pub defect-of-dual : (xs ys : List ℕ) (a : ℕ) → length ys ≡ length xs → 0 < givenDualOf xs ys a
+    → (i : ℕ) × (i < length xs) × (getD xs i 0 ≡ a) × (getD ys i 0 ≡ givenDualOf xs ys a)
+unfolding givenDualOf
 defect-of-dual [] ys a n h = absurd (omega arith)
 defect-of-dual (x ∷ xs) [] a n h = absurd (omega arith)
 defect-of-dual (x ∷ xs) (y ∷ ys) a n h =

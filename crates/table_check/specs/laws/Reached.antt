@@ -15,12 +15,12 @@ use Rattle.graph.specs.Word.{wordAt}
 use Rattle.graph.specs.Opening.{edgesIn, virtualsFrom}
 use Rattle.graph.specs.laws.State.{and-left, and-right}
 use Rattle.graph.specs.laws.Members.{by-test, clash, member-at, all-at, all-below-at, all-below-from}
-use Rattle.distance.specs.Graph.{Graph, WellFormed, Virtual, sides, near, across, trivial}
+use Rattle.distance.specs.Graph.{WeightedGraph, WellFormed, Virtual, sides, near, across, trivial}
 use Rattle.distance.specs.Nearest.{ReachesVirtual, VirtualInReach}
 use Rattle.distance.specs.Reach.{HasMark, ReachMarks, AllSpread}
 use Rattle.distance.specs.Theorems.{mark-spreads, marks-tell-reach}
 use Rattle.distance.specs.laws.Side.{across-placed}
-use Rattle.memory.specs.laws.Open.{virtuals-count, virtuals-get}
+use Rattle.open_graph.specs.laws.Open.{virtuals-count, virtuals-get}
 use Rattle.table_check.specs.Tests.{nearIn, acrossIn, marked, markIf, marksBy, spreadsAt, spreadSide, spreadSides, spreadNew, spreadUntil, virtualMarks, allMarked}
 use Rattle.table_check.specs.laws.Marks.{marked-has, has-marked, not-marked, no-marks, marks-length, marks-there, marks-from, countMarks, count-new, count-full}
 use Rattle.table_check.specs.laws.Wiring.{graphIn, sides-are, size-is, near-is, across-is, virtual-member, member-virtual}
@@ -28,7 +28,7 @@ use Rattle.table_check.specs.laws.Members.{place-of}
 
 module _ (v e : ℕ) (edges virtuals : List ℤ) (count : edgesIn edges ≡ e) (ok : WellFormed (graphIn v edges virtuals))
     (inside : all (λ x. ltb x v) (virtualsFrom virtuals) ≡ true) where
-  g : Graph
+  g : WeightedGraph
   g = graphIn v edges virtuals
 
   -- ---- at first

@@ -18,7 +18,7 @@ use Rattle.graph.specs.laws.State.{and-left, and-right}
 use Rattle.graph.specs.laws.Shape.{same-refl, same-eq}
 use Rattle.graph.specs.laws.Opened.{getD-tabled}
 use Rattle.graph.specs.laws.Members.{both, or-cases, or-left, or-right, all-at, all-below-at, all-below-from, length-below}
-use Rattle.distance.specs.Graph.{Graph, WellFormed, Virtual, sides, near, weight}
+use Rattle.distance.specs.Graph.{WeightedGraph, WellFormed, Virtual, sides, near, weight}
 use Rattle.distance.specs.Distance.{unreachable, dist}
 use Rattle.distance.specs.Nearest.{nearestVirtual}
 use Rattle.distance.specs.Table.{dual, Covers, share, growth, tableFromDistances}
@@ -28,7 +28,7 @@ use Rattle.distance.specs.laws.Distance.{unreachable-is}
 use Rattle.distance.specs.laws.Table.{length-tableFromDistances, at-tableFromDistances}
 use Rattle.distance.specs.laws.Side.{across-placed}
 use Rattle.table_check.specs.Handed.{distanceIn, rowOf, Handed, handed}
-use Rattle.table_check.specs.Verdict.{defectAt, dualAt, defectCount, dualOf, dualsByVertex, positive, inReach, shortest, pairsFeasible, virtualsFeasible, tableAfresh, right, Right}
+use Rattle.table_check.specs.Verdict.{givenDefectAt, givenDualAt, defectCount, givenDualOf, dualsByVertex, positive, inReach, shortest, pairsFeasible, virtualsFeasible, tableAfresh, right, Right}
 use Rattle.table_check.specs.Tests.{nearIn, acrossIn, weightIn, tested}
 use Rattle.table_check.specs.laws.Choice.{test-same}
 use Rattle.table_check.specs.laws.Words.{numbers-at, numbers-long}
@@ -39,8 +39,8 @@ use Rattle.table_check.specs.laws.Facts.{Facts, given, defect-in, find-b
 
 -- ---- the definition, as facts
 
-module _ (h : Handed) (ok : WellFormed (h .graph)) (inside : (i : ℕ) → i < defectCount h → defectAt h i < h .graph .size)
-    (bounded : (i : ℕ) → dualAt h i ≤ dualLimit) where
+module _ (h : Handed) (ok : WellFormed (h .graph)) (inside : (i : ℕ) → i < defectCount h → givenDefectAt h i < h .graph .size)
+    (bounded : (i : ℕ) → givenDualAt h i ≤ dualLimit) where
   pub right-holds : right h ≡ true → Right h
   unfolding right positive inReach shortest pairsFeasible virtualsFeasible tableAfresh
   right-holds t =
@@ -60,19 +60,22 @@ module _ (h : Handed) (ok : WellFormed (h .graph)) (inside : (i : ℕ) → i < d
         virtual-in-reach = λ u l. nearest-virtual-in-reach g ok u l .0
             (ltb-true (nearestVirtual g u) unreachable
             (all-below-at (λ u. ltb (nearestVirtual g u) unreachable) (g .size) u (and-left b (c && (d && (x && y))) t₂) l));
-        shortest-distances = λ i u k l. eqb-true (h .distance i u) (dist g (defectAt h i) u)
-            (all-below-at (λ u. eqb (h .distance i u) (dist g (defectAt h i) u)) (g .size) u
-            (all-below-at (λ i. allBelow (λ u. eqb (h .distance i u) (dist g (defectAt h i) u)) (g .size)) (defectCount h) i
+        shortest-distances = λ i u k l. eqb-true (h .distance i u) (dist g (givenDefectAt h i) u)
+            (all-below-at (λ u. eqb (h .distance i u) (dist g (givenDefectAt h i) u)) (g .size) u
+            (all-below-at (λ i. allBelow (λ u. eqb (h .distance i u) (dist g (givenDefectAt h i) u)) (g .size)) (defectCount h) i
             (and-left c (d && (x && y)) t₃) k) l);
-        pairs = λ i j k l q r. or-cases (eqb i j) (leb (dualAt h i + dualAt h j) (dist g (defectAt h i) (defectAt h j)))
-            (all-below-at (λ j. eqb i j || leb (dualAt h i + dualAt h j) (dist g (defectAt h i) (defectAt h j))) (defectCount h) j
-            (all-below-at (λ i. allBelow (λ j. eqb i j || leb (dualAt h i + dualAt h j) (dist g (defectAt h i) (defectAt h j))) (defectCount h))
+        pairs = λ i j k l q r. or-cases (eqb i j) (leb (givenDualAt h i + givenDualAt h j) (dist g (givenDefectAt h i) (givenDefectAt h j)))
+            (all-below-at (λ j. eqb i j || leb (givenDualAt h i + givenDualAt h j) (dist g (givenDefectAt h i) (givenDefectAt h j))) (defectCount h) j
+            (all-below-at
+            (λ i. allBelow
+            (λ j. eqb i j || leb (givenDualAt h i + givenDualAt h j) (dist g (givenDefectAt h i) (givenDefectAt h j)))
+            (defectCount h))
             (defectCount h) i
             (and-left d (x && y) t₄) k) l)
             (λ z. absurd (q (eqb-true i j z)))
-            (λ z. leb-true (dualAt h i + dualAt h j) (dist g (defectAt h i) (defectAt h j)) z);
-        virtuals = λ i k. leb-true (dualAt h i) (nearestVirtual g (defectAt h i))
-            (all-below-at (λ i. leb (dualAt h i) (nearestVirtual g (defectAt h i))) (defectCount h) i (and-left x y t₅) k);
+            (λ z. leb-true (givenDualAt h i + givenDualAt h j) (dist g (givenDefectAt h i) (givenDefectAt h j)) z);
+        virtuals = λ i k. leb-true (givenDualAt h i) (nearestVirtual g (givenDefectAt h i))
+            (all-below-at (λ i. leb (givenDualAt h i) (nearestVirtual g (givenDefectAt h i))) (defectCount h) i (and-left x y t₅) k);
         table = same-eq (h .growths) (tableFromDistances g (dualsByVertex h)) (and-right x y t₅);
       }
 
@@ -90,32 +93,40 @@ module _ (h : Handed) (ok : WellFormed (h .graph)) (inside : (i : ℕ) → i < d
     c-holds : shortest h ≡ true
     unfolding shortest
     c-holds =
-        all-below-from (λ i. allBelow (λ u. eqb (h .distance i u) (dist (h .graph) (defectAt h i) u)) (h .graph .size)) (defectCount h)
-        (λ i k. all-below-from (λ u. eqb (h .distance i u) (dist (h .graph) (defectAt h i) u)) (h .graph .size)
-        (λ u l. eq-eqb (h .distance i u) (dist (h .graph) (defectAt h i) u) (r .shortest-distances i u k l)))
+        all-below-from (λ i. allBelow (λ u. eqb (h .distance i u) (dist (h .graph) (givenDefectAt h i) u)) (h .graph .size)) (defectCount h)
+        (λ i k. all-below-from (λ u. eqb (h .distance i u) (dist (h .graph) (givenDefectAt h i) u)) (h .graph .size)
+        (λ u l. eq-eqb (h .distance i u) (dist (h .graph) (givenDefectAt h i) u) (r .shortest-distances i u k l)))
 
     -- a pair without a way is free
-    pair-holds : (i j : ℕ) → i < defectCount h → j < defectCount h → i ≢ j → dualAt h i + dualAt h j ≤ dist (h .graph) (defectAt h i) (defectAt h j)
+    pair-holds : (i j : ℕ) → i < defectCount h → j < defectCount h → i ≢ j
+        → givenDualAt h i + givenDualAt h j ≤ dist (h .graph) (givenDefectAt h i) (givenDefectAt h j)
     pair-holds i j k l q =
-        by-cases (decLt (dist (h .graph) (defectAt h i) (defectAt h j)) unreachable) (λ z. r .pairs i j k l q z)
+        by-cases (decLt (dist (h .graph) (givenDefectAt h i) (givenDefectAt h j)) unreachable) (λ z. r .pairs i j k l q z)
         (λ z. omega (arith, bounded i, bounded j, unreachable-is))
 
     d-holds : pairsFeasible h ≡ true
     unfolding pairsFeasible
     d-holds =
-        all-below-from (λ i. allBelow (λ j. eqb i j || leb (dualAt h i + dualAt h j) (dist (h .graph) (defectAt h i) (defectAt h j))) (defectCount h))
+        all-below-from
+        (λ i. allBelow
+        (λ j. eqb i j
+        || leb (givenDualAt h i + givenDualAt h j) (dist (h .graph) (givenDefectAt h i) (givenDefectAt h j)))
+        (defectCount h))
         (defectCount h)
-        (λ i k. all-below-from (λ j. eqb i j || leb (dualAt h i + dualAt h j) (dist (h .graph) (defectAt h i) (defectAt h j))) (defectCount h)
+        (λ i k. all-below-from
+        (λ j. eqb i j
+        || leb (givenDualAt h i + givenDualAt h j) (dist (h .graph) (givenDefectAt h i) (givenDefectAt h j)))
+        (defectCount h)
         (λ j l. by-cases (ℕ-discrete i j)
-        (λ q. or-left (eqb i j) (leb (dualAt h i + dualAt h j) (dist (h .graph) (defectAt h i) (defectAt h j))) (eq-eqb i j q))
-        (λ q. or-right (eqb i j) (leb (dualAt h i + dualAt h j) (dist (h .graph) (defectAt h i) (defectAt h j)))
-        (le-leb (dualAt h i + dualAt h j) (dist (h .graph) (defectAt h i) (defectAt h j)) (pair-holds i j k l q)))))
+        (λ q. or-left (eqb i j) (leb (givenDualAt h i + givenDualAt h j) (dist (h .graph) (givenDefectAt h i) (givenDefectAt h j))) (eq-eqb i j q))
+        (λ q. or-right (eqb i j) (leb (givenDualAt h i + givenDualAt h j) (dist (h .graph) (givenDefectAt h i) (givenDefectAt h j)))
+        (le-leb (givenDualAt h i + givenDualAt h j) (dist (h .graph) (givenDefectAt h i) (givenDefectAt h j)) (pair-holds i j k l q)))))
 
     x-holds : virtualsFeasible h ≡ true
     unfolding virtualsFeasible
     x-holds =
-        all-below-from (λ i. leb (dualAt h i) (nearestVirtual (h .graph) (defectAt h i))) (defectCount h)
-        (λ i k. le-leb (dualAt h i) (nearestVirtual (h .graph) (defectAt h i)) (r .virtuals i k))
+        all-below-from (λ i. leb (givenDualAt h i) (nearestVirtual (h .graph) (givenDefectAt h i))) (defectCount h)
+        (λ i k. le-leb (givenDualAt h i) (nearestVirtual (h .graph) (givenDefectAt h i)) (r .virtuals i k))
 
     y-holds : tableAfresh h ≡ true
     unfolding tableAfresh
@@ -132,7 +143,7 @@ module _ (h : Handed) (ok : WellFormed (h .graph)) (inside : (i : ℕ) → i < d
 -- ---- right and the facts
 
 module _ (v e : ℕ) (edges virtuals defects duals growths distances : List ℤ) (acc : Accepted v e edges virtuals defects duals growths distances) where
-  abbrev g : Graph
+  abbrev g : WeightedGraph
   g = graphIn v edges virtuals
 
   -- what was handed over
@@ -155,16 +166,16 @@ module _ (v e : ℕ) (edges virtuals defects duals growths distances : List ℤ)
   counted : defectCount h ≡ length defects
   counted = numbers-long defects
 
-  defect-is : (i : ℕ) → defectAt h i ≡ wordAt defects i
+  defect-is : (i : ℕ) → givenDefectAt h i ≡ wordAt defects i
   defect-is i = numbers-at defects i
 
-  dual-is : (i : ℕ) → dualAt h i ≡ wordAt duals i
+  dual-is : (i : ℕ) → givenDualAt h i ≡ wordAt duals i
   dual-is i = numbers-at duals i
 
   defect-placed : (i : ℕ) → i < length defects → wordAt defects i < graphIn v edges virtuals .size
   defect-placed i k = rw size (defect-in v e edges virtuals defects duals growths distances acc i k)
 
-  dual-bounded : (i : ℕ) → dualAt h i ≤ dualLimit
+  dual-bounded : (i : ℕ) → givenDualAt h i ≤ dualLimit
   dual-bounded i =
       by-cases (decLt i (length (map toNat duals)))
       (λ l. leb-true (getD (map toNat duals) i 0) dualLimit (all-at (λ x. leb x dualLimit) (map toNat duals) i (acc .duals-ok) l))
@@ -175,21 +186,21 @@ module _ (v e : ℕ) (edges virtuals defects duals growths distances : List ℤ)
 
   -- ---- dual variables by vertex
 
-  by-vertex : (a : ℕ) → a < v → dual (dualsByVertex h) a ≡ dualOf (map toNat defects) (map toNat duals) a
+  by-vertex : (a : ℕ) → a < v → dual (dualsByVertex h) a ≡ givenDualOf (map toNat defects) (map toNat duals) a
   unfolding dualsByVertex
-  by-vertex a l = getD-tabled (dualOf (map toNat defects) (map toNat duals)) (graphIn v edges virtuals .size) a 0 (rw size l)
+  by-vertex a l = getD-tabled (givenDualOf (map toNat defects) (map toNat duals)) (graphIn v edges virtuals .size) a 0 (rw size l)
 
   vertices-long : length (dualsByVertex h) ≡ graphIn v edges virtuals .size
   unfolding dualsByVertex
   vertices-long =
-      length-map (below (graphIn v edges virtuals .size)) (dualOf (map toNat defects) (map toNat duals))
+      length-map (below (graphIn v edges virtuals .size)) (givenDualOf (map toNat defects) (map toNat duals))
       ∙ length-below (graphIn v edges virtuals .size)
 
   -- of a defect
   of-defect : (i : ℕ) → i < length defects → dual (dualsByVertex h) (wordAt defects i) ≡ wordAt duals i
   of-defect i k =
       by-vertex (wordAt defects i) (defect-in v e edges virtuals defects duals growths distances acc i k)
-      ∙ ap (dualOf (map toNat defects) (map toNat duals)) (sym (defect-is i))
+      ∙ ap (givenDualOf (map toNat defects) (map toNat duals)) (sym (defect-is i))
       ∙ dual-of-defect (map toNat defects) (map toNat duals) (acc .defects-once) same-count i (rw (numbers-long defects) k)
       ∙ dual-is i
 
@@ -368,7 +379,7 @@ module _ (v e : ℕ) (edges virtuals defects duals growths distances : List ℤ)
 
   -- ---- the code's tests and the definition
 
-  defects-placed : (i : ℕ) → i < defectCount h → defectAt h i < graphIn v edges virtuals .size
+  defects-placed : (i : ℕ) → i < defectCount h → givenDefectAt h i < graphIn v edges virtuals .size
   defects-placed i k = rw (defect-is i) (defect-placed i (rw counted at k))
 
   pub exactly : (right (handed v edges virtuals defects duals growths distances) ≡ true) ↔ Right (handed v edges virtuals defects duals growths distances)

@@ -13,8 +13,8 @@ use Rattle.graph.specs.laws.State.{by-parity}
 use Rattle.graph.specs.laws.Shape.{length-ends}
 use Rattle.graph.specs.laws.Opened.{getD-any, getD-tabled}
 use Rattle.graph.specs.laws.Members.{by-test}
-use Rattle.memory.specs.laws.Open.{edges-count, edges-get}
-use Rattle.distance.specs.Graph.{Graph, Virtual, sides, opposite, near, across, weight}
+use Rattle.open_graph.specs.laws.Open.{edges-count, edges-get}
+use Rattle.distance.specs.Graph.{WeightedGraph, Virtual, sides, otherSide, near, across, weight}
 use Rattle.opened_graph.specs.OpenedGraph.{openedGraph}
 use Rattle.table_check.specs.Tests.{nearIn, acrossIn, weightIn}
 
@@ -31,7 +31,7 @@ ends-right (e ∷ es) zero d h = refl
 ends-right (e ∷ es) (suc i) d h = let q : 2 * suc i + 1 ≡ suc (suc (2 * i + 1)) = omega arith in rw q (ends-right es i d (omega arith))
 
 -- the graph that the words of edges and virtual vertices give
-abbrev pub graphIn : ℕ → (edges virtuals : List ℤ) → Graph
+abbrev pub graphIn : ℕ → (edges virtuals : List ℤ) → WeightedGraph
 graphIn v edges virtuals = openedGraph v (edgesFrom edges) (virtualsFrom virtuals)
 
 module _ (v e : ℕ) (edges virtuals : List ℤ) (count : edgesIn edges ≡ e) where
@@ -65,7 +65,7 @@ module _ (v e : ℕ) (edges virtuals : List ℤ) (count : edgesIn edges ≡ e) w
         rw r (rw q at (right-is (s / 2) (omega arith))))
 
     pub across-is : across (graphIn v edges virtuals) s ≡ acrossIn edges s
-    unfolding across acrossIn opposite openedGraph
+    unfolding across acrossIn otherSide openedGraph
     across-is =
         by-parity (getD (endsOf (edgesFrom edges)) (s + 1 - 2 * (s % 2)) 0 ≡ givenAt edges (3 * (s / 2) + (1 - s % 2))) s
         (λ p. let q : 2 * (s / 2) + 1 ≡ s + 1 - 2 * (s % 2) = omega arith in let r : 3 * (s / 2) + (1 - s % 2) ≡ 3 * (s / 2) + 1 = omega arith in

@@ -1,28 +1,27 @@
 -- The clauses of the claim, from the laws of each kind of list.
-use Prim.Native.Nat.{ℕ, _*_, _<_}
+use Prim.Native.Nat.{ℕ, _*_}
 use native.Mathlib.Omega.{arith}
 use mathlib.Core.Path.{_≡_, refl, sym, ap, subst, _∙_}
-use mathlib.Core.Bool.{true}
-use mathlib.Core.List.{List, [], map}
-use lib.IntN.{ℤ, pos}
+use mathlib.Core.List.{List, map}
+use lib.IntN.{pos}
 use lib.ListN.{length}
 use Rattle.graph.specs.Open.{Edge}
 use Rattle.graph.specs.State.{State}
 use Rattle.graph.specs.laws.Shape.{length-ends}
-use Rattle.lent.specs.Called.{TableRead}
+use Rattle.dual_module.specs.Called.{TableRead}
 use Rattle.distance.specs.Graph.{sides, WellFormed}
 use Rattle.distance.specs.Feasible.{Feasible}
 use Rattle.distance.specs.Theorems.{distance-is-shortest, unreachable-without-walk, unreachable-above-duals, one-defect-covers, growth-where-covered, growth-where-free}
 use Rattle.distance.specs.laws.Table.{length-tableFromDistances, at-tableFromDistances}
 use Rattle.opened_graph.specs.OpenedGraph.{openedGraph, SameVertices}
-use Rattle.table.specs.History.{History, dualAt, natural, dualsOf, historyAfter, noBlossoms}
-use Rattle.table.specs.laws.Duals.{at-duals}
+use Rattle.table_theorem.specs.History.{History, dualAt, natural, dualsOf, historyAfter, noBlossoms}
+use Rattle.table_theorem.specs.laws.Duals.{at-duals}
 use Rattle.table_claim.specs.Run.{fed, LentRun, runCalls, lentHistory, WithoutBlossoms}
 use Rattle.table_claim.specs.Hosted.{HostExchange, reportedFrom, HostRun, hostSizes, hostStart, hostCalls, hostHistory, BlossomsRefused}
 use Rattle.table_claim.specs.Reading.{growthsIn}
 use Rattle.table_claim.specs.Tables.{historyAt}
 use Rattle.table_claim.specs.Demand3.{Suitable, afresh, WorkedOut, AfterCalls, EqualTables, AfterExported, EqualExported, Demand3}
-use Rattle.table_claim.specs.Printed.{printed-on-graph, printed-growths-are-from-distances, printed-tables-equal-exactly-when-duals-are, written-table-is-from-distances, written-table-is-read-back}
+use Rattle.table_claim.specs.PrintedTheorems.{printed-on-graph, printed-growths-are-from-distances, printed-tables-equal-exactly-when-duals-are, written-table-is-from-distances, written-table-is-read-back}
 use Rattle.table_claim.specs.laws.EveryRun.{first-state, first-whole, list-answer, last-history}
 use Rattle.table_claim.specs.laws.Lent.{lent-formed, lent-carries, lent-natural, lent-feasible, lent-table, lent-tables-tell-carried}
 use Rattle.table_claim.specs.laws.Hosted.{host-steps, told-done, done-told, host-reports, lentOf}

@@ -14,16 +14,17 @@ use Rattle.graph.specs.Opening.{fits, openedWords}
 use Rattle.graph.specs.Layout.{stateOf, sized, blockSound, memoryRefusal, listRefusal}
 use Rattle.graph.specs.Form.{Formed}
 use Rattle.graph.specs.laws.Members.{by-test, clash}
-use Rattle.graph.specs.laws.Opened.{Accepted, accepted}
-use Rattle.memory.specs.laws.OpenedBlock.{opened-length, opened-state, opened-formed, opened-block}
-use Rattle.memory.specs.laws.Join.{numbers-plain}
-use Rattle.sound.specs.laws.Whole.{formed-sized, formed-sound}
-use Rattle.length.specs.declared.Answer.{Answer}
-use Rattle.length.specs.declared.Answer.the-variants.{Done}
-use Rattle.length.specs.Answer.{says}
+use Rattle.graph.specs.laws.Opened.{accepted}
+use Rattle.graph.specs.inner.Opened.{OpeningAccepted}
+use Rattle.open_graph.specs.laws.OpenedBlock.{opened-length, opened-state, opened-formed, opened-block}
+use Rattle.open_graph.specs.laws.Join.{numbers-plain}
+use Rattle.memory_tests.specs.laws.Whole.{formed-sized, formed-sound}
+use Rattle.update_length.specs.declared.Answer.{Answer}
+use Rattle.update_length.specs.declared.Answer.the-variants.{Done}
+use Rattle.update_length.specs.Answer.{says}
 use Rattle.calls.specs.Refuse.{unless}
 use Rattle.calls.specs.Calls.{growthTable, maxUpdateLength}
-use Rattle.lent.specs.Called.{LengthCalled, ListRead, TableRead}
+use Rattle.dual_module.specs.Called.{LengthCalled, ListRead, TableRead}
 use Rattle.reachable.specs.Reachable.{after}
 use Rattle.reachable.specs.Past.{PastInvariant}
 use Rattle.reachable.specs.laws.past.Calls.{opened-past}
@@ -31,14 +32,12 @@ use Rattle.distance.specs.Table.{tableFromDistances}
 use Rattle.distance.specs.Feasible.{Feasible}
 use Rattle.distance.specs.Nearest.{ReachesVirtual}
 use Rattle.opened_graph.specs.OpenedGraph.{openedGraph, SameVertices, PositiveWeights}
-use Rattle.table.specs.Answers.{accepted as isAccepted, isDone}
-use Rattle.table.specs.History.{History, dualAt, dualsOf, recorded, historyFrom}
-use Rattle.table.specs.Runs.{Run, end, SameNodes}
-use Rattle.table.specs.laws.Append.{history-append}
-use Rattle.table.specs.laws.Runs.{end-matches, end-table, end-feasible, tables-tell-duals}
-use Rattle.table_claim.specs.Lent.{LentCall, lentOpen, lentDefect, lentBlossom, lentState, lentPrepare, lentLength, lentGrow, lentTable, lentAdvance, lentContacts, lentVertex, lentClear, lentRenew, lentPrepareAll, lentGroup, lentRound, lentRemove}
-use Rattle.table_claim.specs.Lent.{Returned, Exchange}
-use Rattle.table_claim.specs.Lent.{lentSheet}
+use Rattle.table_theorem.specs.Answers.{accepted as isAccepted, isDone}
+use Rattle.table_theorem.specs.History.{History, dualAt, dualsOf, recorded, historyFrom}
+use Rattle.table_theorem.specs.Runs.{Run, end, SameNodes}
+use Rattle.table_theorem.specs.laws.Append.{history-append}
+use Rattle.table_theorem.specs.laws.Runs.{end-matches, end-table, end-feasible, tables-tell-duals}
+use Rattle.table_claim.specs.Lent.{LentCall, lentOpen, lentDefect, lentBlossom, lentState, lentPrepare, lentLength, lentGrow, lentTable, lentAdvance, lentContacts, lentVertex, lentClear, lentRenew, lentPrepareAll, lentGroup, lentRound, lentRemove, Returned, Exchange, lentSheet}
 use Rattle.table_claim.specs.Run.{Sizes, scratchFits, listFits, callsOf, fedOne, fed, orRefused, returned, returnedFrom, answerIn, recordedBy, historyBy, LentRun, runSizes, runStart, runCalls, lentHistory, WithoutBlossoms, trialFits, groupFits}
 use Rattle.table_claim.specs.laws.Steps.{Whole, whole-sound, memory-fits, list-fits, Follows, follows-whole, steps-follow, steps-return}
 
@@ -105,11 +104,13 @@ module _ {v : ℕ} {edges : List Edge} {virtuals : List ℕ} (r : LentRun v edge
   pub opening-accepted : openRefusal v (r .edgeNumber) (r .nodeLimit) (r .storeLimit) edges virtuals fit ≡ 0
   opening-accepted = rw (r .edges-are, r .virtuals-are) at (sym (r .opening-is .0))
 
-  passed : Accepted v (r .edgeNumber) (r .nodeLimit) (r .storeLimit) edges virtuals fit
+  passed : OpeningAccepted v (r .edgeNumber) (r .nodeLimit) (r .storeLimit) edges virtuals fit
   passed = accepted v (r .edgeNumber) (r .nodeLimit) (r .storeLimit) edges virtuals fit opening-accepted
 
   first-words : r .first ≡ map pos (openedWords v (r .edgeNumber) (r .nodeLimit) (r .storeLimit) edges virtuals)
-  first-words = rw (r .edges-are, r .virtuals-are) at (r .opening-is .1) ∙ opened-block v (r .edgeNumber) (r .nodeLimit) (r .storeLimit) edges virtuals fit (r .before) opening-accepted
+  first-words =
+      rw (r .edges-are, r .virtuals-are) at (r .opening-is .1)
+      ∙ opened-block v (r .edgeNumber) (r .nodeLimit) (r .storeLimit) edges virtuals fit (r .before) opening-accepted
 
   pub first-state : stateOf (r .first) ≡ opened v (r .nodeLimit) (r .storeLimit) edges virtuals
   first-state = ap stateOf first-words ∙ opened-state v (r .edgeNumber) (r .nodeLimit) (r .storeLimit) edges virtuals fit passed
@@ -168,7 +169,16 @@ module _ {v : ℕ} {edges : List Edge} {virtuals : List ℕ} (r : LentRun v edge
   module _ (h : WithoutBlossoms r) where
     -- the run of the definitions
     abbrev pub asRun : Run v edges virtuals
-    asRun = record { edgeNumber = r .edgeNumber; nodeLimit = r .nodeLimit; storeLimit = r .storeLimit; fits = fit; opening = opening-accepted; calls = runCalls r; withoutBlossoms = h }
+    asRun =
+        record {
+          edgeNumber = r .edgeNumber;
+          nodeLimit = r .nodeLimit;
+          storeLimit = r .storeLimit;
+          fits = fit;
+          opening = opening-accepted;
+          calls = runCalls r;
+          withoutBlossoms = h;
+        }
 
     -- a growing length that is told is that of the definitions
     pub last-length : (t b' t' : List ℤ) (n : ℕ) (a : Answer) → scratchFits (runSizes r) t ≡ true → LengthCalled (r .last) t n up true b' t' a
@@ -187,17 +197,21 @@ module _ {v : ℕ} {edges : List Edge} {virtuals : List ℕ} (r : LentRun v edge
     table-words : (t list list' : List ℤ) → TableRead (r .last) t list list' Done → list' ≡ map pos (growthTable (end asRun))
     table-words t list list' p = done-accepted p ∙ ap (λ (c : State). map pos (growthTable c)) last-state
 
-    pub last-table : PositiveWeights edges → (t list list' : List ℤ) → TableRead (r .last) t list list' Done → list' ≡ map pos (tableFromDistances (openedGraph v edges virtuals) (dualsOf v (lentHistory r)))
+    pub last-table : PositiveWeights edges → (t list list' : List ℤ) → TableRead (r .last) t list list' Done
+        → list' ≡ map pos (tableFromDistances (openedGraph v edges virtuals) (dualsOf v (lentHistory r)))
     last-table positive t list list' p = table-words t list list' p ∙ ap (map pos) (end-table asRun positive)
 
 -- ---- two runs on one graph
 
-module _ {v : ℕ} {edges : List Edge} {virtuals others : List ℕ} (same : SameVertices v virtuals others) (positive : PositiveWeights edges) (reach : (a : ℕ) → a < v → ReachesVirtual (openedGraph v edges virtuals) a)
+module _ {v : ℕ} {edges : List Edge} {virtuals others : List ℕ} (same : SameVertices v virtuals others)
+    (positive : PositiveWeights edges) (reach : (a : ℕ) → a < v → ReachesVirtual (openedGraph v edges virtuals) a)
     (r : LentRun v edges virtuals) (s : LentRun v edges others) (hr : WithoutBlossoms r) (hs : WithoutBlossoms s) where
   pub tables-read-tell : (t list list' u other other' : List ℤ) → TableRead (r .last) t list list' Done → TableRead (s .last) u other other' Done
       → (list' ≡ other') ↔ ((a : ℕ) → a < v → dualAt (lentHistory r) a ≡ dualAt (lentHistory s) a)
   tables-read-tell t list list' u other other' p q =
       let tell = tables-tell-duals same positive (asRun r hr) (asRun s hs) reach in (
-        λ e. tell .0 (numbers-same (growthTable (end (asRun r hr))) (growthTable (end (asRun s hs))) (sym (table-words r hr t list list' p) ∙ e ∙ table-words s hs u other other' q)),
+        λ e. tell .0
+            (numbers-same (growthTable (end (asRun r hr))) (growthTable (end (asRun s hs)))
+            (sym (table-words r hr t list list' p) ∙ e ∙ table-words s hs u other other' q)),
         λ f. table-words r hr t list list' p ∙ ap (map pos) (tell .1 f) ∙ sym (table-words s hs u other other' q),
       )

@@ -6,13 +6,13 @@ use mathlib.Core.List.{List, [], _∷_}
 use lib.IntN.{ℤ}
 use lib.ListN.{drop, getD}
 use Rattle.graph.specs.Opening.{edgesFrom, virtualsFrom, OpenCalled}
-use Rattle.host.specs.Words.{answerNumbers, openAnswer, Tells}
-use Rattle.host.specs.Told.{OpenTold}
-use Rattle.host.specs.laws.Words.{told-all}
+use Rattle.c_api.specs.Words.{answerNumbers, openAnswer, Tells}
+use Rattle.c_api.specs.Told.{OpenTold}
+use Rattle.c_api.specs.laws.Words.{told-all}
 use Rattle.sheet.specs.declared.SheetOpened.{SheetOpened}
 use Rattle.sheet.specs.declared.SheetOpened.the-variants.{Opened, Refused}
 use Rattle.sheet.specs.Called.{SheetCalled}
-use Rattle.host_sheet.specs.Told.{sheetNumbers, SheetTold}
+use Rattle.c_api_sheet.specs.Told.{sheetNumbers, SheetTold}
 use Rattle.table_claim.specs.Hosted.{SaysOpened, HostExchange, HostSteps, HostRun}
 
 said-opened : {b t : List ℤ} {v e n l : ℕ} {edges sheet virtuals edges' b' : List ℤ} {list list' : List ℕ} {j : ℕ} (a : SheetOpened)

@@ -1,37 +1,30 @@
 -- Exported calls are calls on lent memory.
 use Prim.Native.Nat.{ℕ, _≤_, _<_}
 use native.Mathlib.Omega.{arith}
-use mathlib.Core.Path.{_≡_, refl, sym, ap, subst, _∙_}
-use mathlib.Core.Bool.{Bool, true, false}
+use mathlib.Core.Path.{_≡_, refl, sym, ap, subst}
+use mathlib.Core.Bool.{true}
 use mathlib.Core.List.{List, [], _∷_, _++_, map}
 use lib.IntN.{ℤ, pos}
-use lib.Dec.{eqb, leb}
+use lib.Dec.{eqb}
 use lib.ListN.{length, drop, getD}
 use borrow.Author.Tests.{eqb-true, leb-true, leb-false}
-use Rattle.graph.specs.Basic.{if_then_else_}
-use Rattle.graph.specs.State.{State}
 use Rattle.graph.specs.Layout.{stateOf}
 use Rattle.graph.specs.Open.{Edge}
 use Rattle.graph.specs.laws.Members.{by-test, clash}
-use Rattle.length.specs.declared.Answer.{Answer}
-use Rattle.length.specs.declared.Answer.the-variants.{NonZeroGrow, Unlimited, Conflicting, TouchingVirtual, BlossomNeedExpand, VertexShrinkStop, VertexShrinkStopPeer, Done, Node, Prepared, Vertex, Refused}
-use Rattle.host.specs.Words.{answerNumbers, openAnswer, openNumbers, countNumbers, shortList, shortCount, Tells, Told}
-use Rattle.table.specs.Answers.{isDone}
+use Rattle.update_length.specs.declared.Answer.{Answer}
+use Rattle.update_length.specs.declared.Answer.the-variants.{NonZeroGrow, Unlimited, Conflicting, TouchingVirtual, BlossomNeedExpand, VertexShrinkStop, VertexShrinkStopPeer, Done, Node, Prepared, Vertex, Refused}
+use Rattle.c_api.specs.Words.{answerNumbers, openAnswer, openNumbers, shortList, shortCount, Tells, Told}
+use Rattle.table_theorem.specs.Answers.{isDone}
 use Rattle.reachable.specs.Reachable.{after}
-use Rattle.table_claim.specs.Lent.{LentCall, Returned, opening, returns, returnsList, returnsCount, Exchange, Step, open-refused, insert-defect, insert-blossom, set-grow-state, prepare, max-update-length, grow, read-table, advance, contacts, representative-vertex, clear, Steps, none, next}
-use Rattle.table_claim.specs.Run.{Sizes, callsOf, fedOne, fed, returned, LentRun, runSizes, runStart}
+use Rattle.table_claim.specs.Lent.{LentCall, Returned, opening, returns, returnsList, returnsCount, Exchange, Step, open-refused, insert-defect, insert-blossom, set-grow-state, prepare, max-update-length, grow, read-table, advance, contacts, representative-vertex, clear, Steps, none, next, lentSheet, openingSheet, sheet-refused, renew-active-list, prepare-all, group-length, round, remove-blossom, returnsGroup}
+use Rattle.table_claim.specs.Run.{Sizes, callsOf, fedOne, returned, LentRun}
 use Rattle.table_claim.specs.Hosted
-use Rattle.table_claim.specs.Hosted.{SaysDone, Reported, HostStep, fb-open, fb-insert-defect, fb-insert-blossom, fb-set-grow-state, fb-prepare, fb-max-update-length, fb-grow, fb-advance, fb-clear, fb-representative-vertex, fb-read-table, fb-contacts}
-use Rattle.table_claim.specs.Hosted.{HostExchange, HostSteps, no-more, one-more, hasRoom, made, numbersIn, wordsIn, lentWords, reported, reportedFrom, HostRun, hostSizes, hostStart}
+use Rattle.table_claim.specs.Hosted.{SaysDone, Reported, HostStep, fb-open, fb-insert-defect, fb-insert-blossom, fb-set-grow-state, fb-prepare, fb-max-update-length, fb-grow, fb-advance, fb-clear, fb-representative-vertex, fb-read-table, fb-contacts, HostExchange, HostSteps, no-more, one-more, hasRoom, made, numbersIn, wordsIn, lentWords, reported, reportedFrom, HostRun, SaysOpened, fb-open-sheet, fb-renew-active-list, fb-prepare-all, fb-grow-all, fb-remove-blossom, fb-group-max-update-length}
 use Rattle.table_claim.specs.laws.Steps.{Whole, Follows, step-follows, step-returns, follows-whole}
 use Rattle.sheet.specs.declared.SheetOpened.{SheetOpened}
 use Rattle.sheet.specs.declared.SheetOpened.the-variants.{Opened, Refused as SheetRefused}
 use Rattle.sheet.specs.Called.{SheetCalled}
-use Rattle.host_sheet.specs.Told.{sheetNumbers}
-use Rattle.table_claim.specs.Lent.{lentSheet, openingSheet, sheet-refused}
-use Rattle.table_claim.specs.Hosted.{SaysOpened, fb-open-sheet}
-use Rattle.table_claim.specs.Lent.{renew-active-list, prepare-all, group-length, round, remove-blossom, returnsGroup}
-use Rattle.table_claim.specs.Hosted.{fb-renew-active-list, fb-prepare-all, fb-grow-all, fb-remove-blossom, fb-group-max-update-length}
+use Rattle.c_api_sheet.specs.Told.{sheetNumbers}
 
 -- ---- the number of the case
 
@@ -72,7 +65,9 @@ module _ {list list' : List ℕ} {k : ℕ} {Still : Type 0} where
       subst Says (opened-zero (s .answer) (first-done (openAnswer (s .answer)) _ (rw (s .tells .listed) at (d .first-is)))) (s .says)
 
 -- a done answer says so
-pub done-told : {list list' : List ℕ} {k : ℕ} {Still : Type 0} {Says : Answer → Type 0} → Told answerNumbers list list' k Still Says → 5 ≤ length list → ((a : Answer) → Says a → a ≡ Done) → SaysDone list list'
+pub done-told : {list list' : List ℕ} {k : ℕ} {Still : Type 0} {Says : Answer → Type 0}
+    → Told answerNumbers list list' k Still Says → 5 ≤ length list → ((a : Answer) → Says a → a ≡ Done)
+    → SaysDone list list'
 unfolding answerNumbers
 done-told p r f = let s = p .told r in record { room = r; first-is = rw (s .tells .listed, f (s .answer) (s .says)) refl }
 
@@ -116,7 +111,9 @@ host-made (fb-insert-defect p) r = let s = p .told r in record { got = returns (
 host-made (fb-insert-blossom p) r = let s = p .told r in record { got = returns (s .answer); step = insert-blossom (s .says); tells = s .tells; words = refl }
 host-made (fb-set-grow-state p) r = let s = p .told r in record { got = returns (s .answer); step = set-grow-state (s .says); tells = s .tells; words = refl }
 host-made (fb-prepare p) r = let s = p .told r in record { got = returns (s .answer); step = prepare (s .says); tells = s .tells; words = refl }
-host-made (fb-max-update-length p) r = let s = p .told r in record { got = returns (s .answer); step = max-update-length (s .says); tells = s .tells; words = refl }
+host-made (fb-max-update-length p) r =
+    let s = p .told r in
+    record { got = returns (s .answer); step = max-update-length (s .says); tells = s .tells; words = refl }
 host-made (fb-grow p) r = let s = p .told r in record { got = returns (s .answer); step = grow (s .says); tells = s .tells; words = refl }
 host-made (fb-advance p) r = let s = p .told r in record { got = returns (s .answer); step = advance (s .says); tells = s .tells; words = refl }
 host-made (fb-clear p) r = let s = p .told r in record { got = returns (s .answer); step = clear (s .says); tells = s .tells; words = refl }
@@ -135,7 +132,9 @@ host-made (fb-contacts {words' = words'} p) r =
       words = refl;
     }
 host-made (fb-open-sheet p n) r = let s = p .told r in sheet-made (s .answer) (s .says) (s .tells) r n
-host-made (fb-renew-active-list p) r = let s = p .told r in record { got = returns (s .answer); step = renew-active-list (s .says); tells = s .tells; words = refl }
+host-made (fb-renew-active-list p) r =
+    let s = p .told r in
+    record { got = returns (s .answer); step = renew-active-list (s .says); tells = s .tells; words = refl }
 host-made (fb-prepare-all p) r = let s = p .told r in record { got = returns (s .answer); step = prepare-all (s .says); tells = s .tells; words = refl }
 host-made (fb-remove-blossom p) r = let s = p .told r in record { got = returns (s .answer); step = remove-blossom (s .says); tells = s .tells; words = refl }
 host-made (fb-grow-all p) r = let s = p .told r in record { got = returns (s .answer); step = round (s .says); tells = s .tells; words = refl }
@@ -180,7 +179,12 @@ host-steps (one-more {b₂ = b₂} {k = k} {list = list} {xs = xs} s rest) =
     by-test (hasRoom list)
     (λ e.
     let m = host-made s (leb-true 5 (length list) e) in
-    rw e (record { exchanges = record { call = k; got = m .got } ∷ ih .exchanges; calls-are = ap (λ l. k ∷ l) (ih .calls-are); steps = next (m .step) (ih .steps) }))
+    rw e
+    (record {
+      exchanges = record { call = k; got = m .got } ∷ ih .exchanges;
+      calls-are = ap (λ l. k ∷ l) (ih .calls-are);
+      steps = next (m .step) (ih .steps);
+    }))
     (λ e. rw e (subst (λ x. MadeSteps x (made xs) b₂) (host-kept s (leb-false 5 (length list) e) .block) ih))
 
 -- ---- what the host has after each call
@@ -189,7 +193,8 @@ report-same : {g : Reported} {told : List ℕ} {count : ℕ} {words : List ℤ} 
     → g ≡ record { told = told; count = count; words = words }
 report-same {g} p q r = rw (← p, ← q, ← r) refl
 
-pub host-reports : {z : Sizes} {b b' : List ℤ} {xs : List HostExchange} → Whole z b → HostSteps b xs b' → map (λ (x : HostExchange). x .got) xs ≡ reportedFrom z (stateOf b) xs
+pub host-reports : {z : Sizes} {b b' : List ℤ} {xs : List HostExchange} → Whole z b → HostSteps b xs b'
+    → map (λ (x : HostExchange). x .got) xs ≡ reportedFrom z (stateOf b) xs
 unfolding reportedFrom reported
 host-reports w no-more = refl
 host-reports {z} {b} w (one-more {b₁ = b₁} {k = k} {list = list} {g = g} {xs = xs} s rest) =

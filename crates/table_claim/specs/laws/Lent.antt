@@ -7,22 +7,24 @@ use lib.IntN.{ℤ, pos}
 use Rattle.graph.specs.Open.{Edge, openRefusal}
 use Rattle.graph.specs.Opening.{fits}
 use Rattle.graph.specs.Layout.{stateOf}
-use Rattle.length.specs.declared.Answer.the-variants.{Done}
-use Rattle.lent.specs.Called.{TableRead}
+use Rattle.update_length.specs.declared.Answer.the-variants.{Done}
+use Rattle.dual_module.specs.Called.{TableRead}
 use Rattle.distance.specs.Graph.{WellFormed}
 use Rattle.distance.specs.Table.{tableFromDistances}
 use Rattle.distance.specs.Feasible.{Feasible}
 use Rattle.distance.specs.Nearest.{ReachesVirtual}
 use Rattle.opened_graph.specs.OpenedGraph.{openedGraph, SameVertices, PositiveWeights}
 use Rattle.opened_graph.specs.laws.Opening.{one-graph, well-formed}
-use Rattle.table.specs.History.{dualAt, natural, dualsOf}
+use Rattle.table_theorem.specs.History.{dualAt, natural, dualsOf}
 use Rattle.table_claim.specs.Run.{LentRun, lentHistory, WithoutBlossoms}
 use Rattle.table_claim.specs.laws.EveryRun.{last-nodes, last-feasible, last-table, tables-read-tell}
 use Rattle.table_claim.specs.Carried.{carried}
 use Rattle.table_claim.specs.laws.Carried.{carried-is}
 
 module _ {v : ℕ} {edges : List Edge} (virtuals : List ℕ) {others : List ℕ} (same : SameVertices v virtuals others) (r : LentRun v edges others) where
-  opening-accepted : openRefusal v (r .edgeNumber) (r .nodeLimit) (r .storeLimit) edges others (fits (r .before) (r .scratch) v (r .edgeNumber) (r .nodeLimit) (r .storeLimit)) ≡ 0
+  opening-accepted : openRefusal v (r .edgeNumber) (r .nodeLimit) (r .storeLimit) edges others
+      (fits (r .before) (r .scratch) v (r .edgeNumber) (r .nodeLimit) (r .storeLimit))
+      ≡ 0
   opening-accepted = rw (r .edges-are, r .virtuals-are) at (sym (r .opening-is .0))
 
   pub lent-formed : WellFormed (openedGraph v edges virtuals)
@@ -40,11 +42,14 @@ module _ {v : ℕ} {edges : List Edge} (virtuals : List ℕ) {others : List ℕ}
       pub lent-feasible : Feasible (openedGraph v edges virtuals) (dualsOf v (lentHistory r))
       lent-feasible = rw (one-graph v edges virtuals others same) (last-feasible r h positive)
 
-      pub lent-table : (t list list' : List ℤ) → TableRead (r .last) t list list' Done → list' ≡ map pos (tableFromDistances (openedGraph v edges virtuals) (dualsOf v (lentHistory r)))
+      pub lent-table : (t list list' : List ℤ) → TableRead (r .last) t list list' Done
+          → list' ≡ map pos (tableFromDistances (openedGraph v edges virtuals) (dualsOf v (lentHistory r)))
       lent-table t list list' p = rw (one-graph v edges virtuals others same) (last-table r h positive t list list' p)
 
-module _ {v : ℕ} {edges : List Edge} (virtuals : List ℕ) {others more : List ℕ} (positive : PositiveWeights edges) (reach : (a : ℕ) → a < v → ReachesVirtual (openedGraph v edges virtuals) a)
-    (same : SameVertices v virtuals others) (alike : SameVertices v virtuals more) (r : LentRun v edges others) (s : LentRun v edges more) (hr : WithoutBlossoms r) (hs : WithoutBlossoms s)
+module _ {v : ℕ} {edges : List Edge} (virtuals : List ℕ) {others more : List ℕ} (positive : PositiveWeights edges)
+    (reach : (a : ℕ) → a < v → ReachesVirtual (openedGraph v edges virtuals) a)
+    (same : SameVertices v virtuals others) (alike : SameVertices v virtuals more) (r : LentRun v edges others)
+    (s : LentRun v edges more) (hr : WithoutBlossoms r) (hs : WithoutBlossoms s)
     (t list list' u other other' : List ℤ) (p : TableRead (r .last) t list list' Done) (q : TableRead (s .last) u other other' Done) where
   pub lent-tables-tell : (list' ≡ other') ↔ ((a : ℕ) → a < v → dualAt (lentHistory r) a ≡ dualAt (lentHistory s) a)
   lent-tables-tell =

@@ -12,7 +12,7 @@ use Rattle.graph.specs.Basic.{all}
 use Rattle.graph.specs.laws.State.{and-left, and-right}
 use Rattle.graph.specs.laws.Members.{by-test, both, all-append}
 use Rattle.records.specs.Text.{ascii, digitsBy, decimal, spaced}
-use Rattle.records.specs.Lines.{line, edgeLines, joined}
+use Rattle.records.specs.Lines.{line, edgeLines, joinedLines}
 use Rattle.records.specs.laws.Lines.{digits-last, digits-more}
 use Rattle.table_claim.specs.Reading.{isDigit, readOn, behindSpace, numberAt, growthsIn, inFront, textLines}
 
@@ -21,7 +21,8 @@ use Rattle.table_claim.specs.Reading.{isDigit, readOn, behindSpace, numb
 read-digit : (m d : ℕ) (rest : List ℕ) → d < 10 → readOn m ((48 + d) ∷ rest) ≡ readOn (10 * m + d) rest
 unfolding readOn isDigit
 read-digit m d rest h =
-    let e : leb 48 (48 + d) && leb (48 + d) 57 ≡ true = both (leb 48 (48 + d)) (leb (48 + d) 57) (le-leb 48 (48 + d) (omega arith)) (le-leb (48 + d) 57 (omega arith)) in
+    let e : leb 48 (48 + d) && leb (48 + d) 57 ≡ true =
+    both (leb 48 (48 + d)) (leb (48 + d) 57) (le-leb 48 (48 + d) (omega arith)) (le-leb (48 + d) 57 (omega arith)) in
     let z : 48 + d - 48 ≡ d = omega arith in
     rw (e, z) refl
 
@@ -117,7 +118,8 @@ same-behind k j e (l ∷ r ∷ gs) =
     rw (behind-number k (ascii "edge" ++ spaced (e ∷ l ∷ r ∷ [])), behind-number j (ascii "edge" ++ spaced (e ∷ l ∷ r ∷ [])), same-behind k j (e + 1) gs) refl
 
 -- Two tables of growths for m and n edges: their lines without numbers are the same exactly when they are.
-pub lines-tell-growths : (k j m n : ℕ) (gs hs : List ℕ) → length gs ≡ 2 * m → length hs ≡ 2 * n → (map behindSpace (edgeLines k 0 gs) ≡ map behindSpace (edgeLines j 0 hs)) ↔ (gs ≡ hs)
+pub lines-tell-growths : (k j m n : ℕ) (gs hs : List ℕ) → length gs ≡ 2 * m → length hs ≡ 2 * n
+    → (map behindSpace (edgeLines k 0 gs) ≡ map behindSpace (edgeLines j 0 hs)) ↔ (gs ≡ hs)
 lines-tell-growths k j m n gs hs p q = (
   λ e. sym (growths-read k 0 m gs p) ∙ growths-behind (edgeLines k 0 gs) (edgeLines j 0 hs) e ∙ growths-read j 0 n hs q,
   λ e. same-behind k j 0 gs ∙ ap (λ (x : List ℕ). map behindSpace (edgeLines j 0 x)) e,
@@ -152,7 +154,9 @@ plain-digits zero n = unfold digitsBy plain all in refl
 plain-digits (suc f) n =
     by-test (ltb n 10)
     (λ e. let q : n < 10 = ltb-true n 10 e in rw (digits-last f n q) (plain-digit n))
-    (λ e. let q : 10 ≤ n = ltb-false n 10 e in rw (digits-more f n q) (plain-append (digitsBy f (n / 10)) ((48 + n % 10) ∷ []) (plain-digits f (n / 10)) (plain-digit (n % 10))))
+    (λ e. let q : 10 ≤ n = ltb-false n 10 e in
+    rw (digits-more f n q)
+    (plain-append (digitsBy f (n / 10)) ((48 + n % 10) ∷ []) (plain-digits f (n / 10)) (plain-digit (n % 10))))
 
 plain-decimal : (n : ℕ) → plain (decimal n) ≡ true
 unfolding decimal
@@ -174,10 +178,10 @@ text-first k ns rest =
     ∙ line-first (decimal k ++ (32 ∷ ascii "edge" ++ spaced ns)) rest (plain-edge k ns)
 
 -- The bytes of a table are cut into its lines.
-pub table-lines : (k e : ℕ) (gs : List ℕ) → textLines (joined (edgeLines k e gs)) ≡ edgeLines k e gs
-unfolding edgeLines joined
+pub table-lines : (k e : ℕ) (gs : List ℕ) → textLines (joinedLines (edgeLines k e gs)) ≡ edgeLines k e gs
+unfolding edgeLines joinedLines
 table-lines k e [] = unfold textLines in refl
 table-lines k e (l ∷ []) = unfold textLines in refl
 table-lines k e (l ∷ r ∷ gs) =
-    text-first k (e ∷ l ∷ r ∷ []) (joined (edgeLines k (e + 1) gs))
+    text-first k (e ∷ l ∷ r ∷ []) (joinedLines (edgeLines k (e + 1) gs))
     ∙ ap (λ (x : List (List ℕ)). line k (ascii "edge" ++ spaced (e ∷ l ∷ r ∷ [])) ∷ x) (table-lines k (e + 1) gs)

@@ -13,15 +13,15 @@ use Rattle.graph.specs.State.{State}
 use Rattle.graph.specs.Layout.{stateOf}
 use Rattle.graph.specs.Form.{Formed}
 use Rattle.graph.specs.laws.Members.{by-test, clash}
-use Rattle.length.specs.declared.Answer.{Answer}
-use Rattle.length.specs.declared.Answer.the-variants.{Refused}
-use Rattle.length.specs.Answer.{Reply, says}
+use Rattle.update_length.specs.declared.Answer.{Answer}
+use Rattle.update_length.specs.declared.Answer.the-variants.{Refused}
+use Rattle.update_length.specs.Answer.{Reply, says}
 use Rattle.calls.specs.declared.group.GroupMaxUpdateLength.{GroupMaxUpdateLength as Group}
 use Rattle.calls.specs.declared.group.GroupMaxUpdateLength.the-variants.{Refused as groupRefused}
 use Rattle.calls.specs.Refuse.{unless}
 use Rattle.calls.specs.Round.{refusalOf, round, isRefused, GroupReply}
 use Rattle.round.specs.Asked.{listedFrom}
-use Rattle.lent_round.specs.Called.{trialRefusal, belowOne, roundRefusal, OnTrial, GroupOnTrial}
+use Rattle.dual_module_round.specs.Called.{trialRefusal, belowOne, roundRefusal, OnTrial, GroupOnTrial}
 use Rattle.table_claim.specs.Run.{orRefused}
 
 -- the block is in form and holds the state of the reply, or all of it is as it was

@@ -12,38 +12,30 @@ use Rattle.graph.specs.State.{State, edgeCount}
 use Rattle.graph.specs.Word.{toNat}
 use Rattle.graph.specs.Layout.{eOf, nOf, stateOf, sized, blockLength, memoryFits, blockRefusal, memoryRefusal, listRefusal}
 use Rattle.graph.specs.Form.{Formed, Laid}
-use Rattle.graph.specs.Opening.{edgesFrom, virtualsFrom, fits}
-use Rattle.memory.specs.laws.OpenedBlock.{refused-block}
-use Rattle.sound.specs.laws.Whole.{formed-sized, formed-sound, memory-by-length, list-by-length}
-use Rattle.length.specs.declared.Answer.{Answer}
-use Rattle.length.specs.declared.Answer.the-variants.{Done}
-use Rattle.length.specs.Answer.{Reply, says}
+use Rattle.graph.specs.Opening.{edgesFrom, virtualsFrom, fits, OpenCalled}
+use Rattle.open_graph.specs.laws.OpenedBlock.{refused-block}
+use Rattle.memory_tests.specs.laws.Whole.{formed-sized, formed-sound, memory-by-length, list-by-length}
+use Rattle.update_length.specs.declared.Answer.{Answer}
+use Rattle.update_length.specs.declared.Answer.the-variants.{Done}
+use Rattle.update_length.specs.Answer.{Reply, says}
 use Rattle.calls.specs.Refuse.{unless}
-use Rattle.calls.specs.Calls.{Call, InsertDefect, InsertBlossom, SetGrowState, Prepare, MaxUpdateLength, Grow, ReadTable, Advance, Contacts, RepresentativeVertex, Clear}
-use Rattle.calls.specs.Calls.{respond, response, contacts as contactsOf, representativeVertex}
-use Rattle.lent.specs.Called.{Called, ListRead}
+use Rattle.calls.specs.Calls.{Call, InsertDefect, InsertBlossom, SetGrowState, Prepare, MaxUpdateLength, Grow, ReadTable, Advance, Contacts, RepresentativeVertex, Clear, respond, response, contacts as contactsOf, representativeVertex, RenewActiveList, PrepareAll, GroupLength, Round, RemoveBlossom}
+use Rattle.dual_module.specs.Called.{Called, ListRead}
 use Rattle.reachable.specs.Reachable.{after}
 use Rattle.graph.specs.Sound.{stateSound}
 use Rattle.reachable.specs.Past.{PastInvariant}
 use Rattle.reachable.specs.laws.state.Live.{invariant-sound}
 use Rattle.reachable.specs.laws.past.Calls.{after-past}
 use Rattle.reachable.specs.Opening.{afterLog}
-use Rattle.table.specs.laws.Kept.{Fixed, fixedOf, call-fixed}
-use Rattle.table.specs.laws.Append.{after-append}
-use Rattle.table_claim.specs.Lent.{LentCall, lentOpen, Step, open-refused, insert-defect, insert-blossom, set-grow-state, prepare, max-update-length, grow, read-table, advance, contacts, representative-vertex, clear}
-use Rattle.table_claim.specs.Lent.{Returned, opening, returns, Exchange, Steps, none, next, AnySteps, no-call, one-call, one-opening}
-use Rattle.table_claim.specs.Run.{Sizes, scratchFits, listFits, callsOf, ifFits, fedOne, fed, orRefused, returned, returnedFrom, SinceOpening}
-use Rattle.table_claim.specs.Run.{lentRunFrom, Begins, with-open, with-sheet}
-use Rattle.table_claim.specs.Lent.{lentSheet, sheet-refused, openingSheet, one-sheet}
+use Rattle.table_theorem.specs.laws.Kept.{Fixed, fixedOf, call-fixed}
+use Rattle.table_theorem.specs.laws.Append.{after-append}
+use Rattle.table_claim.specs.Lent.{LentCall, lentOpen, Step, open-refused, insert-defect, insert-blossom, set-grow-state, prepare, max-update-length, grow, read-table, advance, contacts, representative-vertex, clear, Returned, opening, returns, Exchange, Steps, none, next, AnySteps, no-call, one-call, one-opening, lentSheet, sheet-refused, openingSheet, one-sheet, renew-active-list, prepare-all, group-length, round, remove-blossom}
+use Rattle.table_claim.specs.Run.{Sizes, scratchFits, listFits, callsOf, ifFits, fedOne, fed, orRefused, returned, returnedFrom, SinceOpening, lentRunFrom, Begins, with-open, with-sheet, trialFits, groupFits}
 use Rattle.sheet.specs.declared.SheetOpened.the-variants.{Opened}
 use Rattle.sheet.specs.Theorems.{refused-leaves-all, sheet-opens}
-use Rattle.graph.specs.Opening.{OpenCalled}
 use Rattle.calls.specs.declared.group.GroupMaxUpdateLength.{GroupMaxUpdateLength as Group}
-use Rattle.calls.specs.Calls.{RenewActiveList, PrepareAll, GroupLength, Round, RemoveBlossom}
 use Rattle.calls.specs.Round.{prepareAll, groupLength}
-use Rattle.lent_round.specs.Called.{trialRefusal, groupTrialRefusal, GroupOnTrial}
-use Rattle.table_claim.specs.Lent.{renew-active-list, prepare-all, group-length, round, remove-blossom}
-use Rattle.table_claim.specs.Run.{trialFits, groupFits}
+use Rattle.dual_module_round.specs.Called.{trialRefusal, groupTrialRefusal, GroupOnTrial}
 use Rattle.table_claim.specs.laws.Rounds.{Ends, trial-ends, round-ends, group-answers, group-kept}
 
 -- ---- lists of calls
@@ -151,7 +143,8 @@ unfolding fedOne respond response representativeVertex says
 step-follows {z} {b} w (open-refused {t} {edges} {virtuals} {b'} {v} {e} {n} {l} p h) =
     unchanged-follows w (p .1 ∙ refused-block v e n l (edgesFrom edges) (virtualsFrom virtuals) (fits b t v e n l) b (λ q. h (p .0 ∙ q)))
 step-follows {z} w (insert-defect {t} {v = v} {x = x} p) = called-follows w (scratchFits z t) (memory-fits w t) (p .block) (InsertDefect v x) refl
-step-follows {z} w (insert-blossom {t} {circle} {x = x} p) = called-follows w (scratchFits z t) (memory-fits w t) (p .block) (InsertBlossom x (map toNat circle)) refl
+step-follows {z} w (insert-blossom {t} {circle} {x = x} p) =
+    called-follows w (scratchFits z t) (memory-fits w t) (p .block) (InsertBlossom x (map toNat circle)) refl
 step-follows {z} w (set-grow-state {t} {n = n} {x = x} p) = called-follows w (scratchFits z t) (memory-fits w t) p (SetGrowState n x) refl
 step-follows {z} w (prepare {t} {n = n} {d = d} p) = called-follows w (scratchFits z t) (memory-fits w t) (p .block) (Prepare n d) refl
 step-follows {z} w (max-update-length {t} {n = n} {d = d} {first = first} p) =
@@ -171,7 +164,8 @@ step-follows {z} w (round {s} {t} {l = l} p) = ends-follows w (trialFits z s t) 
 
 -- ---- one step: what the host gets
 
-read-answered : (fits : Bool) (c : State) {j : ℕ} {a : Answer} (r : Reply) → j ≡ (if fits then 0 else 1) → a ≡ unless j c r .answer → a ≡ orRefused fits (r .answer)
+read-answered : (fits : Bool) (c : State) {j : ℕ} {a : Answer} (r : Reply) → j ≡ (if fits then 0 else 1)
+    → a ≡ unless j c r .answer → a ≡ orRefused fits (r .answer)
 unfolding unless says
 read-answered true c r m e = rw m at e
 read-answered false c r m e = rw m at e
@@ -202,12 +196,14 @@ step-returns {z} w (advance {t} p) = ap returns (called-answered (scratchFits z 
 step-returns {z} {b} w (contacts {t} {list} p k) =
     let q = list-answered (listFits z 1 t list) (list-fits w t list 1) p in
     rw (q .0, q .1, counted-by (listFits z 1 t list) (length (contactsOf (stateOf b))) (list-fits w t list 1) k) refl
-step-returns {z} {b} w (representative-vertex {t} {n} p) = ap returns (read-answered (scratchFits z t) (stateOf b) (representativeVertex (stateOf b) n) (memory-fits w t) p)
+step-returns {z} {b} w (representative-vertex {t} {n} p) =
+    ap returns (read-answered (scratchFits z t) (stateOf b) (representativeVertex (stateOf b) n) (memory-fits w t) p)
 step-returns {z} w (clear {t} p) = ap returns (called-answered (scratchFits z t) (memory-fits w t) p)
 step-returns {z} w (sheet-refused p) = rw (p .leaves .answer, p .leaves .edges-are, w .size) refl
 step-returns {z} w (renew-active-list p) = ap returns (called-answered true (alone-fits w) p)
 step-returns {z} w (remove-blossom {t} p) = ap returns (called-answered (scratchFits z t) (memory-fits w t) (p .block))
-step-returns {z} {b} w (prepare-all {s} {t} p) = ap returns (read-answered (trialFits z s t) (stateOf b) (prepareAll (stateOf b)) (trial-fits w s t) (p .answer))
+step-returns {z} {b} w (prepare-all {s} {t} p) =
+    ap returns (read-answered (trialFits z s t) (stateOf b) (prepareAll (stateOf b)) (trial-fits w s t) (p .answer))
 step-returns {z} {b} w (group-length {s} {t} {entries = entries} p) =
     let q = group-answers (groupFits z s t entries) (group-fits w s t entries) p in
     rw (q .0, q .1) refl
@@ -237,12 +233,14 @@ steps-follow {z} {b} w (next {b₁ = b₁} {b₂ = b₂} {k = k} {xs = xs} s ss)
       len = g .len ∙ f .len;
     }
 
-pub steps-return : {z : Sizes} {b b' : List ℤ} {xs : List Exchange} → Whole z b → Steps b xs b' → map (λ (x : Exchange). x .got) xs ≡ returnedFrom z (stateOf b) (callsOf xs)
+pub steps-return : {z : Sizes} {b b' : List ℤ} {xs : List Exchange} → Whole z b → Steps b xs b'
+    → map (λ (x : Exchange). x .got) xs ≡ returnedFrom z (stateOf b) (callsOf xs)
 unfolding returnedFrom
 steps-return w none = refl
 steps-return {z} {b} w (next {b₁ = b₁} {k = k} {xs = xs} s ss) =
     let f : Follows b (fedOne z k) b₁ = step-follows w s in
-    let ih : map (λ (x : Exchange). x .got) xs ≡ returnedFrom z (after (stateOf b) (fedOne z k)) (callsOf xs) = rw (f .state) at (steps-return (follows-whole w f) ss) in
+    let ih : map (λ (x : Exchange). x .got) xs ≡ returnedFrom z (after (stateOf b) (fedOne z k)) (callsOf xs) =
+    rw (f .state) at (steps-return (follows-whole w f) ss) in
     rw (step-returns w s, ih) refl
 
 -- ---- since the last opening

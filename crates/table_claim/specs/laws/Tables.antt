@@ -18,8 +18,8 @@ use Rattle.graph.specs.laws.Shape.{length-ends}
 use Rattle.calls.specs.Calls.{ReadTable, respond, growthTable}
 use Rattle.reachable.specs.Reachable.{after}
 use Rattle.records.specs.Record.{Record, sizes, anEdge, aVirtual, ask, illFormed}
-use Rattle.records.specs.Lines.{linesFor, edgeLines, joined, fitting, over}
-use Rattle.records.specs.Run.{LinesCalled, Gathered, Turn, toldTurn, tooLarge, runRefusal, linesIn, fittedLines, filled}
+use Rattle.records.specs.Lines.{linesFor, edgeLines, joinedLines, fitting, over}
+use Rattle.records.specs.Run.{LinesCalled, Gathered, StepResult, callStep, tooLarge, runRefusal, linesIn, fittedLines, filled}
 use Rattle.distance.specs.Graph.{WellFormed}
 use Rattle.distance.specs.Table.{tableFromDistances}
 use Rattle.distance.specs.Feasible.{Feasible}
@@ -27,10 +27,10 @@ use Rattle.distance.specs.Nearest.{ReachesVirtual}
 use Rattle.distance.specs.laws.Table.{length-tableFromDistances}
 use Rattle.opened_graph.specs.OpenedGraph.{openedGraph, PositiveWeights}
 use Rattle.opened_graph.specs.laws.Opening.{one-graph, well-formed}
-use Rattle.table.specs.History.{History, historyAfter, dualAt, natural, dualsOf}
-use Rattle.table.specs.Runs.{Run, end, history}
-use Rattle.table.specs.Theorems.{table-is-from-distances, duals-are-feasible, tables-equal-exactly-when-duals-are}
-use Rattle.table.specs.laws.Runs.{end-natural}
+use Rattle.table_theorem.specs.History.{History, historyAfter, dualAt, natural, dualsOf}
+use Rattle.table_theorem.specs.Runs.{Run, end, history}
+use Rattle.table_theorem.specs.Theorems.{table-is-from-distances, duals-are-feasible, tables-equal-exactly-when-duals-are}
+use Rattle.table_theorem.specs.laws.Runs.{end-natural}
 use Rattle.table_claim.specs.Input.{callsIn, gatheredWith, graphIn, openedFrom, inOrder, opens, earlier, printed, later}
 use Rattle.table_claim.specs.Reading.{behindSpace, growthsIn, textLines}
 use Rattle.table_claim.specs.Tables.{TableIn, OnGraph, historyBehind, OpenAfter, tableLines, OpenAt, graphAt, historyAt, fitCount, FitsIn, bytesOf}
@@ -49,7 +49,10 @@ refusal-none g h =
     (λ e. let q : _≡_ {A = ℕ} 4 0 = rw e at z in absurd (omega arith))
     (λ e. rw e at z)
 
-opening-accepted : (rs : List Record) → opens rs ≡ true → openRefusal (graphIn rs .v) (graphIn rs .e) (graphIn rs .n) (graphIn rs .l) (graphIn rs .edges) (graphIn rs .virtuals) true ≡ 0
+opening-accepted : (rs : List Record) → opens rs ≡ true
+    → openRefusal (graphIn rs .v) (graphIn rs .e) (graphIn rs .n) (graphIn rs .l) (graphIn rs .edges)
+    (graphIn rs .virtuals) true
+    ≡ 0
 unfolding opens graphIn
 opening-accepted [] h = clash false h refl
 opening-accepted (sizes v e n l ∷ rs) h = refusal-none (gatheredWith v e n l rs) (and-right (inOrder rs) (eqb (runRefusal (gatheredWith v e n l rs)) 0) h)
@@ -69,7 +72,7 @@ module _ {v : ℕ} {edges : List Edge} {virtuals : List ℕ} (rs : List Record) 
   start-is : openedFrom (graphIn rs) ≡ opened v (graphIn rs .n) (graphIn rs .l) edges (graphIn rs .virtuals)
   start-is = rw (g .vertices-are, g .edges-are) refl
 
-  -- opening and calls are a run in the sense of crate `table`
+  -- opening and calls are a run in the sense of crate `table_theorem`
   abbrev asRun : Run v edges (graphIn rs .virtuals)
   asRun = record {
     edgeNumber = graphIn rs .e;
@@ -87,16 +90,19 @@ module _ {v : ℕ} {edges : List Edge} {virtuals : List ℕ} (rs : List Record) 
 
   -- the graph is well-formed, and the book's dual variables are natural numbers
   pub history-formed : WellFormed (openedGraph v edges virtuals)
-  history-formed = rw (one-graph v edges virtuals (graphIn rs .virtuals) (g .virtuals-are)) (well-formed v edges (graphIn rs .virtuals) (asRun .edgeNumber) (asRun .nodeLimit) (asRun .storeLimit) true (asRun .opening))
+  history-formed =
+      rw (one-graph v edges virtuals (graphIn rs .virtuals) (g .virtuals-are))
+      (well-formed v edges (graphIn rs .virtuals) (asRun .edgeNumber) (asRun .nodeLimit) (asRun .storeLimit) true
+      (asRun .opening))
 
   pub history-natural : (a : ℕ) → dualAt (historyBehind rs) a ≡ pos (natural (dualAt (historyBehind rs) a))
   history-natural a = rw book-is at (end-natural asRun a)
 
   -- the table of its end is printed
   told-end : tableLines rs ≡ edgeLines (length rs + 1) 0 (growthTable (end asRun))
-  unfolding tableLines toldTurn respond linesFor
+  unfolding tableLines callStep respond linesFor
   told-end =
-      ap (λ (x : Turn). x .lines) (call-is-told (length rs + 1) rs ReadTable (o .is-open))
+      ap (λ (x : StepResult). x .lines) (call-is-told (length rs + 1) rs ReadTable (o .is-open))
       ∙ ap (λ (c : State). edgeLines (length rs + 1) 0 (growthTable (after c (callsIn rs)))) start-is
 
   module _ (positive : PositiveWeights edges) where
@@ -104,10 +110,13 @@ module _ {v : ℕ} {edges : List Edge} {virtuals : List ℕ} (rs : List Record) 
     end-table : growthTable (end asRun) ≡ tableFromDistances (openedGraph v edges virtuals) (dualsOf v (historyBehind rs))
     end-table =
         table-is-from-distances v edges (graphIn rs .virtuals) positive asRun
-        ∙ rw (one-graph v edges virtuals (graphIn rs .virtuals) (g .virtuals-are)) (ap (λ (h : History). tableFromDistances (openedGraph v edges (graphIn rs .virtuals)) (dualsOf v h)) book-is)
+        ∙ rw (one-graph v edges virtuals (graphIn rs .virtuals) (g .virtuals-are))
+        (ap (λ (h : History). tableFromDistances (openedGraph v edges (graphIn rs .virtuals)) (dualsOf v h)) book-is)
 
     pub history-feasible : Feasible (openedGraph v edges virtuals) (dualsOf v (historyBehind rs))
-    history-feasible = rw (one-graph v edges virtuals (graphIn rs .virtuals) (g .virtuals-are), ← book-is) (duals-are-feasible v edges (graphIn rs .virtuals) positive asRun)
+    history-feasible =
+        rw (one-graph v edges virtuals (graphIn rs .virtuals) (g .virtuals-are), ← book-is)
+        (duals-are-feasible v edges (graphIn rs .virtuals) positive asRun)
 
     pub told-from-distances : tableLines rs ≡ edgeLines (length rs + 1) 0 (tableFromDistances (openedGraph v edges virtuals) (dualsOf v (historyBehind rs)))
     told-from-distances = told-end ∙ ap (edgeLines (length rs + 1) 0) end-table
@@ -124,7 +133,8 @@ module _ {v : ℕ} {edges : List Edge} {virtuals : List ℕ} (rs : List Record) 
 
 -- ---- two tables
 
-module _ {v : ℕ} {edges : List Edge} {virtuals : List ℕ} (positive : PositiveWeights edges) (reach : (a : ℕ) → a < v → ReachesVirtual (openedGraph v edges virtuals) a)
+module _ {v : ℕ} {edges : List Edge} {virtuals : List ℕ} (positive : PositiveWeights edges)
+    (reach : (a : ℕ) → a < v → ReachesVirtual (openedGraph v edges virtuals) a)
     (rs qs : List Record) (g : OnGraph v edges virtuals (graphIn rs)) (h : OnGraph v edges virtuals (graphIn qs)) (o : OpenAfter rs) (p : OpenAfter qs) where
   abbrev Same : Type 0
   Same = (a : ℕ) → a < v → dualAt (historyBehind rs) a ≡ dualAt (historyBehind qs) a
@@ -134,7 +144,9 @@ module _ {v : ℕ} {edges : List Edge} {virtuals : List ℕ} (positive : Positiv
 
   ends-tell : (growthTable (end (asRun rs g o)) ≡ growthTable (end (asRun qs h p))) ↔ Same
   ends-tell =
-      let tell = tables-equal-exactly-when-duals-are v edges (graphIn rs .virtuals) (graphIn qs .virtuals) (λ a k. sym (g .virtuals-are a k) ∙ h .virtuals-are a k) positive one (asRun rs g o) (asRun qs h p) in (
+      let tell =
+      tables-equal-exactly-when-duals-are v edges (graphIn rs .virtuals) (graphIn qs .virtuals)
+      (λ a k. sym (g .virtuals-are a k) ∙ h .virtuals-are a k) positive one (asRun rs g o) (asRun qs h p) in (
         λ e a k. ap (λ (x : History). dualAt x a) (sym (book-is rs g o)) ∙ tell .0 e a k ∙ ap (λ (x : History). dualAt x a) (book-is qs h p),
         λ f. tell .1 (λ a k. ap (λ (x : History). dualAt x a) (book-is rs g o) ∙ f a k ∙ ap (λ (x : History). dualAt x a) (sym (book-is qs h p))),
       )
@@ -149,14 +161,18 @@ module _ {v : ℕ} {edges : List Edge} {virtuals : List ℕ} (positive : Positiv
   told-lines-tell =
       let i = told-end rs g o in
       let j = told-end qs h p in
-      let tell = lines-tell-growths (length rs + 1) (length qs + 1) (length edges) (length edges) (growthTable (end (asRun rs g o))) (growthTable (end (asRun qs h p))) (end-length rs g o positive) (end-length qs h p positive) in (
+      let tell =
+      lines-tell-growths (length rs + 1) (length qs + 1) (length edges) (length edges)
+      (growthTable (end (asRun rs g o))) (growthTable (end (asRun qs h p))) (end-length rs g o positive)
+      (end-length qs h p positive) in (
         λ e. ends-tell .0 (tell .0 (ap (map behindSpace) (sym i) ∙ e ∙ ap (map behindSpace) j)),
         λ f. ap (map behindSpace) i ∙ tell .1 (ends-tell .1 f) ∙ ap (map behindSpace) (sym j),
       )
 
 -- ---- table records of inputs
 
-module _ {v : ℕ} {edges : List Edge} {virtuals : List ℕ} {b : List ℕ} (t : TableIn b) (g : OnGraph v edges virtuals (graphAt t)) (o : OpenAt t) (positive : PositiveWeights edges) where
+module _ {v : ℕ} {edges : List Edge} {virtuals : List ℕ} {b : List ℕ} (t : TableIn b)
+    (g : OnGraph v edges virtuals (graphAt t)) (o : OpenAt t) (positive : PositiveWeights edges) where
   pub printed-from-distances : printed t ≡ edgeLines (length (t .before) + 1) 0 (tableFromDistances (openedGraph v edges virtuals) (dualsOf v (historyAt t)))
   unfolding printed tableLines
   printed-from-distances = told-from-distances (t .before) g o positive
@@ -165,8 +181,10 @@ module _ {v : ℕ} {edges : List Edge} {virtuals : List ℕ} {b : List ℕ} (t :
   unfolding printed tableLines
   growths-printed = growths-told (t .before) g o positive
 
-module _ {v : ℕ} {edges : List Edge} {virtuals : List ℕ} (positive : PositiveWeights edges) (reach : (a : ℕ) → a < v → ReachesVirtual (openedGraph v edges virtuals) a)
-    {b c : List ℕ} (t : TableIn b) (u : TableIn c) (g : OnGraph v edges virtuals (graphAt t)) (h : OnGraph v edges virtuals (graphAt u)) (o : OpenAt t) (p : OpenAt u) where
+module _ {v : ℕ} {edges : List Edge} {virtuals : List ℕ} (positive : PositiveWeights edges)
+    (reach : (a : ℕ) → a < v → ReachesVirtual (openedGraph v edges virtuals) a)
+    {b c : List ℕ} (t : TableIn b) (u : TableIn c) (g : OnGraph v edges virtuals (graphAt t))
+    (h : OnGraph v edges virtuals (graphAt u)) (o : OpenAt t) (p : OpenAt u) where
   pub printed-growths-tell : (growthsIn (printed t) ≡ growthsIn (printed u)) ↔ ((a : ℕ) → a < v → dualAt (historyAt t) a ≡ dualAt (historyAt u) a)
   unfolding printed tableLines
   printed-growths-tell = told-growths-tell positive reach (t .before) (u .before) g h o p
@@ -185,7 +203,8 @@ take-lines k e (suc m) [] = let z : 2 * suc m ≡ suc (suc (2 * m)) = omega arit
 take-lines k e (suc m) (l ∷ []) = let z : 2 * suc m ≡ suc (suc (2 * m)) = omega arith in rw z refl
 take-lines k e (suc m) (l ∷ r ∷ gs) = let z : 2 * suc m ≡ suc (suc (2 * m)) = omega arith in rw (z, take-lines k (e + 1) m gs) refl
 
-pub lines-written : {b lines lines' : List ℕ} {k : ℕ} → LinesCalled b lines lines' k → take k lines' ≡ joined (take (fitCount (length lines) (linesIn b)) (linesIn b))
+pub lines-written : {b lines lines' : List ℕ} {k : ℕ} → LinesCalled b lines lines' k
+    → take k lines' ≡ joinedLines (take (fitCount (length lines) (linesIn b)) (linesIn b))
 unfolding filled fittedLines
 lines-written {b} {lines} p = rw (p .bytes, p .count) (fitted-front (linesIn b) lines)
 
@@ -193,35 +212,52 @@ module _ {b lines lines' : List ℕ} {k : ℕ} (called : LinesCalled b lines lin
   around : linesIn b ≡ earlier t ++ (take m (printed t) ++ (drop m (printed t) ++ later t))
   around =
       lines-around t
-      ∙ ap (λ (x : List (List ℕ)). earlier t ++ x) (ap (λ (x : List (List ℕ)). x ++ later t) (sym (take-append-drop m (printed t))) ∙ append-assoc (take m (printed t)) (drop m (printed t)) (later t))
+      ∙ ap (λ (x : List (List ℕ)). earlier t ++ x)
+      (ap (λ (x : List (List ℕ)). x ++ later t) (sym (take-append-drop m (printed t)))
+      ∙ append-assoc (take m (printed t)) (drop m (printed t)) (later t))
 
   all-bytes : lines' ≡ over (fitting (length lines) (earlier t ++ (take m (printed t) ++ (drop m (printed t) ++ later t)))) lines
   unfolding filled fittedLines
   all-bytes = called .bytes ∙ ap (λ (x : List (List ℕ)). over (fitting (length lines) x) lines) around
 
-  pub bytes-written : bytesOf t m lines' ≡ joined (take m (printed t))
+  pub bytes-written : bytesOf t m lines' ≡ joinedLines (take m (printed t))
   bytes-written =
-      ap (λ (x : List ℕ). take (length (joined (take m (printed t)))) (drop (length (joined (earlier t))) x)) all-bytes
+      ap (λ (x : List ℕ). take (length (joinedLines (take m (printed t)))) (drop (length (joinedLines (earlier t))) x)) all-bytes
       ∙ stands-behind (earlier t) (take m (printed t)) (drop m (printed t) ++ later t) lines fit
 
-  pub written-to : length (joined (earlier t ++ take m (printed t))) ≤ k
+  pub written-to : length (joinedLines (earlier t ++ take m (printed t))) ≤ k
   unfolding fittedLines
   written-to =
-      let e : k ≡ length (fitting (length lines) (earlier t ++ (take m (printed t) ++ (drop m (printed t) ++ later t)))) = called .count ∙ ap (λ (x : List (List ℕ)). length (fitting (length lines) x)) around in
+      let e : k
+      ≡ length (fitting (length lines) (earlier t ++ (take m (printed t) ++ (drop m (printed t) ++ later t)))) =
+      called .count ∙ ap (λ (x : List (List ℕ)). length (fitting (length lines) x)) around in
       rw e (written-so-far (earlier t) (take m (printed t)) (drop m (printed t) ++ later t) lines fit)
 
   module _ {v : ℕ} {edges : List Edge} {virtuals : List ℕ} (g : OnGraph v edges virtuals (graphAt t)) (o : OpenAt t) (positive : PositiveWeights edges) where
-    front : take m (printed t) ≡ edgeLines (length (t .before) + 1) 0 (take (2 * m) (tableFromDistances (openedGraph v edges virtuals) (dualsOf v (historyAt t))))
-    front = ap (take m) (printed-from-distances t g o positive) ∙ take-lines (length (t .before) + 1) 0 m (tableFromDistances (openedGraph v edges virtuals) (dualsOf v (historyAt t)))
+    front : take m (printed t)
+        ≡ edgeLines (length (t .before) + 1) 0
+        (take (2 * m) (tableFromDistances (openedGraph v edges virtuals) (dualsOf v (historyAt t))))
+    front =
+        ap (take m) (printed-from-distances t g o positive)
+        ∙ take-lines (length (t .before) + 1) 0 m
+        (tableFromDistances (openedGraph v edges virtuals) (dualsOf v (historyAt t)))
 
-    pub bytes-from-distances : bytesOf t m lines' ≡ joined (edgeLines (length (t .before) + 1) 0 (take (2 * m) (tableFromDistances (openedGraph v edges virtuals) (dualsOf v (historyAt t)))))
-    bytes-from-distances = bytes-written ∙ ap joined front
+    pub bytes-from-distances : bytesOf t m lines'
+        ≡ joinedLines
+        (edgeLines (length (t .before) + 1) 0
+        (take (2 * m) (tableFromDistances (openedGraph v edges virtuals) (dualsOf v (historyAt t)))))
+    bytes-from-distances = bytes-written ∙ ap joinedLines front
 
     pub bytes-lines : textLines (bytesOf t m lines') ≡ take m (printed t)
-    bytes-lines = ap textLines bytes-from-distances ∙ table-lines (length (t .before) + 1) 0 (take (2 * m) (tableFromDistances (openedGraph v edges virtuals) (dualsOf v (historyAt t)))) ∙ sym front
+    bytes-lines =
+        ap textLines bytes-from-distances
+        ∙ table-lines (length (t .before) + 1) 0
+        (take (2 * m) (tableFromDistances (openedGraph v edges virtuals) (dualsOf v (historyAt t))))
+        ∙ sym front
 
 -- all lines of the table, one for each edge
-module _ {v : ℕ} {edges : List Edge} {virtuals : List ℕ} (positive : PositiveWeights edges) {b : List ℕ} (t : TableIn b) (g : OnGraph v edges virtuals (graphAt t)) (o : OpenAt t) where
+module _ {v : ℕ} {edges : List Edge} {virtuals : List ℕ} (positive : PositiveWeights edges) {b : List ℕ} (t : TableIn b)
+    (g : OnGraph v edges virtuals (graphAt t)) (o : OpenAt t) where
   printed-whole : take (length edges) (printed t) ≡ printed t
   printed-whole =
       let y = tableFromDistances (openedGraph v edges virtuals) (dualsOf v (historyAt t)) in
@@ -231,5 +267,6 @@ module _ {v : ℕ} {edges : List Edge} {virtuals : List ℕ} (positive : Positiv
       ∙ ap (edgeLines (length (t .before) + 1) 0) (take-all (2 * length edges) y (omega (arith, table-length v edges virtuals (dualsOf v (historyAt t)))))
       ∙ sym e
 
-  pub whole-lines : {lines lines' : List ℕ} {k : ℕ} → LinesCalled b lines lines' k → FitsIn t (length edges) lines → textLines (bytesOf t (length edges) lines') ≡ printed t
+  pub whole-lines : {lines lines' : List ℕ} {k : ℕ} → LinesCalled b lines lines' k → FitsIn t (length edges) lines
+      → textLines (bytesOf t (length edges) lines') ≡ printed t
   whole-lines called fit = bytes-lines called t (length edges) fit g o positive ∙ printed-whole

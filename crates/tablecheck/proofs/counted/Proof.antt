@@ -2,7 +2,6 @@ use Rattle.tablecheck.specs.laws.File.{Fits, sizes-fit}
 use mathlib.Core.Path.{sym, _∙_}
 use native.Mathlib.Omega.{arith}
 use borrow.Author.Tests.{not-false}
-use Rattle.tablecheck.specs.laws.File.{sizes-fit}
 use borrow.Author.Needs.{needs}
 use Rattle.tablecheck.proofs.counted.Statement.{statement}
 use Rattle.tablecheck.proofs.counted.Tie as tie

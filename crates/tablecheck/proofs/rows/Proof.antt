@@ -1,11 +1,10 @@
 use Rattle.tablecheck.specs.File.{verdictNumber}
-use Rattle.tablecheck.specs.laws.Read.{so-begun}
+use Rattle.tablecheck.specs.laws.Read.{so-begun, SoFar, so-more, so-all}
 use borrow.Author.Needs.{needs}
 use mathlib.Core.Path.{_≡_, refl, _∙_, ap}
 use native.Mathlib.Omega.{arith}
 use Prim.Native.Nat.{_-_, _≤_}
 use lib.ListN.{length}
-use Rattle.tablecheck.specs.laws.Read.{SoFar, so-more, so-all}
 use Rattle.tablecheck.proofs.rows.Statement.{statement}
 use Rattle.tablecheck.proofs.rows.Tie as tie
 

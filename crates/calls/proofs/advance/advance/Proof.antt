@@ -12,16 +12,29 @@ same-length : tie.Need-same-length
 same-length c = search needs
 
 returns : tie.Need-returns
-returns c = let s = c .before .before .before in (advance-refused (s .args .b .now) (s .args .n) _ (c .before .node-refusal .ensures) (s .pre .formed) (c .if1 .taken), refl)
+returns c =
+    let s = c .before .before .before in (
+      advance-refused (s .args .b .now) (s .args .n) _ (c .before .node-refusal .ensures) (s .pre .formed) (c .if1 .taken),
+      refl,
+    )
 
 grow-state-requires : tie.Need-grow-state-requires
-grow-state-requires c κs = let s = c .before .before .before .before in (s .pre .formed, node-accepted _ (s .args .n) _ _ (sym (c .before .before .node-refusal .ensures) ∙ c .before .if1 .left) .inside)
+grow-state-requires c κs =
+    let s = c .before .before .before .before in (
+      s .pre .formed,
+      node-accepted _ (s .args .n) _ _ (sym (c .before .before .node-refusal .ensures) ∙ c .before .if1 .left) .inside,
+    )
 
 same-length-2 : tie.Need-same-length-2
 same-length-2 c = search needs
 
 returns-2 : tie.Need-returns-2
-returns-2 c = let s = c .before .before .before .before .before .before in (advance-stay (s .args .b .now) (s .args .n) _ (c .before .before .before .before .node-refusal .ensures) (c .before .before .before .if1 .left) _ (c .before .grow-state .ensures .0) (s .pre .formed) (c .if2 .taken), refl)
+returns-2 c =
+    let s = c .before .before .before .before .before .before in (
+      advance-stay (s .args .b .now) (s .args .n) _ (c .before .before .before .before .node-refusal .ensures)
+          (c .before .before .before .if1 .left) _ (c .before .grow-state .ensures .0) (s .pre .formed) (c .if2 .taken),
+      refl,
+    )
 
 advance-by-requires : tie.Need-advance-by-requires
 advance-by-requires c κs = search needs
@@ -33,7 +46,14 @@ same-length-4 : tie.Need-same-length-4
 same-length-4 c = search needs
 
 returns-3 : tie.Need-returns-3
-returns-3 c = let s = c .before .before .before .before .before .before .before .before .before .before .before in let f = c .before .before .before .before .before in let p = c .before .before .advance-by .ensures in (advance-moves (s .args .b .now) (s .args .n) _ (f .before .before .before .before .node-refusal .ensures) (f .before .before .before .if1 .left) _ (f .before .grow-state .ensures .0) (f .if2 .left) (p .0), p .1)
+returns-3 c =
+    let s = c .before .before .before .before .before .before .before .before .before .before .before in
+    let f = c .before .before .before .before .before in
+    let p = c .before .before .advance-by .ensures in (
+      advance-moves (s .args .b .now) (s .args .n) _ (f .before .before .before .before .node-refusal .ensures)
+          (f .before .before .before .if1 .left) _ (f .before .grow-state .ensures .0) (f .if2 .left) (p .0),
+      p .1,
+    )
 
 pub advance-spec : {M : Type 1} → statement M
 advance-spec =

@@ -7,13 +7,13 @@ use denote.Enum.Declared.{tagOf}
 use mir.Facts.{toZ-ofZ}
 use Rattle.graph.specs.State.{State}
 use Rattle.graph.specs.Layout.{stateOf}
-use Rattle.length.specs.declared.Answer.{Answer}
-use Rattle.length.specs.declared.Answer.the-variants.{NonZeroGrow, Unlimited, Conflicting, TouchingVirtual, BlossomNeedExpand, VertexShrinkStop, VertexShrinkStopPeer, Done, Node, Prepared, Vertex, Refused}
-use Rattle.length.specs.Answer.{says}
+use Rattle.update_length.specs.declared.Answer.{Answer}
+use Rattle.update_length.specs.declared.Answer.the-variants.{NonZeroGrow, Unlimited, Conflicting, TouchingVirtual, BlossomNeedExpand, VertexShrinkStop, VertexShrinkStopPeer, Done, Node, Prepared, Vertex, Refused}
+use Rattle.update_length.specs.Answer.{says}
 use Rattle.calls.specs.Calls.{follow}
 use Rattle.calls.specs.laws.Advance.{length-below, advance-other, advance-free}
 use borrow.Author.Needs.{needs, sfits-of}
-use Rattle.length.proofs.Answer as Kinds
+use Rattle.update_length.proofs.Answer as Kinds
 use Rattle.calls.proofs.advance.advance_by.Statement.{statement}
 use Rattle.calls.proofs.advance.advance_by.Tie as tie
 
@@ -50,10 +50,27 @@ same-length-2 : tie.Need-same-length-2
 same-length-2 c = search needs
 
 returns : tie.Need-returns
-returns c = let s = c .before .before .before .before .before .before .before in let r = c .before .before .before .length-prepared in let p = r .ensures in let d = c .before .before .before .before .before .before .direction .ensures .0 in (advance-other (s .args .n) (s .args .x) (rw d at (p .0)) (others _ (s .args .n) (s .args .x) (r .result) (c .match .keys2)), p .1)
+returns c =
+    let s = c .before .before .before .before .before .before .before in
+    let r = c .before .before .before .length-prepared in
+    let p = r .ensures in
+    let d = c .before .before .before .before .before .before .direction .ensures .0 in (
+      advance-other (s .args .n) (s .args .x) (rw d at (p .0))
+          (others _ (s .args .n) (s .args .x) (r .result) (c .match .keys2)),
+      p .1,
+    )
 
 grow-along-requires : tie.Need-grow-along-requires
-grow-along-requires c κs = let r = c .before .before .before .before .before .before .before .length-prepared in let a = c .before .before .before .answer .given in let s = c .before .before .before .before .before .before .before .before .before .before .before in let d = c .before .before .before .before .before .before .before .before .before .before .direction in (r .ensures .2, d .ensures .1, λ e. length-below (stateOf (s .args .b .now)) (s .args .n) (d .result) true (sym (a .1) ∙ r .ensures .0 .answer) (rw (toZ-ofZ (sfits-of ((rw (a .1) at (r .ok)) .1 .1 .1 .1 .0 .1))) at e))
+grow-along-requires c κs =
+    let r = c .before .before .before .before .before .before .before .length-prepared in
+    let a = c .before .before .before .answer .given in
+    let s = c .before .before .before .before .before .before .before .before .before .before .before in
+    let d = c .before .before .before .before .before .before .before .before .before .before .direction in (
+      r .ensures .2,
+      d .ensures .1,
+      λ e. length-below (stateOf (s .args .b .now)) (s .args .n) (d .result) true (sym (a .1) ∙ r .ensures .0 .answer)
+          (rw (toZ-ofZ (sfits-of ((rw (a .1) at (r .ok)) .1 .1 .1 .1 .0 .1))) at e),
+    )
 
 same-length-3 : tie.Need-same-length-3
 same-length-3 c = search needs
@@ -62,7 +79,17 @@ same-length-4 : tie.Need-same-length-4
 same-length-4 c = search needs
 
 returns-2 : tie.Need-returns-2
-returns-2 c = let f = c .before .before .before in let r = f .before .before .before .before .before .before .before .length-prepared in let a = f .before .before .before .answer .given in let s = f .before .before .before .before .before .before .before .before .before .before .before in let d = f .before .before .before .before .before .before .before .before .before .before .direction in let g = c .before .before .grow-along .ensures in (advance-free (s .args .n) (s .args .x) (rw (d .ensures .0) at (r .ensures .0)) (a .1) (rw (d .ensures .0, toZ-ofZ (sfits-of ((rw (a .1) at (r .ok)) .1 .1 .1 .1 .0 .1))) at (g .0)), g .1 ∙ r .ensures .1)
+returns-2 c =
+    let f = c .before .before .before in
+    let r = f .before .before .before .before .before .before .before .length-prepared in
+    let a = f .before .before .before .answer .given in
+    let s = f .before .before .before .before .before .before .before .before .before .before .before in
+    let d = f .before .before .before .before .before .before .before .before .before .before .direction in
+    let g = c .before .before .grow-along .ensures in (
+      advance-free (s .args .n) (s .args .x) (rw (d .ensures .0) at (r .ensures .0)) (a .1)
+          (rw (d .ensures .0, toZ-ofZ (sfits-of ((rw (a .1) at (r .ok)) .1 .1 .1 .1 .0 .1))) at (g .0)),
+      g .1 ∙ r .ensures .1,
+    )
 
 pub advance-by-spec : {M : Type 1} → statement M
 advance-by-spec =

@@ -34,10 +34,31 @@ same-length-3 : tie.Need-same-length-3
 same-length-3 c = search needs
 
 returns-2 : tie.Need-returns-2
-returns-2 c = let s = c .before .before .before .before .before .before .before .before .before in let e = c .before .before .grow-toward .ensures in let m : c .before .before .before .before .before .before .before .before .magnitude .result ≡ natAbs (s .args .length) = c .before .before .before .before .before .before .before .before .magnitude .ensures .0 ∙ ap natAbs (toZ-ofZ (s .fits .length)) in (rw (along-forth (stateOf (s .args .b .now)) (s .args .n) (s .args .d) (s .args .length) (s .pre .1) (λ q. c .before .before .before .before .before .before .before .if1 .left (m ∙ q)) (sym (c .before .before .before .before .before .before .non-negative .ensures ∙ ap nonNeg (toZ-ofZ (s .fits .length))) ∙ c .before .before .before .before .before .if2 .taken), ← m) (e .0), e .1)
+returns-2 c =
+    let s = c .before .before .before .before .before .before .before .before .before in
+    let e = c .before .before .grow-toward .ensures in
+    let m : c .before .before .before .before .before .before .before .before .magnitude .result
+    ≡ natAbs (s .args .length) =
+    c .before .before .before .before .before .before .before .before .magnitude .ensures .0
+    ∙ ap natAbs (toZ-ofZ (s .fits .length)) in (
+      rw (
+        along-forth (stateOf (s .args .b .now)) (s .args .n) (s .args .d) (s .args .length) (s .pre .1)
+            (λ q. c .before .before .before .before .before .before .before .if1 .left (m ∙ q))
+            (sym (c .before .before .before .before .before .before .non-negative .ensures ∙ ap nonNeg (toZ-ofZ (s .fits .length)))
+            ∙ c .before .before .before .before .before .if2 .taken),
+        ← m,
+      )
+          (e .0),
+      e .1,
+    )
 
 grow-toward-requires-2 : tie.Need-grow-toward-requires-2
-grow-toward-requires-2 c κs = let s = c .before .before .before .before .before .before in let below : nonNeg (s .args .length) ≡ false = sym (c .before .before .before .non-negative .ensures ∙ ap nonNeg (toZ-ofZ (s .fits .length))) ∙ c .before .before .if2 .left in (steady-other (rw (s .pre .2 below) at (s .pre .0)) 0, c .before .before .before .before .before .magnitude .ensures .1)
+grow-toward-requires-2 c κs =
+    let s = c .before .before .before .before .before .before in
+    let below : nonNeg (s .args .length) ≡ false =
+    sym (c .before .before .before .non-negative .ensures ∙ ap nonNeg (toZ-ofZ (s .fits .length)))
+    ∙ c .before .before .if2 .left in
+    (steady-other (rw (s .pre .2 below) at (s .pre .0)) 0, c .before .before .before .before .before .magnitude .ensures .1)
 
 same-length-4 : tie.Need-same-length-4
 same-length-4 c = search needs
@@ -46,7 +67,17 @@ same-length-5 : tie.Need-same-length-5
 same-length-5 c = search needs
 
 returns-3 : tie.Need-returns-3
-returns-3 c = let s = c .before .before .before .before .before .before .before .before .before in let e = c .before .before .grow-toward2 .ensures in let m : c .before .before .before .before .before .before .before .before .magnitude .result ≡ natAbs (s .args .length) = c .before .before .before .before .before .before .before .before .magnitude .ensures .0 ∙ ap natAbs (toZ-ofZ (s .fits .length)) in let below : nonNeg (s .args .length) ≡ false = sym (c .before .before .before .before .before .before .non-negative .ensures ∙ ap nonNeg (toZ-ofZ (s .fits .length))) ∙ c .before .before .before .before .before .if2 .left in (rw (s .pre .2 below, along-back (stateOf (s .args .b .now)) (s .args .n) (s .args .length) below, ← m) (e .0), e .1)
+returns-3 c =
+    let s = c .before .before .before .before .before .before .before .before .before in
+    let e = c .before .before .grow-toward2 .ensures in
+    let m : c .before .before .before .before .before .before .before .before .magnitude .result
+    ≡ natAbs (s .args .length) =
+    c .before .before .before .before .before .before .before .before .magnitude .ensures .0
+    ∙ ap natAbs (toZ-ofZ (s .fits .length)) in
+    let below : nonNeg (s .args .length) ≡ false =
+    sym (c .before .before .before .before .before .before .non-negative .ensures ∙ ap nonNeg (toZ-ofZ (s .fits .length)))
+    ∙ c .before .before .before .before .before .if2 .left in
+    (rw (s .pre .2 below, along-back (stateOf (s .args .b .now)) (s .args .n) (s .args .length) below, ← m) (e .0), e .1)
 
 pub grow-along-spec : {M : Type 1} → statement M
 grow-along-spec =

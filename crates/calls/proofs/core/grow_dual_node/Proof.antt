@@ -16,7 +16,10 @@ same-length-2 : tie.Need-same-length-2
 same-length-2 c = search needs
 
 returns : tie.Need-returns
-returns c = let s = c .before .before .before .before .before in let g = c .before .before .grow-along .ensures in (rw (toZ-ofZ (s .fits .length), along-up (s .args .length)) at (g .0), g .1)
+returns c =
+    let s = c .before .before .before .before .before in
+    let g = c .before .before .grow-along .ensures in
+    (rw (toZ-ofZ (s .fits .length), along-up (s .args .length)) at (g .0), g .1)
 
 pub grow-dual-node-spec : {M : Type 1} → statement M
 grow-dual-node-spec = tie.close (tie.spec grow-along-requires same-length same-length-2 returns)

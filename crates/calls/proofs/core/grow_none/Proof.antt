@@ -7,10 +7,16 @@ node-refusal-requires : tie.Need-node-refusal-requires
 node-refusal-requires c κs = search needs
 
 returns : tie.Need-returns
-returns c = let s = c .before .before in none-refused (s .args .b .now) (s .args .n) (s .args .d) _ (s .args .length) (s .pre .1) (c .before .node-refusal .ensures) (s .pre .0) (c .if1 .taken)
+returns c =
+    let s = c .before .before in
+    none-refused (s .args .b .now) (s .args .n) (s .args .d) _ (s .args .length) (s .pre .1)
+    (c .before .node-refusal .ensures) (s .pre .0) (c .if1 .taken)
 
 returns-2 : tie.Need-returns-2
-returns-2 c = let s = c .before .before in none-done (s .args .b .now) (s .args .n) (s .args .d) _ (s .args .length) (s .pre .1) (c .before .node-refusal .ensures) (s .pre .0) (c .if1 .left)
+returns-2 c =
+    let s = c .before .before in
+    none-done (s .args .b .now) (s .args .n) (s .args .d) _ (s .args .length) (s .pre .1) (c .before .node-refusal .ensures)
+    (s .pre .0) (c .if1 .left)
 
 pub grow-none-spec : {M : Type 1} → statement M
 grow-none-spec =

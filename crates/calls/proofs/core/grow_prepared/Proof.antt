@@ -13,16 +13,29 @@ same-length : tie.Need-same-length
 same-length c = search needs
 
 returns : tie.Need-returns
-returns c = let s = c .before .before .before in growth-refused (s .args .b .now) (s .args .n) (s .args .d) (s .args .l) _ (c .before .grow-check .ensures) (s .pre .0) (c .if1 .taken)
+returns c =
+    let s = c .before .before .before in
+    growth-refused (s .args .b .now) (s .args .n) (s .args .d) (s .args .l) _ (c .before .grow-check .ensures) (s .pre .0)
+    (c .if1 .taken)
 
 grow-apply-requires : tie.Need-grow-apply-requires
-grow-apply-requires c κs = let s = c .before .before .before .before in (s .pre .0, s .pre .1 .node, growing-of (stateOf (s .args .b .now)) (s .args .n) (s .args .d) (s .args .l) (s .pre .1) (sym (c .before .before .grow-check .ensures) ∙ c .before .if1 .left))
+grow-apply-requires c κs =
+    let s = c .before .before .before .before in (
+      s .pre .0,
+      s .pre .1 .node,
+      growing-of (stateOf (s .args .b .now)) (s .args .n) (s .args .d) (s .args .l) (s .pre .1)
+          (sym (c .before .before .grow-check .ensures) ∙ c .before .if1 .left),
+    )
 
 same-length-2 : tie.Need-same-length-2
 same-length-2 c = search needs
 
 returns-2 : tie.Need-returns-2
-returns-2 c = let s = c .before .before .before .before .before .before in growth-done (s .args .b .now) (s .args .n) (s .args .d) (s .args .l) _ (c .before .before .before .before .grow-check .ensures) (c .before .before .before .if1 .left) (c .before .grow-apply .ensures)
+returns-2 c =
+    let s = c .before .before .before .before .before .before in
+    growth-done (s .args .b .now) (s .args .n) (s .args .d) (s .args .l) _
+    (c .before .before .before .before .grow-check .ensures) (c .before .before .before .if1 .left)
+    (c .before .grow-apply .ensures)
 
 pub grow-prepared-spec : {M : Type 1} → statement M
 grow-prepared-spec =

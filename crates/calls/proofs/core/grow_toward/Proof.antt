@@ -11,13 +11,30 @@ same-length : tie.Need-same-length
 same-length c = search needs
 
 returns : tie.Need-returns
-returns c = let s = c .before .before .before in (toward-refused (s .pre .0 .formed) (s .args .n) (s .args .d) (s .args .l) _ (c .before .node-refusal .ensures) (c .if1 .taken), refl)
+returns c =
+    let s = c .before .before .before in (
+      toward-refused (s .pre .0 .formed) (s .args .n) (s .args .d) (s .args .l) _ (c .before .node-refusal .ensures)
+          (c .if1 .taken),
+      refl,
+    )
 
 prepare-dual-node-growth-requires : tie.Need-prepare-dual-node-growth-requires
-prepare-dual-node-growth-requires c κs = let s = c .before .before .before .before .before in let a = toward-accepted (s .pre .0 .formed) (s .args .n) (s .args .d) (s .args .l) _ (c .before .before .before .node-refusal .ensures) (c .before .before .if1 .left) in (accepted-ready (s .pre .0) _ a, accepted-able (s .pre .0) _ a)
+prepare-dual-node-growth-requires c κs =
+    let s = c .before .before .before .before .before in
+    let a =
+    toward-accepted (s .pre .0 .formed) (s .args .n) (s .args .d) (s .args .l) _
+    (c .before .before .before .node-refusal .ensures) (c .before .before .if1 .left) in
+    (accepted-ready (s .pre .0) _ a, accepted-able (s .pre .0) _ a)
 
 grow-prepared-requires : tie.Need-grow-prepared-requires
-grow-prepared-requires c κs = let s = c .before .before .before .before .before .before .before .before .before in let a = toward-accepted (s .pre .0 .formed) (s .args .n) (s .args .d) (s .args .l) _ (c .before .before .before .before .before .before .before .node-refusal .ensures) (c .before .before .before .before .before .before .if1 .left) in let p = c .before .before .before .prepare-dual-node-growth .ensures .0 in (p .block .formed, prepared-grows (s .pre .0) _ a p, s .pre .1)
+grow-prepared-requires c κs =
+    let s = c .before .before .before .before .before .before .before .before .before in
+    let a =
+    toward-accepted (s .pre .0 .formed) (s .args .n) (s .args .d) (s .args .l) _
+    (c .before .before .before .before .before .before .before .node-refusal .ensures)
+    (c .before .before .before .before .before .before .if1 .left) in
+    let p = c .before .before .before .prepare-dual-node-growth .ensures .0 in
+    (p .block .formed, prepared-grows (s .pre .0) _ a p, s .pre .1)
 
 same-length-2 : tie.Need-same-length-2
 same-length-2 c = search needs
@@ -26,7 +43,14 @@ same-length-3 : tie.Need-same-length-3
 same-length-3 c = search needs
 
 returns-2 : tie.Need-returns-2
-returns-2 c = let s = c .before .before .before .before .before .before .before .before .before .before .before in let p = c .before .before .before .before .before .prepare-dual-node-growth .ensures .0 in (toward-done (s .pre .0 .formed) (s .args .n) (s .args .d) (s .args .l) _ (c .before .before .before .before .before .before .before .before .before .node-refusal .ensures) (c .before .before .before .before .before .before .before .before .if1 .left) p (c .before .grow-prepared .ensures), p .scratch)
+returns-2 c =
+    let s = c .before .before .before .before .before .before .before .before .before .before .before in
+    let p = c .before .before .before .before .before .prepare-dual-node-growth .ensures .0 in (
+      toward-done (s .pre .0 .formed) (s .args .n) (s .args .d) (s .args .l) _
+          (c .before .before .before .before .before .before .before .before .before .node-refusal .ensures)
+          (c .before .before .before .before .before .before .before .before .if1 .left) p (c .before .grow-prepared .ensures),
+      p .scratch,
+    )
 
 pub grow-toward-spec : {M : Type 1} → statement M
 grow-toward-spec =

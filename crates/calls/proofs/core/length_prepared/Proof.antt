@@ -12,13 +12,32 @@ same-length : tie.Need-same-length
 same-length c = search needs
 
 returns : tie.Need-returns
-returns c = let s = c .before .before .before in (length-refused (s .pre .formed) (s .args .n) (s .args .d) _ true (c .before .node-refusal .ensures) (c .if1 .taken), refl, usable-steady (s .pre) (s .args .n) (s .args .d))
+returns c =
+    let s = c .before .before .before in (
+      length-refused (s .pre .formed) (s .args .n) (s .args .d) _ true (c .before .node-refusal .ensures) (c .if1 .taken),
+      refl,
+      usable-steady (s .pre) (s .args .n) (s .args .d),
+    )
 
 prepare-dual-node-growth-requires : tie.Need-prepare-dual-node-growth-requires
-prepare-dual-node-growth-requires c κs = let s = c .before .before .before .before .before in let a = length-accepted (s .pre .formed) (s .args .n) (s .args .d) _ true (c .before .before .before .node-refusal .ensures) (c .before .before .if1 .left) in (accepted-ready (usable-steady (s .pre) (s .args .n) (s .args .d)) _ a, accepted-able (usable-steady (s .pre) (s .args .n) (s .args .d)) _ a)
+prepare-dual-node-growth-requires c κs =
+    let s = c .before .before .before .before .before in
+    let a =
+    length-accepted (s .pre .formed) (s .args .n) (s .args .d) _ true (c .before .before .before .node-refusal .ensures)
+    (c .before .before .if1 .left) in (
+      accepted-ready (usable-steady (s .pre) (s .args .n) (s .args .d)) _ a,
+      accepted-able (usable-steady (s .pre) (s .args .n) (s .args .d)) _ a,
+    )
 
 scan-requires : tie.Need-scan-requires
-scan-requires c κs = let e = c .before .before .before .before .before .before in let s = e .before .before .before in let a = length-accepted (s .pre .formed) (s .args .n) (s .args .d) _ true (e .before .node-refusal .ensures) (e .if1 .left) in let p = c .before .before .before .prepare-dual-node-growth .ensures .0 in let g = prepared-grows (usable-steady (s .pre) (s .args .n) (s .args .d)) _ a p in (p .block .formed, g .readable, g .node, g .sides)
+scan-requires c κs =
+    let e = c .before .before .before .before .before .before in
+    let s = e .before .before .before in
+    let a =
+    length-accepted (s .pre .formed) (s .args .n) (s .args .d) _ true (e .before .node-refusal .ensures) (e .if1 .left) in
+    let p = c .before .before .before .prepare-dual-node-growth .ensures .0 in
+    let g = prepared-grows (usable-steady (s .pre) (s .args .n) (s .args .d)) _ a p in
+    (p .block .formed, g .readable, g .node, g .sides)
 
 same-length-2 : tie.Need-same-length-2
 same-length-2 c = search needs
@@ -27,7 +46,17 @@ same-length-3 : tie.Need-same-length-3
 same-length-3 c = search needs
 
 returns-2 : tie.Need-returns-2
-returns-2 c = let e = c .before .before .before .before .before .before .before in let s = e .before .before .before in let a = length-accepted (s .pre .formed) (s .args .n) (s .args .d) _ true (e .before .node-refusal .ensures) (e .if1 .left) in let q = c .before .before .before .before .prepare-dual-node-growth .ensures in (length-prepared (s .pre .formed) (s .args .n) (s .args .d) _ true (e .before .node-refusal .ensures) refl (e .if1 .left) (q .0) (c .scan .ensures), q .0 .scratch, prepared-steady (usable-steady (s .pre) (s .args .n) (s .args .d)) _ a (q .0) (q .2))
+returns-2 c =
+    let e = c .before .before .before .before .before .before .before in
+    let s = e .before .before .before in
+    let a =
+    length-accepted (s .pre .formed) (s .args .n) (s .args .d) _ true (e .before .node-refusal .ensures) (e .if1 .left) in
+    let q = c .before .before .before .before .prepare-dual-node-growth .ensures in (
+      length-prepared (s .pre .formed) (s .args .n) (s .args .d) _ true (e .before .node-refusal .ensures) refl
+          (e .if1 .left) (q .0) (c .scan .ensures),
+      q .0 .scratch,
+      prepared-steady (usable-steady (s .pre) (s .args .n) (s .args .d)) _ a (q .0) (q .2),
+    )
 
 pub length-prepared-spec : {M : Type 1} → statement M
 length-prepared-spec =

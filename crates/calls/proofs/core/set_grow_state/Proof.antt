@@ -14,19 +14,39 @@ same-length : tie.Need-same-length
 same-length c = search needs
 
 returns : tie.Need-returns
-returns c = let s = c .before .before .before in set-refused (s .args .b .now) (s .args .n) (s .args .x) _ (c .before .node-refusal .ensures) (s .pre .0) (c .if1 .taken)
+returns c =
+    let s = c .before .before .before in
+    set-refused (s .args .b .now) (s .args .n) (s .args .x) _ (c .before .node-refusal .ensures) (s .pre .0) (c .if1 .taken)
 
 activate-requires : tie.Need-activate-requires
-activate-requires c κs = let s = c .before .before .before .before in let a = set-accepted (s .args .b .now) (s .args .n) (s .args .x) _ (c .before .before .node-refusal .ensures) (c .before .if1 .left) in (s .pre .0, sound-active _ (s .pre .1), a .inside)
+activate-requires c κs =
+    let s = c .before .before .before .before in
+    let a =
+    set-accepted (s .args .b .now) (s .args .n) (s .args .x) _ (c .before .before .node-refusal .ensures)
+    (c .before .if1 .left) in
+    (s .pre .0, sound-active _ (s .pre .1), a .inside)
 
 set-grow-state-requires : tie.Need-set-grow-state-requires
-set-grow-state-requires c κs = let s = c .before .before .before .before .before .before .before in let a = set-accepted (s .args .b .now) (s .args .n) (s .args .x) _ (c .before .before .before .before .before .node-refusal .ensures) (c .before .before .before .before .if1 .left) in let l = ltb-false 2 (s .args .x) (a .right) in let p = c .before .before .activate .ensures in (p .formed, omega (arith, a .inside, p .nodes), omega (arith, l))
+set-grow-state-requires c κs =
+    let s = c .before .before .before .before .before .before .before in
+    let a =
+    set-accepted (s .args .b .now) (s .args .n) (s .args .x) _
+    (c .before .before .before .before .before .node-refusal .ensures) (c .before .before .before .before .if1 .left) in
+    let l = ltb-false 2 (s .args .x) (a .right) in
+    let p = c .before .before .activate .ensures in
+    (p .formed, omega (arith, a .inside, p .nodes), omega (arith, l))
 
 same-length-2 : tie.Need-same-length-2
 same-length-2 c = search needs
 
 returns-2 : tie.Need-returns-2
-returns-2 c = let s = c .before .before .before .before .before .before .before .before .before in let p = c .before .before .before .before .activate .ensures in set-done (s .args .b .now) (s .args .n) (s .args .x) _ (c .before .before .before .before .before .before .before .node-refusal .ensures) (c .before .before .before .before .before .before .if1 .left) (becomes-then p (rw (p .state) at (c .before .set-grow-state .ensures)))
+returns-2 c =
+    let s = c .before .before .before .before .before .before .before .before .before in
+    let p = c .before .before .before .before .activate .ensures in
+    set-done (s .args .b .now) (s .args .n) (s .args .x) _
+    (c .before .before .before .before .before .before .before .node-refusal .ensures)
+    (c .before .before .before .before .before .before .if1 .left)
+    (becomes-then p (rw (p .state) at (c .before .set-grow-state .ensures)))
 
 pub set-grow-state-spec : {M : Type 1} → statement M
 set-grow-state-spec =

@@ -14,7 +14,10 @@ use Rattle.calls.proofs.defect.defect_refusal.Statement.{statement}
 use Rattle.calls.proofs.defect.defect_refusal.Tie as tie
 
 -- the numbers are in range
-listed : (c : tie.Else1) → leb (vertexCount (stateOf (c .before .before .args .b .now))) (c .before .before .args .v) || ltb 2 (c .before .before .args .x) ≡ false
+listed : (c : tie.Else1)
+    → leb (vertexCount (stateOf (c .before .before .args .b .now))) (c .before .before .args .v)
+    || ltb 2 (c .before .before .args .x)
+    ≡ false
 listed c = rw (c .before .vertex-count .ensures .0) at (c .if1 .left)
 
 -- the vertex is not occupied
@@ -22,20 +25,32 @@ vacant : (c : tie.Else2) → occupied (stateOf (c .before .before .before .befor
 vacant c = sym (c .before .occupied .ensures .0) ∙ c .if2 .left
 
 -- one more node is allowed
-fits : (c : tie.Else3) → nodeCount (stateOf (c .before .before .before .before .before .before .before .args .b .now)) < stateOf (c .before .before .before .before .before .before .before .args .b .now) .nodeLimit
+fits : (c : tie.Else3)
+    → nodeCount (stateOf (c .before .before .before .before .before .before .before .args .b .now))
+    < stateOf (c .before .before .before .before .before .before .before .args .b .now) .nodeLimit
 fits c = omega (arith, c .before .node-count .ensures .0, c .before .before .node-limit .ensures .0, c .if3 .left)
 
 vertex-count-requires : tie.Need-vertex-count-requires
 vertex-count-requires c κs = search needs
 
 returns : tie.Need-returns
-returns c = let a = c .before .before .args in defect-refusal-3 (stateOf (a .b .now)) (a .v) (a .x) (rw (c .before .vertex-count .ensures .0) at (c .if1 .taken))
+returns c =
+    let a = c .before .before .args in
+    defect-refusal-3 (stateOf (a .b .now)) (a .v) (a .x) (rw (c .before .vertex-count .ensures .0) at (c .if1 .taken))
 
 occupied-requires : tie.Need-occupied-requires
-occupied-requires c κs = (c .before .before .pre, leb-false _ _ (or-neither-left (leb (vertexCount (stateOf (c .before .before .args .b .now))) (c .before .before .args .v)) _ (listed c)))
+occupied-requires c κs = (
+  c .before .before .pre,
+  leb-false _ _
+      (or-neither-left (leb (vertexCount (stateOf (c .before .before .args .b .now))) (c .before .before .args .v)) _
+      (listed c)),
+)
 
 returns-2 : tie.Need-returns-2
-returns-2 c = let a = c .before .before .before .before .args in defect-refusal-5 (stateOf (a .b .now)) (a .v) (a .x) (listed (c .before .before)) (sym (c .before .occupied .ensures .0) ∙ c .if2 .taken)
+returns-2 c =
+    let a = c .before .before .before .before .args in
+    defect-refusal-5 (stateOf (a .b .now)) (a .v) (a .x) (listed (c .before .before))
+    (sym (c .before .occupied .ensures .0) ∙ c .if2 .taken)
 
 node-limit-requires : tie.Need-node-limit-requires
 node-limit-requires c κs = search needs
@@ -44,16 +59,30 @@ node-count-requires : tie.Need-node-count-requires
 node-count-requires c κs = search needs
 
 returns-3 : tie.Need-returns-3
-returns-3 c = let d = c .before .before .before in let a = d .before .before .before .before .args in defect-refusal-8 (stateOf (a .b .now)) (a .v) (a .x) (listed (d .before .before)) (vacant d) (omega (arith, c .before .node-count .ensures .0, c .before .before .node-limit .ensures .0, c .if3 .taken))
+returns-3 c =
+    let d = c .before .before .before in
+    let a = d .before .before .before .before .args in
+    defect-refusal-8 (stateOf (a .b .now)) (a .v) (a .x) (listed (d .before .before)) (vacant d)
+    (omega (arith, c .before .node-count .ensures .0, c .before .before .node-limit .ensures .0, c .if3 .taken))
 
 store-short-new-requires : tie.Need-store-short-new-requires
 store-short-new-requires c κs = search needs
 
 returns-4 : tie.Need-returns-4
-returns-4 c = let f = c .before .before in let d = f .before .before .before in let a = d .before .before .before .before .args in defect-refusal-9 (stateOf (a .b .now)) (a .v) (a .x) (listed (d .before .before)) (vacant d) (fits f) (sym (c .before .store-short-new .ensures) ∙ c .if4 .taken)
+returns-4 c =
+    let f = c .before .before in
+    let d = f .before .before .before in
+    let a = d .before .before .before .before .args in
+    defect-refusal-9 (stateOf (a .b .now)) (a .v) (a .x) (listed (d .before .before)) (vacant d) (fits f)
+    (sym (c .before .store-short-new .ensures) ∙ c .if4 .taken)
 
 returns-5 : tie.Need-returns-5
-returns-5 c = let f = c .before .before in let d = f .before .before .before in let a = d .before .before .before .before .args in defect-refusal-0 (stateOf (a .b .now)) (a .v) (a .x) (listed (d .before .before)) (vacant d) (fits f) (sym (c .before .store-short-new .ensures) ∙ c .if4 .left)
+returns-5 c =
+    let f = c .before .before in
+    let d = f .before .before .before in
+    let a = d .before .before .before .before .args in
+    defect-refusal-0 (stateOf (a .b .now)) (a .v) (a .x) (listed (d .before .before)) (vacant d) (fits f)
+    (sym (c .before .store-short-new .ensures) ∙ c .if4 .left)
 
 pub defect-refusal-spec : {M : Type 1} → statement M
 defect-refusal-spec =

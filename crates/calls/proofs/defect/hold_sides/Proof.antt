@@ -39,7 +39,13 @@ loop-less : tie.Need-loop-less Inv-loop μ-loop
 loop-less c = search needs
 
 loop-again : tie.Need-loop-again Inv-loop μ-loop
-loop-again c = let d = c .before .before .before .before .before .before .before .before .before .loop in let v = c .before .before .before .before .before .before .vertex-side in rw (c .before .put .ensures) (held-more (d .inv) (v .result) (omega arith) (v .ensures .0 ∙ ap (λ (l : List ℕ). getD l (d .i) 0) (held-same (d .inv))) (c .before .before .before .before .hold .ensures))
+loop-again c =
+    let d = c .before .before .before .before .before .before .before .before .before .loop in
+    let v = c .before .before .before .before .before .before .vertex-side in
+    rw (c .before .put .ensures)
+    (held-more (d .inv) (v .result) (omega arith)
+    (v .ensures .0 ∙ ap (λ (l : List ℕ). getD l (d .i) 0) (held-same (d .inv)))
+    (c .before .before .before .before .hold .ensures))
 
 same-length : tie.Need-same-length Inv-loop μ-loop
 same-length c = search needs

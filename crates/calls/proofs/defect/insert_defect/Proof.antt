@@ -11,7 +11,9 @@ same-length : tie.Need-same-length
 same-length c = search needs
 
 returns : tie.Need-returns
-returns c = let s = c .before .before .before in (defect-refused (s .pre) (s .args .v) (s .args .x) _ (c .before .defect-refusal .ensures) (c .if1 .taken), refl)
+returns c =
+    let s = c .before .before .before in
+    (defect-refused (s .pre) (s .args .v) (s .args .x) _ (c .before .defect-refusal .ensures) (c .if1 .taken), refl)
 
 node-count-requires : tie.Need-node-count-requires
 node-count-requires c κs = search needs
@@ -29,8 +31,14 @@ push-node-requires c κs = let s = c .before .before .before .before .before .be
     let z = c .before .before .before .before .before .before .before .before .before .if1 .left in
     let en = c .before .before .before .before .before .before .before .node-count .ensures .0 in
     let r = c .before .before .before .before .hold-defect in
-    let f = r .ensures in
-    (f .0 .formed, defect-count-left (s .pre) (s .args .v) (s .args .x) _ e z _ (r .result) en (f .0) (f .1) (f .2), defect-class-small (s .pre) (s .args .v) (s .args .x) _ e z, defect-state-small (s .pre) (s .args .v) (s .args .x) _ e z, defect-read (s .pre) (s .args .v) (s .args .x) _ e z _ (r .result) en (f .0) (f .1) (f .2), defect-room (s .pre) (s .args .v) (s .args .x) _ e z _ (r .result) en (f .0) (f .1) (f .2))
+    let f = r .ensures in (
+      f .0 .formed,
+      defect-count-left (s .pre) (s .args .v) (s .args .x) _ e z _ (r .result) en (f .0) (f .1) (f .2),
+      defect-class-small (s .pre) (s .args .v) (s .args .x) _ e z,
+      defect-state-small (s .pre) (s .args .v) (s .args .x) _ e z,
+      defect-read (s .pre) (s .args .v) (s .args .x) _ e z _ (r .result) en (f .0) (f .1) (f .2),
+      defect-room (s .pre) (s .args .v) (s .args .x) _ e z _ (r .result) en (f .0) (f .1) (f .2),
+    )
 
 join-requires : tie.Need-join-requires
 join-requires c κs = let s = c .before .before .before .before .before .before .before .before .before .before .before .before .before .before .before in
@@ -51,13 +59,23 @@ same-length-3 : tie.Need-same-length-3
 same-length-3 c = search needs
 
 returns-2 : tie.Need-returns-2
-returns-2 c = let s = c .before .before .before .before .before .before .before .before .before .before .before .before .before .before .before .before .before .before .before .before in
-    let e = c .before .before .before .before .before .before .before .before .before .before .before .before .before .before .before .before .before .before .defect-refusal .ensures in
-    let z = c .before .before .before .before .before .before .before .before .before .before .before .before .before .before .before .before .before .if1 .left in
-    let en = c .before .before .before .before .before .before .before .before .before .before .before .before .before .before .before .node-count .ensures .0 in
+returns-2 c =
+    let s =
+    c .before .before .before .before .before .before .before .before .before .before .before .before .before .before .before .before .before .before .before .before in
+    let e =
+    c .before .before .before .before .before .before .before .before .before .before .before .before .before .before .before .before .before .before .defect-refusal .ensures in
+    let z =
+    c .before .before .before .before .before .before .before .before .before .before .before .before .before .before .before .before .before .if1 .left in
+    let en =
+    c .before .before .before .before .before .before .before .before .before .before .before .before .before .before .before .node-count .ensures .0 in
     let r = c .before .before .before .before .before .before .before .before .before .before .before .before .hold-defect in
-    let f = r .ensures in
-    (defect-done (s .pre) (s .args .v) (s .args .x) _ e z _ (r .result) en (f .0) (f .1) (f .2) (c .before .before .before .before .before .before .before .push-node .ensures) (c .before .before .before .before .join .ensures), defect-wiped (s .pre) (s .args .v) (s .args .x) _ e z _ (r .result) en (f .0) (f .1) (f .2) (c .before .wipe .ensures))
+    let f = r .ensures in (
+      defect-done (s .pre) (s .args .v) (s .args .x) _ e z _ (r .result) en (f .0) (f .1) (f .2)
+          (c .before .before .before .before .before .before .before .push-node .ensures)
+          (c .before .before .before .before .join .ensures),
+      defect-wiped (s .pre) (s .args .v) (s .args .x) _ e z _ (r .result) en (f .0) (f .1) (f .2)
+          (c .before .wipe .ensures),
+    )
 
 pub insert-defect-spec : {M : Type 1} → statement M
 insert-defect-spec =

@@ -87,7 +87,9 @@ walk-requires t c κs =
     let s = c .before .before .before .before .before in
     let v = c .before .before .before .before .vertex-count .ensures .0 in
     let r = sym (c .before .is-removed .ensures) ∙ c .if2 .left in
-    let k = first-below (stateOf (s .args .b .now)) (s .pre .1 .1) (s .args .n) (c .before .before .before .class .result) (s .pre .1 .2) (c .before .before .before .class .ensures .0) r (omega (arith, v, c .before .before .if1 .left)) in
+    let k =
+    first-below (stateOf (s .args .b .now)) (s .pre .1 .1) (s .args .n) (c .before .before .before .class .result)
+    (s .pre .1 .2) (c .before .before .before .class .ensures .0) r (omega (arith, v, c .before .before .if1 .left)) in
     (omega (arith, v, k, s .pre .0), (s .pre .1 .0, s .pre .1 .1, omega (arith, v, k, s .pre .1 .2)))
 
 returns : (t : ℕ) → lts.Need-returns (
@@ -102,7 +104,8 @@ returns : (t : ℕ) → lts.Need-returns (
 ) (at-number t) own.Post
 returns t c =
     let s = c .before .before .before in
-    first-vertex (stateOf (s .args .b .now)) (s .pre .1 .1) (s .args .n) (c .before .class .result) (s .pre .1 .2) (c .before .class .ensures .0) (omega (arith, c .before .before .vertex-count .ensures .0, c .if1 .taken))
+    first-vertex (stateOf (s .args .b .now)) (s .pre .1 .1) (s .args .n) (c .before .class .result) (s .pre .1 .2)
+    (c .before .class .ensures .0) (omega (arith, c .before .before .vertex-count .ensures .0, c .if1 .taken))
 
 returns-2 : (t : ℕ) → lts.Need-returns-2 (
   vertex-count-reads.Asked,
@@ -134,7 +137,9 @@ returns-3 t c =
     let x = c .before .before .before .before .class in
     let r = sym (c .before .before .is-removed .ensures) ∙ c .before .if2 .left in
     c .get-representative-vertex .ensures
-    ∙ rw v (first-same (stateOf (s .args .b .now)) (s .pre .1 .1) (s .args .n) (x .result) (s .pre .1 .2) (x .ensures .0) r (omega (arith, v, c .before .before .before .if1 .left)))
+    ∙ rw v
+    (first-same (stateOf (s .args .b .now)) (s .pre .1 .1) (s .args .n) (x .result) (s .pre .1 .2) (x .ensures .0) r
+    (omega (arith, v, c .before .before .before .if1 .left)))
 
 pub +get-representative-vertex-spec : {M : Type 1} → statement M
 +get-representative-vertex-spec =

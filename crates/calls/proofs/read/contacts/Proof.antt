@@ -1,9 +1,8 @@
 use Rattle.graph.specs.State.{edgeCount}
-use mathlib.Core.Path.{sym, _∙_}
+use mathlib.Core.Path.{sym, _∙_, _≡_}
 use borrow.Author.Needs.{needs}
 use native.Mathlib.Omega.{arith}
 use Prim.Native.Nat.{_-_, _≤_}
-use mathlib.Core.Path.{_≡_}
 use Rattle.graph.specs.Layout.{stateOf}
 use Rattle.calls.specs.laws.Read.{touches, Touched, touched-none, touched-yes, touched-no, touching-le, touching-all}
 use Rattle.calls.proofs.read.contacts.Statement.{statement}
@@ -25,10 +24,18 @@ touches-requires : tie.Need-touches-requires Inv-loop μ-loop
 touches-requires c κs = search needs
 
 put-requires : tie.Need-put-requires Inv-loop μ-loop
-put-requires c κs = let s = c .before .before .before .before .before .before in let q = c .before .before .before .before .loop in (omega (arith, q .inv .0 .count, q .inv .0 .room, touching-le (stateOf (s .args .b .now)) (q .e), s .pre .1), omega arith)
+put-requires c κs =
+    let s = c .before .before .before .before .before .before in
+    let q = c .before .before .before .before .loop in (
+      omega (arith, q .inv .0 .count, q .inv .0 .room, touching-le (stateOf (s .args .b .now)) (q .e), s .pre .1),
+      omega arith,
+    )
 
 add-k : tie.Need-add-k Inv-loop μ-loop
-add-k c = let s = c .before .before .before .before .before .before .before .before in let q = c .before .before .before .before .before .before .loop in record { fits = omega (arith, q .inv .0 .count, touching-le (stateOf (s .args .b .now)) (q .e)) }
+add-k c =
+    let s = c .before .before .before .before .before .before .before .before in
+    let q = c .before .before .before .before .before .before .loop in
+    record { fits = omega (arith, q .inv .0 .count, touching-le (stateOf (s .args .b .now)) (q .e)) }
 
 add-e : tie.Need-add-e Inv-loop μ-loop
 add-e c = search needs
@@ -38,7 +45,14 @@ loop-less c = search needs
 
 loop-again : tie.Need-loop-again Inv-loop μ-loop
 unfolding touches
-loop-again c = let s = c .before .before .before .before .before .before .before .before in let q = c .before .before .before .before .before .before .loop in let y = c .before .before .before .before .touches .ensures in (touched-yes (stateOf (s .args .b .now)) (s .args .list .now) (q .e) (q .k) (omega (arith, s .pre .1)) (sym y ∙ c .before .before .before .if1 .taken) (q .inv .0) (c .before .put .ensures) (c .before .put .kept .0), omega arith)
+loop-again c =
+    let s = c .before .before .before .before .before .before .before .before in
+    let q = c .before .before .before .before .before .before .loop in
+    let y = c .before .before .before .before .touches .ensures in (
+      touched-yes (stateOf (s .args .b .now)) (s .args .list .now) (q .e) (q .k) (omega (arith, s .pre .1))
+          (sym y ∙ c .before .before .before .if1 .taken) (q .inv .0) (c .before .put .ensures) (c .before .put .kept .0),
+      omega arith,
+    )
 
 add-e-2 : tie.Need-add-e-2 Inv-loop μ-loop
 add-e-2 c = search needs
@@ -48,13 +62,24 @@ loop-less-2 c = search needs
 
 loop-again-2 : tie.Need-loop-again-2 Inv-loop μ-loop
 unfolding touches
-loop-again-2 c = let s = c .before .before .before .before .before in let q = c .before .before .before .loop in (touched-no (stateOf (s .args .b .now)) (s .args .list .now) (q .e) (q .k) (sym (c .before .touches .ensures) ∙ c .if1 .left) (q .inv .0), omega arith)
+loop-again-2 c =
+    let s = c .before .before .before .before .before in
+    let q = c .before .before .before .loop in (
+      touched-no (stateOf (s .args .b .now)) (s .args .list .now) (q .e) (q .k)
+          (sym (c .before .touches .ensures) ∙ c .if1 .left) (q .inv .0),
+      omega arith,
+    )
 
 same-length : tie.Need-same-length Inv-loop μ-loop
 same-length c = search needs
 
 returns : tie.Need-returns Inv-loop μ-loop
-returns c = let s = c .before .before .before in let q = c .before .loop in let e : q .e ≡ edgeCount (stateOf (s .args .b .now)) = omega arith in let z = touching-all (stateOf (s .args .b .now)) in (rw (← z, ← e) (q .inv .0 .list), rw (← z, ← e) (q .inv .0 .count))
+returns c =
+    let s = c .before .before .before in
+    let q = c .before .loop in
+    let e : q .e ≡ edgeCount (stateOf (s .args .b .now)) = omega arith in
+    let z = touching-all (stateOf (s .args .b .now)) in
+    (rw (← z, ← e) (q .inv .0 .list), rw (← z, ← e) (q .inv .0 .count))
 
 pub contacts-spec : {M : Type 1} → statement M
 contacts-spec =

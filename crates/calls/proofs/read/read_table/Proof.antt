@@ -1,9 +1,8 @@
-use mathlib.Core.Path.{sym, refl, _∙_}
+use mathlib.Core.Path.{sym, refl, _∙_, _≡_}
 use Rattle.graph.specs.laws.Form.{laid-shape}
 use borrow.Author.Needs.{needs}
 use native.Mathlib.Omega.{arith}
 use Prim.Native.Nat.{_-_, _≤_}
-use mathlib.Core.Path.{_≡_}
 use lib.ListN.{length, take}
 use Rattle.graph.specs.Layout.{stateOf}
 use Rattle.calls.specs.Calls.{growthTable}
@@ -43,13 +42,28 @@ loop-less c = search needs
 
 loop-again : tie.Need-loop-again Inv-loop μ-loop
 unfolding growthTable
-loop-again c = let k = c .before .before .before .before .before .before in let s = k .before in let q = c .before .before .before .before .before .loop in let z = sized k in (c .before .put .ensures ∙ table-more (growthTable (stateOf (s .args .b .now))) (s .args .table .now) (q .s) (omega (arith, z)) (omega (arith, z, s .pre .1)) (q .inv .0) (c .before .before .before .growth .ensures .0), omega arith, c .before .put .kept .0 ∙ q .inv .2)
+loop-again c =
+    let k = c .before .before .before .before .before .before in
+    let s = k .before in
+    let q = c .before .before .before .before .before .loop in
+    let z = sized k in (
+      c .before .put .ensures
+          ∙ table-more (growthTable (stateOf (s .args .b .now))) (s .args .table .now) (q .s) (omega (arith, z))
+          (omega (arith, z, s .pre .1)) (q .inv .0) (c .before .before .before .growth .ensures .0),
+      omega arith,
+      c .before .put .kept .0 ∙ q .inv .2,
+    )
 
 same-length : tie.Need-same-length Inv-loop μ-loop
 same-length c = search needs
 
 returns : tie.Need-returns Inv-loop μ-loop
-returns c = let k = c .before .before in let s = k .before in let z = sized k in table-all (growthTable (stateOf (s .args .b .now))) (s .args .table .now) (c .before .loop .s) (omega (arith, z)) (c .before .loop .inv .0)
+returns c =
+    let k = c .before .before in
+    let s = k .before in
+    let z = sized k in
+    table-all (growthTable (stateOf (s .args .b .now))) (s .args .table .now) (c .before .loop .s) (omega (arith, z))
+    (c .before .loop .inv .0)
 
 pub read-table-spec : {M : Type 1} → statement M
 read-table-spec =

@@ -33,19 +33,33 @@ in-blossom-requires : tie.Need-in-blossom-requires
 in-blossom-requires c κs = (c .before .before .pre, inside c)
 
 returns-2 : tie.Need-returns-2
-returns-2 c = let a = c .before .before .before .before .args in refuses-inner (stateOf (a .b .now)) (a .n) (a .wrong) _ (listed (c .before .before)) (sym (c .before .in-blossom .ensures) ∙ c .if2 .taken)
+returns-2 c =
+    let a = c .before .before .before .before .args in
+    refuses-inner (stateOf (a .b .now)) (a .n) (a .wrong) _ (listed (c .before .before))
+    (sym (c .before .in-blossom .ensures) ∙ c .if2 .taken)
 
 store-short-requires : tie.Need-store-short-requires
 store-short-requires c κs = (c .before .before .before .before .before .pre, inside (c .before .before .before))
 
 returns-3 : tie.Need-returns-3
-returns-3 c = let a = c .before .before .before .before .before .before .before .args in refuses-store (stateOf (a .b .now)) (a .n) (a .wrong) _ (listed (c .before .before .before .before .before)) (outer (c .before .before .before)) (rw (c .before .before .if3 .taken) (sym (c .before .store-short .ensures) ∙ c .if4 .taken))
+returns-3 c =
+    let a = c .before .before .before .before .before .before .before .args in
+    refuses-store (stateOf (a .b .now)) (a .n) (a .wrong) _ (listed (c .before .before .before .before .before))
+    (outer (c .before .before .before))
+    (rw (c .before .before .if3 .taken) (sym (c .before .store-short .ensures) ∙ c .if4 .taken))
 
 returns-4 : tie.Need-returns-4
-returns-4 c = let a = c .before .before .before .before .before .before .before .args in refuses-not (stateOf (a .b .now)) (a .n) (a .wrong) _ (listed (c .before .before .before .before .before)) (outer (c .before .before .before)) (rw (c .before .before .if3 .taken) (sym (c .before .store-short .ensures) ∙ c .if4 .left))
+returns-4 c =
+    let a = c .before .before .before .before .before .before .before .args in
+    refuses-not (stateOf (a .b .now)) (a .n) (a .wrong) _ (listed (c .before .before .before .before .before))
+    (outer (c .before .before .before))
+    (rw (c .before .before .if3 .taken) (sym (c .before .store-short .ensures) ∙ c .if4 .left))
 
 returns-5 : tie.Need-returns-5
-returns-5 c = let a = c .before .before .before .before .before .args in refuses-not (stateOf (a .b .now)) (a .n) (a .wrong) _ (listed (c .before .before .before)) (outer (c .before)) (rw (c .if3 .left))
+returns-5 c =
+    let a = c .before .before .before .before .before .args in
+    refuses-not (stateOf (a .b .now)) (a .n) (a .wrong) _ (listed (c .before .before .before)) (outer (c .before))
+    (rw (c .if3 .left))
 
 pub node-refusal-spec : {M : Type 1} → statement M
 node-refusal-spec =

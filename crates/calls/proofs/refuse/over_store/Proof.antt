@@ -6,8 +6,12 @@ use Rattle.calls.proofs.refuse.over_store.Statement.{statement}
 use Rattle.calls.proofs.refuse.over_store.Tie as tie
 
 -- the product is small
-small : (c : tie.After-store-limit) → c .before .before .before .args .k * (c .before .before .side-count .result + c .before .vertex-count .result) ≤ 1025 * 9216
-small c = let h : c .before .before .side-count .result + c .before .vertex-count .result ≤ 9216 = omega arith in mul-le-mul (c .before .before .before .pre .2) h
+small : (c : tie.After-store-limit)
+    → c .before .before .before .args .k * (c .before .before .side-count .result + c .before .vertex-count .result)
+    ≤ 1025 * 9216
+small c =
+    let h : c .before .before .side-count .result + c .before .vertex-count .result ≤ 9216 = omega arith in
+    mul-le-mul (c .before .before .before .pre .2) h
 
 side-count-requires : tie.Need-side-count-requires
 side-count-requires c κs = search needs

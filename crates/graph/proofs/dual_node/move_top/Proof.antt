@@ -1,4 +1,3 @@
-use borrow.Author.Needs.{needs}
 use borrow.Author.Tests.{eq-eqb, ne-eqb}
 use Rattle.graph.specs.Node.{movedTop}
 use Rattle.graph.proofs.dual_node.move_top.Statement.{statement}

@@ -56,11 +56,20 @@ part-result-start c = search needs
 
 -- src/lists.rt:58:5
 part-result-end : tie.Need-part-result-end
-part-result-end c = let s = c .before .before .before .before in let q = lists-of (s .args .b .now) (s .args .n) (s .pre .0) (s .pre .1) (s .pre .2) in let f = store-fits (s .args .b .now) (s .pre .0) in search needs
+part-result-end c =
+    let s = c .before .before .before .before in
+    let q = lists-of (s .args .b .now) (s .args .n) (s .pre .0) (s .pre .1) (s .pre .2) in
+    let f = store-fits (s .args .b .now) (s .pre .0) in
+    search needs
 
 -- src/lists.rt:52:1
 returns : tie.Need-returns
-returns c = let s = c .before .before .before .before .before in boundary-part (s .args .b .now) (s .args .n) _ _ _ _ (s .pre .0) (lists-of (s .args .b .now) (s .args .n) (s .pre .0) (s .pre .1) (s .pre .2)) (c .before .before .before .before .node-limit .ensures .0) (c .before .before .before .store-limit .ensures .0) (c .before .before .start .ensures .0) (c .before .boundary-len .ensures .0)
+returns c =
+    let s = c .before .before .before .before .before in
+    boundary-part (s .args .b .now) (s .args .n) _ _ _ _ (s .pre .0)
+    (lists-of (s .args .b .now) (s .args .n) (s .pre .0) (s .pre .1) (s .pre .2))
+    (c .before .before .before .before .node-limit .ensures .0) (c .before .before .before .store-limit .ensures .0)
+    (c .before .before .start .ensures .0) (c .before .boundary-len .ensures .0)
 
 pub boundary-spec : {M : Type 1} → statement M
 boundary-spec =

@@ -8,7 +8,12 @@ boundary-word-requires : tie.Need-boundary-word-requires
 boundary-word-requires c κs = search needs
 
 returns : tie.Need-returns
-returns c = let s = c .before in (c .boundary-word .ensures .0, rw (c .boundary-word .ensures .0) (side-below (stateOf (s .args .b .now)) (s .args .n) (s .args .i) (s .pre .3) (s .pre .4)))
+returns c =
+    let s = c .before in (
+      c .boundary-word .ensures .0,
+      rw (c .boundary-word .ensures .0)
+          (side-below (stateOf (s .args .b .now)) (s .args .n) (s .args .i) (s .pre .3) (s .pre .4)),
+    )
 
 pub boundary-side-spec : {M : Type 1} → statement M
 boundary-side-spec = tie.close (tie.spec boundary-word-requires returns)

@@ -15,7 +15,13 @@ add-result : tie.Need-add-result
 add-result c = search needs
 
 returns : tie.Need-returns
-returns c = let s = c .before .before in rw (removed-node (s .args .b .now) (s .args .n) (s .pre .0) (s .pre .1), ← c .before .vertex-count .ensures .0, ← c .node-word .ensures .0)
+returns c =
+    let s = c .before .before in
+    rw (
+      removed-node (s .args .b .now) (s .args .n) (s .pre .0) (s .pre .1),
+      ← c .before .vertex-count .ensures .0,
+      ← c .node-word .ensures .0,
+    )
 
 pub is-removed-spec : {M : Type 1} → statement M
 is-removed-spec = tie.close (tie.spec vertex-count-requires node-word-requires add-result returns)

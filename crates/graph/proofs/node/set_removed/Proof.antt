@@ -20,7 +20,10 @@ same-length : tie.Need-same-length
 same-length c = search needs
 
 returns : tie.Need-returns
-returns c = let s = c .before .before .before .before .before in rw (c .before .before .before .vertex-count .ensures .0, class-removed _) at (class-put (s .args .n) _ (s .pre .0) (s .pre .1) (c .before .put-node .ensures))
+returns c =
+    let s = c .before .before .before .before .before in
+    rw (c .before .before .before .vertex-count .ensures .0, class-removed _)
+    at (class-put (s .args .n) _ (s .pre .0) (s .pre .1) (c .before .put-node .ensures))
 
 pub set-removed-spec : {M : Type 1} → statement M
 set-removed-spec =

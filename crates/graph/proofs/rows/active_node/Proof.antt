@@ -14,7 +14,13 @@ word-requires : tie.Need-word-requires
 word-requires c κs = search needs
 
 returns : tie.Need-returns
-returns c = let s = c .before .before in (c .word .ensures .0 ∙ active-entry (s .args .b .now) (s .args .i) (c .before .active-place .result) (s .pre .1) (c .before .active-place .ensures .stands), search needs)
+returns c =
+    let s = c .before .before in (
+      c .word .ensures .0
+          ∙ active-entry (s .args .b .now) (s .args .i) (c .before .active-place .result) (s .pre .1)
+          (c .before .active-place .ensures .stands),
+      search needs,
+    )
 
 pub active-node-spec : {M : Type 1} → statement M
 active-node-spec = tie.close (tie.spec active-place-requires word-requires returns)

@@ -55,7 +55,15 @@ add-result-5 c = search needs
 
 returns : tie.Need-returns
 unfolding Laid
-returns c = let s = c .before .before .before .before in rw (c .before .before .before .word .ensures .0, c .before .before .word2 .ensures .0, c .before .word3 .ensures .0, c .word4 .ensures .0) (active-found (s .args .b .now) (s .pre .0 .sized) (s .args .i) (omega arith))
+returns c =
+    let s = c .before .before .before .before in
+    rw (
+      c .before .before .before .word .ensures .0,
+      c .before .before .word2 .ensures .0,
+      c .before .word3 .ensures .0,
+      c .word4 .ensures .0,
+    )
+    (active-found (s .args .b .now) (s .pre .0 .sized) (s .args .i) (omega arith))
 
 pub active-place-spec : {M : Type 1} → statement M
 active-place-spec =

@@ -35,7 +35,10 @@ add-result-3 c = search needs
 
 returns : tie.Need-returns
 unfolding Laid
-returns c = let s = c .before .before in rw (c .before .word .ensures .0, c .word2 .ensures .0) (edge-found (s .args .b .now) (s .pre .0 .sized) (s .args .i) (omega arith))
+returns c =
+    let s = c .before .before in
+    rw (c .before .word .ensures .0, c .word2 .ensures .0)
+    (edge-found (s .args .b .now) (s .pre .0 .sized) (s .args .i) (omega arith))
 
 pub edge-place-spec : {M : Type 1} → statement M
 edge-place-spec =

@@ -11,7 +11,12 @@ word-requires : tie.Need-word-requires
 word-requires c κs = search needs
 
 returns : tie.Need-returns
-returns c = let s = c .before .before in (c .word .ensures .0 ∙ rows-get (s .args .b .now) 10 (s .args .i) (c .before .edge-place .result) (c .before .edge-place .ensures .stands), search needs)
+returns c =
+    let s = c .before .before in (
+      c .word .ensures .0
+          ∙ rows-get (s .args .b .now) 10 (s .args .i) (c .before .edge-place .result) (c .before .edge-place .ensures .stands),
+      search needs,
+    )
 
 pub edge-word-spec : {M : Type 1} → statement M
 edge-word-spec = tie.close (tie.spec edge-place-requires word-requires returns)

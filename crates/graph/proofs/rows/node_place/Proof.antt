@@ -51,7 +51,10 @@ add-result-4 c = omega (arith, product c)
 
 returns : tie.Need-returns
 unfolding Laid
-returns c = let s = c .before .before .before in rw (c .before .before .word .ensures .0, c .before .word2 .ensures .0, c .word3 .ensures .0) (node-found (s .args .b .now) (s .pre .0 .sized) (s .args .k) (s .args .n) (omega arith) (omega arith))
+returns c =
+    let s = c .before .before .before in
+    rw (c .before .before .word .ensures .0, c .before .word2 .ensures .0, c .word3 .ensures .0)
+    (node-found (s .args .b .now) (s .pre .0 .sized) (s .args .k) (s .args .n) (omega arith) (omega arith))
 
 pub node-place-spec : {M : Type 1} → statement M
 node-place-spec =

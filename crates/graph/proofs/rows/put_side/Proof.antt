@@ -14,7 +14,11 @@ same-length : tie.Need-same-length
 same-length c = search needs
 
 returns : tie.Need-returns
-returns c = let s = c .before .before .before .before .before in rw (c .before .put .ensures) (rowed-put (s .args .b .now) (5 + s .args .k) (s .args .s) (c .before .before .before .side-place .result) (s .args .x) (s .pre .0) (c .before .before .before .side-place .ensures))
+returns c =
+    let s = c .before .before .before .before .before in
+    rw (c .before .put .ensures)
+    (rowed-put (s .args .b .now) (5 + s .args .k) (s .args .s) (c .before .before .before .side-place .result) (s .args .x)
+    (s .pre .0) (c .before .before .before .side-place .ensures))
 
 pub put-side-spec : {M : Type 1} → statement M
 put-side-spec = tie.close (tie.spec side-place-requires put-requires same-length returns)

@@ -14,7 +14,11 @@ same-length : tie.Need-same-length
 same-length c = search needs
 
 returns : tie.Need-returns
-returns c = let s = c .before .before .before .before .before in rw (c .before .put .ensures) (rowed-put (s .args .b .now) (1 + s .args .k) (s .args .v) (c .before .before .before .vertex-place .result) (s .args .x) (s .pre .0) (c .before .before .before .vertex-place .ensures))
+returns c =
+    let s = c .before .before .before .before .before in
+    rw (c .before .put .ensures)
+    (rowed-put (s .args .b .now) (1 + s .args .k) (s .args .v) (c .before .before .before .vertex-place .result)
+    (s .args .x) (s .pre .0) (c .before .before .before .vertex-place .ensures))
 
 pub put-vertex-spec : {M : Type 1} → statement M
 put-vertex-spec = tie.close (tie.spec vertex-place-requires put-requires same-length returns)

@@ -43,7 +43,10 @@ add-result-3 c = omega (arith, product c)
 
 returns : tie.Need-returns
 unfolding Laid
-returns c = let s = c .before .before in rw (c .before .word .ensures .0, c .word2 .ensures .0) (side-found (s .args .b .now) (s .pre .0 .sized) (s .args .k) (s .args .s) (omega arith) (omega arith))
+returns c =
+    let s = c .before .before in
+    rw (c .before .word .ensures .0, c .word2 .ensures .0)
+    (side-found (s .args .b .now) (s .pre .0 .sized) (s .args .k) (s .args .s) (omega arith) (omega arith))
 
 pub side-place-spec : {M : Type 1} → statement M
 side-place-spec =

@@ -12,7 +12,13 @@ word-requires : tie.Need-word-requires
 word-requires c κs = search needs
 
 returns : tie.Need-returns
-returns c = let s = c .before .before in (c .word .ensures .0 ∙ rows-get (s .args .b .now) (5 + s .args .k) (s .args .s) (c .before .side-place .result) (c .before .side-place .ensures .stands), search needs)
+returns c =
+    let s = c .before .before in (
+      c .word .ensures .0
+          ∙ rows-get (s .args .b .now) (5 + s .args .k) (s .args .s) (c .before .side-place .result)
+          (c .before .side-place .ensures .stands),
+      search needs,
+    )
 
 pub side-word-spec : {M : Type 1} → statement M
 side-word-spec = tie.close (tie.spec side-place-requires word-requires returns)

@@ -47,7 +47,10 @@ add-result-4 c = search needs
 
 returns : tie.Need-returns
 unfolding Laid
-returns c = let s = c .before .before .before in rw (c .before .before .word .ensures .0, c .before .word2 .ensures .0, c .word3 .ensures .0) (store-found (s .args .b .now) (s .pre .0 .sized) (s .args .i) (omega arith))
+returns c =
+    let s = c .before .before .before in
+    rw (c .before .before .word .ensures .0, c .before .word2 .ensures .0, c .word3 .ensures .0)
+    (store-found (s .args .b .now) (s .pre .0 .sized) (s .args .i) (omega arith))
 
 pub store-place-spec : {M : Type 1} → statement M
 store-place-spec =

@@ -27,7 +27,10 @@ add-result-2 c = omega (arith, product c)
 
 returns : tie.Need-returns
 unfolding Laid
-returns c = rw (c .word .ensures .0) (vertex-found (c .before .args .b .now) (c .before .pre .0 .sized) (c .before .args .k) (c .before .args .v) (omega arith) (omega arith))
+returns c =
+    rw (c .word .ensures .0)
+    (vertex-found (c .before .args .b .now) (c .before .pre .0 .sized) (c .before .args .k) (c .before .args .v)
+    (omega arith) (omega arith))
 
 pub vertex-place-spec : {M : Type 1} → statement M
 vertex-place-spec = tie.close (tie.spec word-requires mul-result add-result add-result-2 returns)

@@ -12,7 +12,13 @@ word-requires : tie.Need-word-requires
 word-requires c κs = search needs
 
 returns : tie.Need-returns
-returns c = let s = c .before .before in (c .word .ensures .0 ∙ rows-get (s .args .b .now) (1 + s .args .k) (s .args .v) (c .before .vertex-place .result) (c .before .vertex-place .ensures .stands), search needs)
+returns c =
+    let s = c .before .before in (
+      c .word .ensures .0
+          ∙ rows-get (s .args .b .now) (1 + s .args .k) (s .args .v) (c .before .vertex-place .result)
+          (c .before .vertex-place .ensures .stands),
+      search needs,
+    )
 
 pub vertex-word-spec : {M : Type 1} → statement M
 vertex-word-spec = tie.close (tie.spec vertex-place-requires word-requires returns)

@@ -1,4 +1,3 @@
-use native.Mathlib.Omega.{arith}
 use Rattle.graph.specs.Layout.{stateOf, stateFrom}
 use Rattle.graph.specs.laws.Field.{end-below}
 use mathlib.Core.Path.{refl}

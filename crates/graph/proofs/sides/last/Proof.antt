@@ -1,5 +1,5 @@
 use borrow.Author.Tests.{lt-ltb, le-ltb}
-use Rattle.graph.specs.laws.SidesAt.{lastWord}
+use Rattle.graph.specs.inner.SidesAt.{lastWord}
 use borrow.Author.Needs.{needs}
 use Rattle.graph.proofs.sides.last.Statement.{statement}
 use Rattle.graph.proofs.sides.last.Tie as tie

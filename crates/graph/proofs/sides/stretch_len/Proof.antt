@@ -14,7 +14,11 @@ sub-result : tie.Need-sub-result
 sub-result c = let s = c .before .before in let q = around-of (s .args .b .now) (s .args .v) (s .pre .0) (s .pre .1) (s .pre .2) in omega arith
 
 returns : tie.Need-returns
-returns c = let s = c .before .before in let q = around-of (s .args .b .now) (s .args .v) (s .pre .0) (s .pre .1) (s .pre .2) in let n = laid-sides (s .args .b .now) (s .pre .0) in (omega arith, omega arith)
+returns c =
+    let s = c .before .before in
+    let q = around-of (s .args .b .now) (s .args .v) (s .pre .0) (s .pre .1) (s .pre .2) in
+    let n = laid-sides (s .args .b .now) (s .pre .0) in
+    (omega arith, omega arith)
 
 pub stretch-len-spec : {M : Type 1} → statement M
 stretch-len-spec = tie.close (tie.spec first-requires last-requires sub-result returns)

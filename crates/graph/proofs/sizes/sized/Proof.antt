@@ -31,11 +31,17 @@ block-length-requires c κs = sym (c .before .sizes-ok .ensures) ∙ c .if2 .tak
 
 returns-2 : tie.Need-returns-2
 unfolding sized
-returns-2 c = let b = c .before .before .before .before .before .before .before .before .args .b .now in let z : sizesOk (vOf b) (eOf b) (nOf b) (lOf b) ≡ true = cc in rw (le-leb _ _ (c .before .before .before .before .before .before .before .if1 .left), z) (cc)
+returns-2 c =
+    let b = c .before .before .before .before .before .before .before .before .args .b .now in
+    let z : sizesOk (vOf b) (eOf b) (nOf b) (lOf b) ≡ true = cc in
+    rw (le-leb _ _ (c .before .before .before .before .before .before .before .if1 .left), z) (cc)
 
 returns-3 : tie.Need-returns-3
 unfolding sized
-returns-3 c = let b = c .before .before .before .before .before .before .before .args .b .now in let z : sizesOk (vOf b) (eOf b) (nOf b) (lOf b) ≡ false = cc in rw (le-leb _ _ (c .before .before .before .before .before .before .if1 .left), z)
+returns-3 c =
+    let b = c .before .before .before .before .before .before .before .args .b .now in
+    let z : sizesOk (vOf b) (eOf b) (nOf b) (lOf b) ≡ false = cc in
+    rw (le-leb _ _ (c .before .before .before .before .before .before .if1 .left), z)
 
 pub sized-spec : {M : Type 1} → statement M
 sized-spec =

@@ -1,4 +1,3 @@
-use borrow.Author.Needs.{needs}
 use mathlib.Core.Path.{refl}
 use Rattle.graph.specs.Open.{sizesOk}
 use Rattle.graph.proofs.sizes.sizes_ok.Statement.{statement}

@@ -27,7 +27,20 @@ amount-requires c κs = search needs
 
 returns : tie.Need-returns
 unfolding nodeAt
-returns c = let s = c .before .before .before .before .before .before in (rw (sym (class-number (vertexCount (stateOf (s .args .b .now))) _) ∙ ap (classNumber (vertexCount (stateOf (s .args .b .now)))) (c .before .before .before .before .before .class .ensures .0), c .before .before .before .before .grow-state .ensures .0, c .before .before .before .parent .ensures .0, c .before .before .dual .ensures .0, c .before .overgrown-len .ensures .0, c .amount .ensures .0), c .amount .ensures .1)
+returns c =
+    let s = c .before .before .before .before .before .before in (
+      rw (
+        sym (class-number (vertexCount (stateOf (s .args .b .now))) _)
+            ∙ ap (classNumber (vertexCount (stateOf (s .args .b .now))))
+            (c .before .before .before .before .before .class .ensures .0),
+        c .before .before .before .before .grow-state .ensures .0,
+        c .before .before .before .parent .ensures .0,
+        c .before .before .dual .ensures .0,
+        c .before .overgrown-len .ensures .0,
+        c .amount .ensures .0,
+      ),
+      c .amount .ensures .1,
+    )
 
 pub node-spec : {M : Type 1} → statement M
 node-spec =

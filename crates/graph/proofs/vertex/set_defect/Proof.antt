@@ -19,7 +19,10 @@ same-length : tie.Need-same-length
 same-length c = search needs
 
 returns : tie.Need-returns
-returns c = let s = c .before .before .before .before .before in defect-put (s .args .v) (s .args .x) (s .pre .0) (rw (c .before .before .before .vertex-word .ensures .0) at (c .before .put-vertex .ensures))
+returns c =
+    let s = c .before .before .before .before .before in
+    defect-put (s .args .v) (s .args .x) (s .pre .0)
+    (rw (c .before .before .before .vertex-word .ensures .0) at (c .before .put-vertex .ensures))
 
 pub set-defect-spec : {M : Type 1} → statement M
 set-defect-spec =

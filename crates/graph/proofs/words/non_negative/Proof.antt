@@ -1,4 +1,3 @@
-use borrow.Author.Needs.{needs}
 use Rattle.graph.proofs.Magnitude.{read-non-neg}
 use Rattle.graph.proofs.words.non_negative.Statement.{statement}
 use Rattle.graph.proofs.words.non_negative.Tie as tie

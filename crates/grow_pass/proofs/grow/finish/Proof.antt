@@ -1,7 +1,6 @@
 use mathlib.Core.Path.{_∙_}
 use Rattle.grow_pass.specs.laws.Grow.{finish-block, finish-scratch}
 use borrow.Author.Needs.{needs}
-use borrow.Author.Needs.{needs}
 use Rattle.grow_pass.proofs.grow.finish.Statement.{statement}
 use Rattle.grow_pass.proofs.grow.finish.Tie as tie
 
@@ -35,8 +34,14 @@ same-length-2 c = search needs
 returns : tie.Need-returns
 returns c = let r = c .before .before .before .before .before .before .before .before .before .before in
     let s = r .before .before .before .before .before in (
-      finish-block (s .args .t .now) (s .args .n) (s .args .m) _ (s .args .p) (r .before .before .before .overgrown-len .ensures .0) (r .replace-lists .ensures),
-      c .before .wipe3 .ensures ∙ rw (c .before .before .before .before .wipe2 .ensures, c .before .before .before .before .before .before .before .wipe .ensures) (finish-scratch (s .pre .0)),
+      finish-block (s .args .t .now) (s .args .n) (s .args .m) _ (s .args .p)
+          (r .before .before .before .overgrown-len .ensures .0) (r .replace-lists .ensures),
+      c .before .wipe3 .ensures
+          ∙ rw (
+            c .before .before .before .before .wipe2 .ensures,
+            c .before .before .before .before .before .before .before .wipe .ensures,
+          )
+          (finish-scratch (s .pre .0)),
     )
 
 pub finish-spec : {M : Type 1} → statement M

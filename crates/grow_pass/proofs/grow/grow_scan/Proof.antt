@@ -23,7 +23,12 @@ boundary-len-requires : tie.Need-boundary-len-requires Inv-loop μ-loop
 boundary-len-requires c κs = search needs
 
 loop-holds : tie.Need-loop-holds Inv-loop μ-loop
-loop-holds c = let s = c .before .before in (loop-none (growStep (s .args .n)) (boundaryOf (stateOf (s .args .b .now)) (s .args .n)) (start-working (s .pre .0) (s .pre .1) (s .pre .2) (s .pre .3)), refl)
+loop-holds c =
+    let s = c .before .before in (
+      loop-none (growStep (s .args .n)) (boundaryOf (stateOf (s .args .b .now)) (s .args .n))
+          (start-working (s .pre .0) (s .pre .1) (s .pre .2) (s .pre .3)),
+      refl,
+    )
 
 boundary-side-requires : tie.Need-boundary-side-requires Inv-loop μ-loop
 boundary-side-requires c κs = let d = c .before .before in
@@ -49,7 +54,13 @@ loop-again c = let d = c .before .before .before .before .before .before .before
     let q = d .loop .inv in
     let x = c .before .before .grow-step .ensures in
     let v = c .before .before .before .before .before .boundary-side in (
-      loop-more (q .0) (v .result) (keeping-grow-step (s .args .n)) (omega (arith, c .before .before .before .before .before .before .before .loop-test .taken, d .before .boundary-len .ensures .0)) (v .ensures .0 ∙ ap (λ (l : List ℕ). getD l (d .loop .i) 0) (kept-boundary (q .0 .kept) (s .args .n))) x,
+      loop-more (q .0) (v .result) (keeping-grow-step (s .args .n))
+          (omega (
+            arith,
+            c .before .before .before .before .before .before .before .loop-test .taken,
+            d .before .boundary-len .ensures .0,
+          ))
+          (v .ensures .0 ∙ ap (λ (l : List ℕ). getD l (d .loop .i) 0) (kept-boundary (q .0 .kept) (s .args .n))) x,
       step-count (q .0 .worked .working) (v .result) x ∙ ap (λ (k : ℕ). k + 1) (q .1),
     )
 
@@ -57,7 +68,10 @@ same-length : tie.Need-same-length Inv-loop μ-loop
 same-length c = search needs
 
 same-length-2 : tie.Need-same-length-2 Inv-loop μ-loop
-same-length-2 c = let s = c .before .before .before .before in c .before .loop .inv .0 .worked .working .holding .size ∙ sym (start-working (s .pre .0) (s .pre .1) (s .pre .2) (s .pre .3) .holding .size)
+same-length-2 c =
+    let s = c .before .before .before .before in
+    c .before .loop .inv .0 .worked .working .holding .size
+    ∙ sym (start-working (s .pre .0) (s .pre .1) (s .pre .2) (s .pre .3) .holding .size)
 
 returns : tie.Need-returns Inv-loop μ-loop
 returns c = let s = c .before .before .before .before in scan-all (s .args .t .now) (loop-all (c .before .loop .inv .0) (omega arith))

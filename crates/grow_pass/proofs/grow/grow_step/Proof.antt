@@ -2,7 +2,6 @@ use native.Mathlib.Omega.{arith}
 use mathlib.Core.Path.{sym, _∙_}
 use Rattle.grow_pass.specs.laws.Grow.{step-note, step-keep}
 use borrow.Author.Needs.{needs}
-use borrow.Author.Needs.{needs}
 use Rattle.grow_pass.proofs.grow.grow_step.Statement.{statement}
 use Rattle.grow_pass.proofs.grow.grow_step.Tie as tie
 
@@ -36,7 +35,9 @@ same-length-2 c = search needs
 returns : tie.Need-returns
 returns c = let h = c .before .before .before .before .before .before in
     let s = h .before .before .before .before .before in
-    rw (c .before .before .put .ensures) (step-note (s .pre .0) (s .args .s) (omega arith) (sym (h .before .before .before .reaches .ensures) ∙ h .before .before .if1 .taken) (h .hold-far .ensures))
+    rw (c .before .before .put .ensures)
+    (step-note (s .pre .0) (s .args .s) (omega arith)
+    (sym (h .before .before .before .reaches .ensures) ∙ h .before .before .if1 .taken) (h .hold-far .ensures))
 
 same-length-3 : tie.Need-same-length-3
 same-length-3 c = search needs

@@ -32,7 +32,8 @@ reaches-requires c κs = search needs
 returns : tie.Need-returns Inv-loop μ-loop
 returns c = let d = c .before .before .before .before .loop in
     let a = c .before .before .before .before .before .before .args in
-    any-here (reaches (stateOf (a .b .now))) (boundaryOf (stateOf (a .b .now)) (a .n)) (d .i) (d .inv .1) (omega arith) (rw (c .before .before .boundary-side .ensures .0) at (sym (c .before .reaches .ensures) ∙ c .if1 .taken))
+    any-here (reaches (stateOf (a .b .now))) (boundaryOf (stateOf (a .b .now)) (a .n)) (d .i) (d .inv .1) (omega arith)
+    (rw (c .before .before .boundary-side .ensures .0) at (sym (c .before .reaches .ensures) ∙ c .if1 .taken))
 
 add-i : tie.Need-add-i Inv-loop μ-loop
 add-i c = search needs
@@ -42,8 +43,11 @@ loop-less c = search needs
 
 loop-again : tie.Need-loop-again Inv-loop μ-loop
 loop-again c = let d = c .before .before .before .before .loop in
-    let a = c .before .before .before .before .before .before .args in
-    (omega arith, any-on (reaches (stateOf (a .b .now))) (boundaryOf (stateOf (a .b .now)) (a .n)) (d .i) (d .inv .1) (omega arith) (rw (c .before .before .boundary-side .ensures .0) at (sym (c .before .reaches .ensures) ∙ c .if1 .left)))
+    let a = c .before .before .before .before .before .before .args in (
+      omega arith,
+      any-on (reaches (stateOf (a .b .now))) (boundaryOf (stateOf (a .b .now)) (a .n)) (d .i) (d .inv .1) (omega arith)
+          (rw (c .before .before .boundary-side .ensures .0) at (sym (c .before .reaches .ensures) ∙ c .if1 .left)),
+    )
 
 returns-2 : tie.Need-returns-2 Inv-loop μ-loop
 returns-2 c = let d = c .before .loop in

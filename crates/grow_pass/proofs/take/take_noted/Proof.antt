@@ -15,7 +15,10 @@ abbrev μ-loop : tie.MeasureT-loop
 μ-loop b₀ t₀ n m l i₀ q₀ b t i q = l - i
 
 loop-holds : tie.Need-loop-holds Inv-loop μ-loop
-loop-holds c = (loop-none (takeStep (c .args .n)) (numbersAt (c .args .t .now) (c .args .m) (c .args .p .noted)) (c .pre .0), noting-none (c .pre .1) (c .pre .3))
+loop-holds c = (
+  loop-none (takeStep (c .args .n)) (numbersAt (c .args .t .now) (c .args .m) (c .args .p .noted)) (c .pre .0),
+  noting-none (c .pre .1) (c .pre .3),
+)
 
 add-word : tie.Need-add-word Inv-loop μ-loop
 add-word c = search needs
@@ -29,8 +32,13 @@ take-step-requires c κs = let d = c .before .before .before .before .before in
     let q = d .loop .inv in
     let w = c .before .before .word in
     let e = noting-side (q .0 .worked .working) (q .1) (w .result) (w .ensures .0) (omega arith) in
-    let l = noted-length (s .pre .0) in
-    (q .0 .worked .working, q .1 .own, noted-below (numbersAt (s .args .t .now) (s .args .m) (s .args .p .noted)) (s .args .m) (d .loop .i) (w .result) (s .pre .2) (omega arith) e, omega arith)
+    let l = noted-length (s .pre .0) in (
+      q .0 .worked .working,
+      q .1 .own,
+      noted-below (numbersAt (s .args .t .now) (s .args .m) (s .args .p .noted)) (s .args .m) (d .loop .i) (w .result)
+          (s .pre .2) (omega arith) e,
+      omega arith,
+    )
 
 add-i : tie.Need-add-i Inv-loop μ-loop
 add-i c = search needs

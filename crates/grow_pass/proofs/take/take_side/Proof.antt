@@ -1,6 +1,5 @@
-use mathlib.Core.Path.{ap}
+use mathlib.Core.Path.{ap, sym, _∙_}
 use lib.Dec.{eqb}
-use mathlib.Core.Path.{sym, _∙_}
 use Rattle.grow_pass.specs.laws.Take.{take-free, take-held}
 use borrow.Author.Needs.{needs}
 use Rattle.grow_pass.proofs.take.take_side.Statement.{statement}
@@ -30,7 +29,10 @@ same-length-2 c = search needs
 returns : tie.Need-returns
 returns c = let s = c .before .before .before .before .before .before .before .before .before .before .before .before .before in
     let e = c .before .before .before .before .before .before .before .before in
-    rw (c .before .before .before .put .ensures) (take-free (s .pre .0) (s .pre .1) (s .args .s) (s .pre .2) (s .args .g) (eqb (e .weight .result) 0) (sym (e .before .before .before .holder .ensures .0) ∙ e .before .before .if1 .taken) (c .before .before .before .before .before .before .hold .ensures) (ap (λ x. eqb x 0) (e .weight .ensures .0)))
+    rw (c .before .before .before .put .ensures)
+    (take-free (s .pre .0) (s .pre .1) (s .args .s) (s .pre .2) (s .args .g) (eqb (e .weight .result) 0)
+    (sym (e .before .before .before .holder .ensures .0) ∙ e .before .before .if1 .taken)
+    (c .before .before .before .before .before .before .hold .ensures) (ap (λ x. eqb x 0) (e .weight .ensures .0)))
 
 same-length-3 : tie.Need-same-length-3
 same-length-3 c = search needs

@@ -1,15 +1,14 @@
-use Prim.Native.Nat.{ℕ}
+use Prim.Native.Nat.{ℕ, _-_}
 use mathlib.Core.List.{List}
 use lib.ListN.{getD}
 use Rattle.graph.specs.laws.State.{kept-sides}
 use borrow.Author.Needs.{needs}
 use native.Mathlib.Omega.{arith}
 use mathlib.Core.Path.{ap, _∙_}
-use Prim.Native.Nat.{_-_}
 use Rattle.graph.specs.State.{sidesAt}
 use Rattle.graph.specs.Layout.{stateOf}
 use Rattle.pass.specs.Grow.{takeSide}
-use Rattle.grow_pass.specs.Growing.{OwnKept}
+use Rattle.grow_pass.specs.inner.Growing.{OwnKept}
 use Rattle.grow_pass.specs.laws.Growing.{Looped, loop-none, loop-more, loop-all}
 use Rattle.grow_pass.specs.laws.Take.{keeping-take-side, own-taken}
 use Rattle.grow_pass.proofs.take.take_sides.Statement.{statement}
@@ -25,7 +24,11 @@ sides-len-requires : tie.Need-sides-len-requires Inv-loop μ-loop
 sides-len-requires c κs = search needs
 
 loop-holds : tie.Need-loop-holds Inv-loop μ-loop
-loop-holds c = let s = c .before .before in (loop-none (takeSide (s .args .n) (s .args .g)) (sidesAt (stateOf (s .args .b .now)) (s .args .v)) (s .pre .0), s .pre .1)
+loop-holds c =
+    let s = c .before .before in (
+      loop-none (takeSide (s .args .n) (s .args .g)) (sidesAt (stateOf (s .args .b .now)) (s .args .v)) (s .pre .0),
+      s .pre .1,
+    )
 
 vertex-side-requires : tie.Need-vertex-side-requires Inv-loop μ-loop
 vertex-side-requires c κs = let q = c .before .before .loop .inv .0 in
@@ -47,7 +50,8 @@ loop-again c = let d = c .before .before .before .before .before .before .before
     let q = d .loop .inv in
     let x = c .before .before .take-side .ensures in
     let v = c .before .before .before .before .before .vertex-side in (
-      loop-more (q .0) (v .result) (keeping-take-side (a .n) (a .g)) (omega arith) (v .ensures .0 ∙ ap (λ (l : List ℕ). getD l (d .loop .i) 0) (kept-sides (q .0 .kept) (a .v))) x,
+      loop-more (q .0) (v .result) (keeping-take-side (a .n) (a .g)) (omega arith)
+          (v .ensures .0 ∙ ap (λ (l : List ℕ). getD l (d .loop .i) 0) (kept-sides (q .0 .kept) (a .v))) x,
       own-taken (q .0 .worked .working) (a .g) (v .result) (q .1) (omega arith) x,
     )
 

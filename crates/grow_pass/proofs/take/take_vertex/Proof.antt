@@ -1,7 +1,6 @@
 use native.Mathlib.Omega.{arith}
 use Rattle.grow_pass.specs.laws.Take.{held-working, held-own, sided-pushed, vertex-push, vertex-keep}
 use borrow.Author.Needs.{needs}
-use borrow.Author.Needs.{needs}
 use Rattle.grow_pass.proofs.take.take_vertex.Statement.{statement}
 use Rattle.grow_pass.proofs.take.take_vertex.Tie as tie
 
@@ -39,7 +38,9 @@ returns : tie.Need-returns
 returns c = let d = c .before .before .before .before .before .before .before .before .before in
     let s = d .before .before .before .before .before .before in
     let h = d .before .before .before .before .hold .ensures in
-    rw (c .before .before .put .ensures) (vertex-push (s .pre .0) (s .args .g) (s .args .v) h (d .take-sides .ensures) (omega arith) (omega arith) (omega arith))
+    rw (c .before .before .put .ensures)
+    (vertex-push (s .pre .0) (s .args .g) (s .args .v) h (d .take-sides .ensures) (omega arith) (omega arith)
+    (omega arith))
 
 same-length-3 : tie.Need-same-length-3
 same-length-3 c = search needs

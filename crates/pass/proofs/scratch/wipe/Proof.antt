@@ -3,7 +3,7 @@ use borrow.Author.Needs.{needs}
 use native.Mathlib.Omega.{arith}
 use Prim.Native.Nat.{_-_, _≤_}
 use lib.ListN.{length}
-use Rattle.pass.specs.Scratch.{wiped}
+use Rattle.pass.specs.inner.Scratch.{wiped}
 use Rattle.pass.specs.laws.Scratch.{wipe-none, wipe-more}
 use Rattle.pass.proofs.scratch.wipe.Statement.{statement}
 use Rattle.pass.proofs.scratch.wipe.Tie as tie
@@ -30,7 +30,10 @@ loop-less : tie.Need-loop-less Inv-loop μ-loop
 loop-less c = search needs
 
 loop-again : tie.Need-loop-again Inv-loop μ-loop
-loop-again c = let q = c .before .before .before .before .loop in let s = c .before .before .before .before .before .args in (omega arith, omega arith, c .before .put .ensures ∙ rw (q .inv .2) (wipe-more (s .t .now) (s .p) (q .i)))
+loop-again c =
+    let q = c .before .before .before .before .loop in
+    let s = c .before .before .before .before .before .args in
+    (omega arith, omega arith, c .before .put .ensures ∙ rw (q .inv .2) (wipe-more (s .t .now) (s .p) (q .i)))
 
 same-length : tie.Need-same-length Inv-loop μ-loop
 same-length c = search needs

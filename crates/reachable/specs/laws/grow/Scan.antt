@@ -10,7 +10,8 @@ use lib.ListN.{length}
 use borrow.Author.Tests.{eqb-true, eq-eqb}
 use Rattle.graph.specs.Basic.{member, distinct}
 use Rattle.graph.specs.State.{State, opposite, endAt, growthAt, holderAt, grandsonAt, virtualAt, weightOver, grownOver, boundaryOf, overgrownOf, heldSide}
-use Rattle.graph.specs.laws.State.{if-cases, and-left, and-right, fold-keeps-rest, Kept, kept-refl, kept-trans, kept-held-side, opposite-opposite}
+use Rattle.graph.specs.laws.State.{if-cases, and-left, and-right, fold-keeps-rest, kept-refl, kept-trans, kept-held-side, opposite-opposite}
+use Rattle.graph.specs.inner.Kept.{SameButHolders}
 use Rattle.graph.specs.laws.Members.{by-test, clash, both, member-head, member-tail, member-cons, member-nil, member-append, member-append-left, member-append-right, distinct-head, distinct-tail}
 use Rattle.pass.specs.Work.{Work, onState, keep, note, startPass}
 use Rattle.pass.specs.Grow.{reaches, growStep, growScanned}
@@ -32,7 +33,7 @@ module _ (c : State) (n : ℕ) where
   NotToTake s = holderAt c (opposite s) ≡ 0 → growthAt c s + growthAt c (opposite s) ≡ weightOver c s → virtualAt c (endAt c (opposite s)) ≢ 0
 
   pub record Scanning (w : Work) (r : List ℕ) : Type 0 where
-    pub keeps : Kept c (w .state)
+    pub keeps : SameButHolders c (w .state)
     pub vertices : w .state .vertices ≡ c .vertices
     pub over : w .over ≡ overgrownOf c n
     pub holder : (t : ℕ) → (holderAt (w .state) t ≡ holderAt c t) ⊎ ((holderAt c t ≡ 0) × (member (opposite t) (w .noted) ≡ true))
@@ -43,7 +44,9 @@ module _ (c : State) (n : ℕ) where
     pub once-rest : distinct r ≡ true
     pub kept-or-noted : (s : ℕ) → member s (boundaryOf c n) ≡ true → (member s r ≡ true) ⊎ ((member s (w .kept) ≡ true) ⊎ (member s (w .noted) ≡ true))
 
-  module _ (graph-ok : GraphOk (c .graph)) (within : (s : ℕ) → member s (boundaryOf c n) ≡ true → s < length (c .graph .end)) (once : distinct (boundaryOf c n) ≡ true) (holders : length (c .sides .holder) ≡ length (c .graph .end)) where
+  module _ (graph-ok : GraphOk (c .graph))
+      (within : (s : ℕ) → member s (boundaryOf c n) ≡ true → s < length (c .graph .end))
+      (once : distinct (boundaryOf c n) ≡ true) (holders : length (c .sides .holder) ≡ length (c .graph .end)) where
     module _ (w : Work) (s : ℕ) (r : List ℕ) (j : Scanning w (s ∷ r)) where
       off-rest : (t : ℕ) → member t (s ∷ r) ≡ false → member t r ≡ false
       off-rest t e = by-test (member t r) (λ a. clash (member t (s ∷ r)) (member-tail t s r a) e) (λ a. a)
@@ -62,14 +65,19 @@ module _ (c : State) (n : ℕ) where
         kept = λ t m.
             member-append t (w .kept) (s ∷ []) m
             (λ a. let b = j .kept t a in (b .0, b .1, off-rest t (b .2), b .3))
-            (λ a. member-cons t s [] a (λ b. rw b (j .sub s (member-head s r), not-noted, distinct-head s r (j .once-rest), nothing-to-take)) (λ b. member-nil t b));
+            (λ a. member-cons t s [] a
+            (λ b. rw b (j .sub s (member-head s r), not-noted, distinct-head s r (j .once-rest), nothing-to-take))
+            (λ b. member-nil t b));
         apart = λ t m. off-rest t (j .apart t m);
         sub = λ t m. j .sub t (member-tail t s r m);
         once-rest = distinct-tail s r (j .once-rest);
         kept-or-noted = λ t m.
             ⊎-elim
-            (λ (a : member t (s ∷ r) ≡ true). member-cons t s r a (λ b. inr (inl (rw b (member-append-right s (w .kept) (s ∷ []) (member-head s []))))) (λ b. inl b))
-            (λ (a : (member t (w .kept) ≡ true) ⊎ (member t (w .noted) ≡ true)). inr (⊎-elim (λ (b : member t (w .kept) ≡ true). inl (member-append-left t (w .kept) (s ∷ []) b)) (λ (b : member t (w .noted) ≡ true). inr b) a))
+            (λ (a : member t (s ∷ r) ≡ true). member-cons t s r a
+            (λ b. inr (inl (rw b (member-append-right s (w .kept) (s ∷ []) (member-head s []))))) (λ b. inl b))
+            (λ (a : (member t (w .kept) ≡ true) ⊎ (member t (w .noted) ≡ true)). inr
+            (⊎-elim (λ (b : member t (w .kept) ≡ true). inl (member-append-left t (w .kept) (s ∷ []) b))
+            (λ (b : member t (w .noted) ≡ true). inr b) a))
             (j .kept-or-noted t m);
       }
 
@@ -81,21 +89,29 @@ module _ (c : State) (n : ℕ) where
 
       -- the far side is free in c too
       far-free : holderAt (w .state) (opposite s) ≡ 0 → holderAt c (opposite s) ≡ 0
-      far-free e = ⊎-elim (λ (a : holderAt (w .state) (opposite s) ≡ holderAt c (opposite s)). sym a ∙ e) (λ (a : (holderAt c (opposite s) ≡ 0) × (member (opposite (opposite s)) (w .noted) ≡ true)). a .0) (j .holder (opposite s))
+      far-free e =
+          ⊎-elim (λ (a : holderAt (w .state) (opposite s) ≡ holderAt c (opposite s)). sym a ∙ e)
+          (λ (a : (holderAt c (opposite s) ≡ 0) × (member (opposite (opposite s)) (w .noted) ≡ true)). a .0)
+          (j .holder (opposite s))
 
       -- and in the work at hand
       far-still : holderAt c (opposite s) ≡ 0 → holderAt (w .state) (opposite s) ≡ 0
       far-still e =
           ⊎-elim
           (λ (a : holderAt (w .state) (opposite s) ≡ holderAt c (opposite s)). a ∙ e)
-          (λ (a : (holderAt c (opposite s) ≡ 0) × (member (opposite (opposite s)) (w .noted) ≡ true)). clash (member s (w .noted)) (rw (opposite-opposite s) at (a .1)) not-noted)
+          (λ (a : (holderAt c (opposite s) ≡ 0) × (member (opposite (opposite s)) (w .noted) ≡ true)). clash
+          (member s (w .noted)) (rw (opposite-opposite s) at (a .1)) not-noted)
           (j .holder (opposite s))
 
-      scan-note : growthAt c s + growthAt c (opposite s) ≡ weightOver c s → holderAt (w .state) (opposite s) ≡ 0 → virtualAt c (endAt c (opposite s)) ≡ 0 → (d : ℕ) → Scanning (note (onState w (heldSide (w .state) (opposite s) n d)) s) r
+      scan-note : growthAt c s + growthAt c (opposite s) ≡ weightOver c s → holderAt (w .state) (opposite s) ≡ 0
+          → virtualAt c (endAt c (opposite s)) ≡ 0 → (d : ℕ)
+          → Scanning (note (onState w (heldSide (w .state) (opposite s) n d)) s) r
       unfolding note onState
       scan-note full free real d =
           let here : holderAt (heldSide (w .state) (opposite s) n d) (opposite s) ≡ n + 1 = side-held (w .state) (opposite s) n d inside in
-          let there : (t : ℕ) → t ≢ opposite s → holderAt (heldSide (w .state) (opposite s) n d) t ≡ holderAt (w .state) t = λ t a. side-other (w .state) (opposite s) n d t a in
+          let there : (t : ℕ) → t ≢ opposite s
+          → holderAt (heldSide (w .state) (opposite s) n d) t ≡ holderAt (w .state) t =
+          λ t a. side-other (w .state) (opposite s) n d t a in
           record {
             keeps = kept-trans (j .keeps) (kept-held-side (w .state) (opposite s) n d);
             vertices = side-vertices (w .state) (opposite s) n d ∙ j .vertices;
@@ -120,22 +136,33 @@ module _ (c : State) (n : ℕ) where
                 (λ b. member-cons t s [] b (λ y. absurd (a y)) (λ y. member-nil t y)));
             kept = λ t m.
                 let b = j .kept t m in
-                let ne : t ≢ s = λ q. clash (member t (s ∷ r)) (rw q (member-head s r)) (b .2) in
-                (b .0, by-test (member t (w .noted ++ (s ∷ []))) (λ y. member-append t (w .noted) (s ∷ []) y (λ x. clash (member t (w .noted)) x (b .1)) (λ x. member-cons t s [] x (λ q. absurd (ne q)) (λ q. member-nil t q))) (λ y. y), off-rest t (b .2), b .3);
-            apart = λ t m. member-append t (w .noted) (s ∷ []) m (λ a. off-rest t (j .apart t a)) (λ a. member-cons t s [] a (λ b. rw b (distinct-head s r (j .once-rest))) (λ b. member-nil t b));
+                let ne : t ≢ s = λ q. clash (member t (s ∷ r)) (rw q (member-head s r)) (b .2) in (
+                  b .0,
+                  by-test (member t (w .noted ++ (s ∷ [])))
+                      (λ y. member-append t (w .noted) (s ∷ []) y (λ x. clash (member t (w .noted)) x (b .1))
+                      (λ x. member-cons t s [] x (λ q. absurd (ne q)) (λ q. member-nil t q)))
+                      (λ y. y),
+                  off-rest t (b .2),
+                  b .3,
+                );
+            apart = λ t m. member-append t (w .noted) (s ∷ []) m (λ a. off-rest t (j .apart t a))
+                (λ a. member-cons t s [] a (λ b. rw b (distinct-head s r (j .once-rest))) (λ b. member-nil t b));
             sub = λ t m. j .sub t (member-tail t s r m);
             once-rest = distinct-tail s r (j .once-rest);
             kept-or-noted = λ t m.
                 ⊎-elim
-                (λ (a : member t (s ∷ r) ≡ true). member-cons t s r a (λ b. inr (inr (rw b (member-append-right s (w .noted) (s ∷ []) (member-head s []))))) (λ b. inl b))
-                (λ (a : (member t (w .kept) ≡ true) ⊎ (member t (w .noted) ≡ true)). inr (⊎-elim (λ (b : member t (w .kept) ≡ true). inl b) (λ (b : member t (w .noted) ≡ true). inr (member-append-left t (w .noted) (s ∷ []) b)) a))
+                (λ (a : member t (s ∷ r) ≡ true). member-cons t s r a
+                (λ b. inr (inr (rw b (member-append-right s (w .noted) (s ∷ []) (member-head s []))))) (λ b. inl b))
+                (λ (a : (member t (w .kept) ≡ true) ⊎ (member t (w .noted) ≡ true)). inr
+                (⊎-elim (λ (b : member t (w .kept) ≡ true). inl b)
+                (λ (b : member t (w .noted) ≡ true). inr (member-append-left t (w .noted) (s ∷ []) b)) a))
                 (j .kept-or-noted t m);
           }
 
     scan-step : (w : Work) (s : ℕ) (r : List ℕ) → Scanning w (s ∷ r) → Scanning (growStep n w s) r
     unfolding growStep reaches
     scan-step w s r j =
-        let kp : Kept c (w .state) = j .keeps in
+        let kp : SameButHolders c (w .state) = j .keeps in
         let x = eqb (grownOver (w .state) s) (weightOver (w .state) s) in
         let y = eqb (holderAt (w .state) (opposite s)) 0 in
         let z = eqb (virtualAt (w .state) (endAt (w .state) (opposite s))) 0 in

@@ -12,7 +12,8 @@ use lib.Seq.{getD-set-other}
 use borrow.Author.Tests.{eq-eqb, ne-eqb}
 use Rattle.graph.specs.Basic.{fold, member}
 use Rattle.graph.specs.State.{State, holderAt, vertexHolderAt, weightOver, withSides, withVertices, withHolder, withGrandson, withVertexHolder, withVertexGrandson, heldSide, heldVertex}
-use Rattle.graph.specs.laws.State.{Kept, kept-refl, kept-trans, kept-held-side}
+use Rattle.graph.specs.laws.State.{kept-refl, kept-trans, kept-held-side}
+use Rattle.graph.specs.inner.Kept.{SameButHolders}
 use Rattle.graph.specs.laws.Members.{by-test, clash, or-left, or-right, member-head, member-tail, member-cons, member-nil, member-append, member-append-left, member-append-right}
 use Rattle.pass.specs.Work.{Work, onState, keep, callAnother}
 use Rattle.pass.specs.Grow.{takeSide}
@@ -44,7 +45,7 @@ pub data FreeSideMet (l : List ℕ) (w z : Work) : Type 0 where
   some-free : (t : ℕ) → member t l ≡ true → holderAt (w .state) t ≡ 0 → length (w .kept) < length (z .kept) → FreeSideMet l w z
 
 pub record SidesTaken (n : ℕ) (l : List ℕ) (w z : Work) : Type 0 where
-  pub keeps : Kept (w .state) (z .state)
+  pub keeps : SameButHolders (w .state) (z .state)
   pub vertices : z .state .vertices ≡ w .state .vertices
   pub over : z .over ≡ w .over
   pub noted : z .noted ≡ w .noted
@@ -53,7 +54,9 @@ pub record SidesTaken (n : ℕ) (l : List ℕ) (w z : Work) : Type 0 where
   pub other : (t : ℕ) → member t l ≡ false → holderAt (z .state) t ≡ holderAt (w .state) t
   pub still : (s : ℕ) → member s (w .kept) ≡ true → member s (z .kept) ≡ true
   pub another : w .another ≡ true → z .another ≡ true
-  pub new : (s : ℕ) → member s (z .kept) ≡ true → (member s (w .kept) ≡ true) ⊎ ((member s l ≡ true) × (holderAt (w .state) s ≡ 0) × (weightOver (w .state) s ≡ 0 → z .another ≡ true))
+  pub new : (s : ℕ) → member s (z .kept) ≡ true
+      → (member s (w .kept) ≡ true)
+      ⊎ ((member s l ≡ true) × (holderAt (w .state) s ≡ 0) × (weightOver (w .state) s ≡ 0 → z .another ≡ true))
   pub all : (t : ℕ) → member t l ≡ true → holderAt (w .state) t ≡ 0 → member t (z .kept) ≡ true
   pub longer : length (w .kept) ≤ length (z .kept)
   pub met : FreeSideMet l w z
@@ -63,7 +66,8 @@ step-held : (n g : ℕ) (w : Work) (x : ℕ) → holderAt (w .state) x ≢ 0 →
 unfolding takeSide
 step-held n g w x e = rw (ne-eqb (holderAt (w .state) x) 0 e)
 
-step-free : (n g : ℕ) (w : Work) (x : ℕ) → holderAt (w .state) x ≡ 0 → takeSide n g w x ≡ callAnother (keep (onState w (heldSide (w .state) x n g)) x) (eqb (weightOver (w .state) x) 0)
+step-free : (n g : ℕ) (w : Work) (x : ℕ) → holderAt (w .state) x ≡ 0
+    → takeSide n g w x ≡ callAnother (keep (onState w (heldSide (w .state) x n g)) x) (eqb (weightOver (w .state) x) 0)
 unfolding takeSide
 step-free n g w x e = rw e
 
@@ -88,7 +92,8 @@ module _ (n g : ℕ) where
   take-sides (x ∷ l) w inside =
       by-cases (decEq (holderAt (w .state) x) 0)
       (λ e.
-      let r : SidesTaken n l (free-work x w) (fold (takeSide n g) (free-work x w) l) = take-sides l (free-work x w) (λ t m. rw (free-keeps x w .holder) (inside t (member-tail t x l m))) in
+      let r : SidesTaken n l (free-work x w) (fold (takeSide n g) (free-work x w) l) =
+      take-sides l (free-work x w) (λ t m. rw (free-keeps x w .holder) (inside t (member-tail t x l m))) in
       rw (step-free n g w x e) (step-taken x l w e (inside x (member-head x l)) r))
       (λ e.
       let r : SidesTaken n l w (fold (takeSide n g) w l) = take-sides l w (λ t m. inside t (member-tail t x l m)) in
@@ -97,7 +102,7 @@ module _ (n g : ℕ) where
       free-work : ℕ → Work → Work
       free-work x w = callAnother (keep (onState w (heldSide (w .state) x n g)) x) (eqb (weightOver (w .state) x) 0)
 
-      free-keeps : (x : ℕ) (w : Work) → Kept (w .state) (free-work x w .state)
+      free-keeps : (x : ℕ) (w : Work) → SameButHolders (w .state) (free-work x w .state)
       free-keeps x w = unfold callAnother keep onState in (kept-held-side (w .state) x n g)
 
       passed : (x : ℕ) (l : List ℕ) (w : Work) {z : Work} → holderAt (w .state) x ≢ 0 → SidesTaken n l w z → SidesTaken n (x ∷ l) w z
@@ -111,7 +116,11 @@ module _ (n g : ℕ) where
         other = λ t m. r .other t (by-test (member t l) (λ a. clash (member t (x ∷ l)) (member-tail t x l a) m) (λ a. a));
         still = r .still;
         another = r .another;
-        new = λ s m. ⊎-elim (λ (a : member s (w .kept) ≡ true). inl a) (λ (a : (member s l ≡ true) × (holderAt (w .state) s ≡ 0) × (weightOver (w .state) s ≡ 0 → z .another ≡ true)). inr (member-tail s x l (a .0), a .1, a .2)) (r .new s m);
+        new = λ s m. ⊎-elim (λ (a : member s (w .kept) ≡ true). inl a)
+            (λ (a : (member s l ≡ true) × (holderAt (w .state) s ≡ 0) × (weightOver (w .state) s ≡ 0 → z .another ≡ true)).
+            inr
+            (member-tail s x l (a .0), a .1, a .2))
+            (r .new s m);
         all = λ t m h. member-cons t x l m (λ a. absurd (e (rw a at h))) (λ a. r .all t a h);
         longer = r .longer;
         met = elim (r .met) [
@@ -120,20 +129,24 @@ module _ (n g : ℕ) where
         ];
       }
 
-      step-taken : (x : ℕ) (l : List ℕ) (w : Work) {z : Work} → holderAt (w .state) x ≡ 0 → x < length (w .state .sides .holder) → SidesTaken n l (free-work x w) z → SidesTaken n (x ∷ l) w z
+      step-taken : (x : ℕ) (l : List ℕ) (w : Work) {z : Work} → holderAt (w .state) x ≡ 0
+          → x < length (w .state .sides .holder) → SidesTaken n l (free-work x w) z → SidesTaken n (x ∷ l) w z
       step-taken x l w {z} e b r =
           let one : Work = free-work x w in
           let kept-one : one .kept ≡ w .kept ++ (x ∷ []) = unfold callAnother keep onState in refl in
           let len : length (one .kept) ≡ length (w .kept) + 1 = rw kept-one (length-append (w .kept) (x ∷ [])) in
           let here : holderAt (one .state) x ≡ n + 1 = unfold callAnother keep onState in (side-held (w .state) x n g b) in
-          let there : (t : ℕ) → t ≢ x → holderAt (one .state) t ≡ holderAt (w .state) t = λ t a. unfold callAnother keep onState in (side-other (w .state) x n g t a) in
+          let there : (t : ℕ) → t ≢ x → holderAt (one .state) t ≡ holderAt (w .state) t =
+          λ t a. unfold callAnother keep onState in
+          (side-other (w .state) x n g t a) in
           let in-one : member x (one .kept) ≡ true = rw kept-one (member-append-right x (w .kept) (x ∷ []) (member-head x [])) in
           let now : holderAt (z .state) x ≡ n + 1 = r .held x (λ q. omega arith) ∙ here in
           let v-one : one .state .vertices ≡ w .state .vertices = unfold callAnother keep onState in (side-vertices (w .state) x n g) in
           let o-one : one .over ≡ w .over = unfold callAnother keep onState in refl in
           let n-one : one .noted ≡ w .noted = unfold callAnother keep onState in refl in
           let a-one : one .another ≡ (w .another || eqb (weightOver (w .state) x) 0) = unfold callAnother keep onState in refl in
-          let called : weightOver (w .state) x ≡ 0 → one .another ≡ true = λ k. a-one ∙ or-right (w .another) (eqb (weightOver (w .state) x) 0) (eq-eqb (weightOver (w .state) x) 0 k) in
+          let called : weightOver (w .state) x ≡ 0 → one .another ≡ true =
+          λ k. a-one ∙ or-right (w .another) (eqb (weightOver (w .state) x) 0) (eq-eqb (weightOver (w .state) x) 0 k) in
           record {
             keeps = kept-trans (free-keeps x w) (r .keeps);
             vertices = r .vertices ∙ v-one;
@@ -155,7 +168,8 @@ module _ (n g : ℕ) where
                 let ne : s ≢ x = λ q. let y : holderAt (one .state) x ≡ 0 = rw q at (a .1) in omega arith in
                 inr (member-tail s x l (a .0), sym (there s ne) ∙ a .1, λ k. a .2 (rw (free-keeps x w .graph) k)))
                 (r .new s m);
-            all = λ t m h. by-cases (decEq t x) (λ a. rw a (r .still x in-one)) (λ a. member-cons t x l m (λ q. absurd (a q)) (λ q. r .all t q (there t a ∙ h)));
+            all = λ t m h. by-cases (decEq t x) (λ a. rw a (r .still x in-one))
+                (λ a. member-cons t x l m (λ q. absurd (a q)) (λ q. r .all t q (there t a ∙ h)));
             longer = omega (arith, r .longer);
             met = some-free x (member-head x l) e (omega (arith, r .longer));
           }

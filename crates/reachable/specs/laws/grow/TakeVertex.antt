@@ -11,7 +11,8 @@ use lib.ListN.{length}
 use borrow.Author.Tests.{eqb-true, eqb-false, eq-eqb, ne-eqb}
 use Rattle.graph.specs.Basic.{fold, member}
 use Rattle.graph.specs.State.{State, Overgrown, opposite, endAt, growthAt, holderAt, grandsonAt, vertexHolderAt, virtualAt, sidesAt, weightOver, dualOf, heldVertex}
-use Rattle.graph.specs.laws.State.{if-cases, Kept, kept-trans, kept-held-vertex, opposite-opposite}
+use Rattle.graph.specs.laws.State.{if-cases, kept-trans, kept-held-vertex, opposite-opposite}
+use Rattle.graph.specs.inner.Kept.{SameButHolders}
 use Rattle.graph.specs.laws.Members.{by-test, clash, member-head, member-tail, member-cons}
 use Rattle.pass.specs.Work.{Work, onState, push}
 use Rattle.pass.specs.Grow.{takeSide, takeVertex, takeStep, growScanned}
@@ -42,7 +43,7 @@ module _ (c : State) (n : ℕ) (k : Labels) (graph-ok : GraphOk (c .graph)) (g :
     at-v : sidesAt (w .state) (endAt c (opposite s)) ≡ sidesAt c (endAt c (opposite s))
     at-v = rw (j .keeps .graph)
 
-    vertex-keeps : Kept (w .state) (vertexTaken .state)
+    vertex-keeps : SameButHolders (w .state) (vertexTaken .state)
     unfolding vertexTaken onState
     vertex-keeps = kept-held-vertex (w .state) (endAt c (opposite s)) n d
 
@@ -148,7 +149,11 @@ module _ (c : State) (n : ℕ) (k : Labels) (graph-ok : GraphOk (c .graph)) (g :
       listed-at : (t : ℕ) → t < length (c .graph .end) → endAt c t ≡ endAt c (opposite s) → Listing c n z t → holderAt (w .state) t ≡ 0
       listed-at t b e l =
           elim l [
-            | in-kept a ↦ ⊎-elim (λ (m : member t (w .kept) ≡ true). absurd (off-list t e (in-kept m))) (λ (m : (t < length (c .graph .end)) × (endAt c t ≡ endAt c (opposite s)) × (holderAt (w .state) t ≡ 0) × (weightOver c t ≡ 0 → z .another ≡ true)). m .2) (kept-new t a)
+            | in-kept a ↦ ⊎-elim (λ (m : member t (w .kept) ≡ true). absurd (off-list t e (in-kept m)))
+                (λ (m : (t < length (c .graph .end)) × (endAt c t ≡ endAt c (opposite s)) × (holderAt (w .state) t ≡ 0)
+                × (weightOver c t ≡ 0 → z .another ≡ true)).
+                m .2)
+                (kept-new t a)
             | pending a f ↦ absurd (off-list t e (pending a (sym (v-other (endAt c (opposite t)) (λ q. graph-ok .side-graph .differ t b (q ∙ sym e))) ∙ f)))
           ]
 
@@ -231,26 +236,44 @@ module _ (c : State) (n : ℕ) (k : Labels) (graph-ok : GraphOk (c .graph)) (g :
         }
 
         labels-now : Labels
-        labels-now = record { depth = update (j .labels .depth) (endAt c (opposite s)) (k .base n + dualOf c n); rank = update (j .labels .rank) (endAt c (opposite s)) (j .labels .nextRank); owner = update (j .labels .owner) (endAt c (opposite s)) n; nextRank = suc (j .labels .nextRank); base = j .labels .base }
+        labels-now =
+            record {
+              depth = update (j .labels .depth) (endAt c (opposite s)) (k .base n + dualOf c n);
+              rank = update (j .labels .rank) (endAt c (opposite s)) (j .labels .nextRank);
+              owner = update (j .labels .owner) (endAt c (opposite s)) n;
+              nextRank = suc (j .labels .nextRank);
+              base = j .labels .base;
+            }
 
         take-global : Global Q (seen c n k z labels-now)
         unfolding labels-now
-        take-global = taken-global Q (graph-ok .side-graph) (seen c n k w (j .labels)) n (nodeViewIn c n k w) (j .global) (j .node) (j .held) (endAt c (opposite s)) free (countedHolder c n z) (vertexHolderAt (z .state)) (listedIn c n z) (z .over) taken-vertex
+        take-global =
+            taken-global Q (graph-ok .side-graph) (seen c n k w (j .labels)) n (nodeViewIn c n k w) (j .global) (j .node) (j .held)
+            (endAt c (opposite s)) free (countedHolder c n z) (vertexHolderAt (z .state)) (listedIn c n z) (z .over) taken-vertex
 
         take-node : NodeInvariant Q (seen c n k z labels-now) n (nodeViewIn c n k z)
         unfolding labels-now
-        take-node = taken-node Q (graph-ok .side-graph) (seen c n k w (j .labels)) n (nodeViewIn c n k w) (j .global) (j .node) (j .held) (endAt c (opposite s)) free (countedHolder c n z) (vertexHolderAt (z .state)) (listedIn c n z) (z .over) taken-vertex
+        take-node =
+            taken-node Q (graph-ok .side-graph) (seen c n k w (j .labels)) n (nodeViewIn c n k w) (j .global) (j .node) (j .held)
+            (endAt c (opposite s)) free (countedHolder c n z) (vertexHolderAt (z .state)) (listedIn c n z) (z .over) taken-vertex
 
         take-listed-held : (t : ℕ) → listedIn c n z t ≡ true → countedHolder c n z t ≡ n + 1
-        take-listed-held = taken-listed-held Q (graph-ok .side-graph) (seen c n k w (j .labels)) n (nodeViewIn c n k w) (j .global) (j .node) (j .held) (endAt c (opposite s)) free (countedHolder c n z) (vertexHolderAt (z .state)) (listedIn c n z) (z .over) taken-vertex
+        take-listed-held =
+            taken-listed-held Q (graph-ok .side-graph) (seen c n k w (j .labels)) n (nodeViewIn c n k w) (j .global) (j .node) (j .held)
+            (endAt c (opposite s)) free (countedHolder c n z) (vertexHolderAt (z .state)) (listedIn c n z) (z .over) taken-vertex
 
         take-same : (u : ℕ) → vertexHolderAt c u ≢ 0 → (labels-now .depth u ≡ k .depth u) × (labels-now .rank u ≡ k .rank u) × (labels-now .owner u ≡ k .owner u)
         unfolding labels-now
         take-same u e =
             let b = j .same u e in
-            let h : vertexHolderAt (w .state) u ≢ 0 = λ q. ⊎-elim (λ (a : vertexHolderAt (w .state) u ≡ vertexHolderAt c u). e (sym a ∙ q)) (λ (a : (vertexHolderAt c u ≡ 0) × (vertexHolderAt (w .state) u ≡ n + 1)). e (a .0)) (j .vertices u) in
-            let ne : u ≢ endAt c (opposite s) = λ a. h (rw a free) in
-            (update-other (j .labels .depth) (endAt c (opposite s)) (k .base n + dualOf c n) u ne ∙ b .0, update-other (j .labels .rank) (endAt c (opposite s)) (j .labels .nextRank) u ne ∙ b .1, update-other (j .labels .owner) (endAt c (opposite s)) n u ne ∙ b .2)
+            let h : vertexHolderAt (w .state) u ≢ 0 =
+            λ q. ⊎-elim (λ (a : vertexHolderAt (w .state) u ≡ vertexHolderAt c u). e (sym a ∙ q))
+            (λ (a : (vertexHolderAt c u ≡ 0) × (vertexHolderAt (w .state) u ≡ n + 1)). e (a .0)) (j .vertices u) in
+            let ne : u ≢ endAt c (opposite s) = λ a. h (rw a free) in (
+              update-other (j .labels .depth) (endAt c (opposite s)) (k .base n + dualOf c n) u ne ∙ b .0,
+              update-other (j .labels .rank) (endAt c (opposite s)) (j .labels .nextRank) u ne ∙ b .1,
+              update-other (j .labels .owner) (endAt c (opposite s)) n u ne ∙ b .2,
+            )
 
         take-base : labels-now .base ≡ k .base
         unfolding labels-now
@@ -289,8 +312,16 @@ module _ (c : State) (n : ℕ) (k : Labels) (graph-ok : GraphOk (c .graph)) (g :
               (λ a. ⊎-elim (λ (b : holderAt (w .state) t ≡ holderAt c t). inl (h-held t a ∙ b)) (λ (b : (holderAt c t ≡ 0) × (holderAt (w .state) t ≡ n + 1)). inr (b .0, h-held t a ∙ b .1)) (j .sides t));
           vertices = λ u.
               by-cases (decEq u (endAt c (opposite s)))
-              (λ a. inr (rw a (⊎-elim (λ (b : vertexHolderAt (w .state) (endAt c (opposite s)) ≡ vertexHolderAt c (endAt c (opposite s))). sym b ∙ free) (λ (b : (vertexHolderAt c (endAt c (opposite s)) ≡ 0) × (vertexHolderAt (w .state) (endAt c (opposite s)) ≡ n + 1)). b .0) (j .vertices (endAt c (opposite s)))), rw a v-taken))
-              (λ a. ⊎-elim (λ (b : vertexHolderAt (w .state) u ≡ vertexHolderAt c u). inl (v-other u a ∙ b)) (λ (b : (vertexHolderAt c u ≡ 0) × (vertexHolderAt (w .state) u ≡ n + 1)). inr (b .0, v-other u a ∙ b .1)) (j .vertices u));
+              (λ a. inr (
+                rw a
+                    (⊎-elim (λ (b : vertexHolderAt (w .state) (endAt c (opposite s)) ≡ vertexHolderAt c (endAt c (opposite s))). sym b ∙ free)
+                    (λ (b : (vertexHolderAt c (endAt c (opposite s)) ≡ 0) × (vertexHolderAt (w .state) (endAt c (opposite s)) ≡ n + 1)). b .0)
+                    (j .vertices (endAt c (opposite s)))),
+                rw a v-taken,
+              ))
+              (λ a. ⊎-elim (λ (b : vertexHolderAt (w .state) u ≡ vertexHolderAt c u). inl (v-other u a ∙ b))
+              (λ (b : (vertexHolderAt c u ≡ 0) × (vertexHolderAt (w .state) u ≡ n + 1)). inr (b .0, v-other u a ∙ b .1))
+              (j .vertices u));
           real = λ u.
               by-cases (decEq u (endAt c (opposite s)))
               (λ a. inr (rw a (sc .noted s listed-first .real)))
@@ -314,7 +345,10 @@ module _ (c : State) (n : ℕ) (k : Labels) (graph-ok : GraphOk (c .graph)) (g :
     unfolding push
     stack-pushed f =
         taken-growing (push sidesDone (endAt c (opposite s))) refl refl refl
-        (subst (λ (o : List Overgrown). NewStack Q (endAt c (opposite s)) (listedIn c n (push sidesDone (endAt c (opposite s)))) (w .over) (record { vertex = endAt c (opposite s); amount = 0 } ∷ o)) (sym (sides-taken .over ∙ vertex-over))
+        (subst
+        (λ (o : List Overgrown). NewStack Q (endAt c (opposite s)) (listedIn c n (push sidesDone (endAt c (opposite s)))) (w .over)
+        (record { vertex = endAt c (opposite s); amount = 0 } ∷ o))
+        (sym (sides-taken .over ∙ vertex-over))
         (pushed (λ t b e. not-listing c n (push sidesDone (endAt c (opposite s))) t (λ l. f t (side-in t b e) (vertex-holder t ∙ listed-at (push sidesDone (endAt c (opposite s))) refl refl refl t b e l)))))
 
     stack-kept : (t : ℕ) → member t (sidesAt (w .state) (endAt c (opposite s))) ≡ true → holderAt (vertexTaken .state) t ≡ 0 → Growing c n k sidesDone r

@@ -11,7 +11,8 @@ use lib.Dec.{eqb}
 use borrow.Author.Tests.{eqb-true, eq-eqb, ne-eqb}
 use Rattle.graph.specs.Basic.{if_then_else_, member}
 use Rattle.graph.specs.State.{State, opposite, endAt, growthAt, holderAt, vertexHolderAt, defectAt, virtualAt, weightOver, dualOf, boundaryOf}
-use Rattle.graph.specs.laws.State.{and-left, and-right, Kept, opposite-opposite}
+use Rattle.graph.specs.laws.State.{and-left, and-right, opposite-opposite}
+use Rattle.graph.specs.inner.Kept.{SameButHolders}
 use Rattle.graph.specs.laws.Members.{by-test, clash, both, or-cases, or-left, or-right, member-nil}
 use Rattle.pass.specs.Work.{Work}
 use Rattle.pass.specs.Grow.{growScanned}
@@ -56,21 +57,33 @@ module _ (c : State) (n : ℕ) where
   pub of-listing : (w : Work) (s : ℕ) → Listing w s → listedIn w s ≡ true
   unfolding listedIn
   of-listing w s (in-kept a) = or-left (member s (w .kept)) (member s noted && eqb (vertexHolderAt (w .state) (endAt c (opposite s))) 0) a
-  of-listing w s (pending a b) = or-right (member s (w .kept)) (member s noted && eqb (vertexHolderAt (w .state) (endAt c (opposite s))) 0) (both (member s noted) (eqb (vertexHolderAt (w .state) (endAt c (opposite s))) 0) a (eq-eqb _ _ b))
+  of-listing w s (pending a b) =
+      or-right (member s (w .kept)) (member s noted && eqb (vertexHolderAt (w .state) (endAt c (opposite s))) 0)
+      (both (member s noted) (eqb (vertexHolderAt (w .state) (endAt c (opposite s))) 0) a (eq-eqb _ _ b))
 
   pub not-listing : (w : Work) (s : ℕ) → (Listing w s → ⊥) → listedIn w s ≡ false
   not-listing w s f = by-test (listedIn w s) (λ e. absurd (f (listing-of w s e))) (λ e. e)
 
   module _ (k : Labels) where
     abbrev pub seen : Work → Labels → View
-    seen w h = record { holder = countedHolder w; vertexHolder = vertexHolderAt (w .state); growth = growthAt c; defect = defectAt c; depth = h .depth; rank = h .rank; owner = h .owner; nextRank = h .nextRank }
+    seen w h =
+        record {
+          holder = countedHolder w;
+          vertexHolder = vertexHolderAt (w .state);
+          growth = growthAt c;
+          defect = defectAt c;
+          depth = h .depth;
+          rank = h .rank;
+          owner = h .owner;
+          nextRank = h .nextRank;
+        }
 
     abbrev pub nodeViewIn : Work → NodeView
     nodeViewIn w = record { listed = listedIn w; stack = w .over; base = k .base n; dual = dualOf c n }
 
     pub record Growing (w : Work) (r : List ℕ) : Type 0 where
       pub labels : Labels
-      pub keeps : Kept c (w .state)
+      pub keeps : SameButHolders c (w .state)
       pub global : Global (sideGraphOf (c .graph)) (seen w labels)
       pub node : NodeInvariant (sideGraphOf (c .graph)) (seen w labels) n (nodeViewIn w)
       pub held : (s : ℕ) → listedIn w s ≡ true → countedHolder w s ≡ n + 1
@@ -84,13 +97,16 @@ module _ (c : State) (n : ℕ) where
       pub sides : (t : ℕ) → (holderAt (w .state) t ≡ holderAt c t) ⊎ ((holderAt c t ≡ 0) × (holderAt (w .state) t ≡ n + 1))
       pub vertices : (u : ℕ) → (vertexHolderAt (w .state) u ≡ vertexHolderAt c u) ⊎ ((vertexHolderAt c u ≡ 0) × (vertexHolderAt (w .state) u ≡ n + 1))
       -- a kept side behind which something is to be taken calls for another pass
-      pub nothing-to-take : (s : ℕ) → member s (w .kept) ≡ true → holderAt c (opposite s) ≡ 0 → growthAt c s + growthAt c (opposite s) ≡ weightOver c s → virtualAt c (endAt c (opposite s)) ≡ 0 → (weightOver c s ≡ 0) × (w .another ≡ true)
+      pub nothing-to-take : (s : ℕ) → member s (w .kept) ≡ true → holderAt c (opposite s) ≡ 0
+          → growthAt c s + growthAt c (opposite s) ≡ weightOver c s → virtualAt c (endAt c (opposite s)) ≡ 0
+          → (weightOver c s ≡ 0) × (w .another ≡ true)
       -- no virtual vertex is taken
       pub real : (u : ℕ) → (vertexHolderAt (w .state) u ≡ vertexHolderAt c u) ⊎ (virtualAt c u ≡ 0)
       pub base : labels .base ≡ k .base
       pub same : (u : ℕ) → vertexHolderAt c u ≢ 0 → (labels .depth u ≡ k .depth u) × (labels .rank u ≡ k .rank u) × (labels .owner u ≡ k .owner u)
 
-    module _ (graph-ok : GraphOk (c .graph)) (g : Global (sideGraphOf (c .graph)) (viewOf c k)) (i : NodeInvariantOf c k n) (boundary-held : BoundaryHeld c n) (sc : Scanning c n (growScanned c n) []) where
+    module _ (graph-ok : GraphOk (c .graph)) (g : Global (sideGraphOf (c .graph)) (viewOf c k))
+        (i : NodeInvariantOf c k n) (boundary-held : BoundaryHeld c n) (sc : Scanning c n (growScanned c n) []) where
       begin-vertex-holder : (u : ℕ) → vertexHolderAt (growScanned c n .state) u ≡ vertexHolderAt c u
       begin-vertex-holder u = rw (sc .vertices)
 
@@ -155,7 +171,9 @@ module _ (c : State) (n : ℕ) where
           differ = g .differ;
         };
         node = fewer-node (sideGraphOf (c .graph)) (seen (growScanned c n) k) n (nodeViewOf c k n) (nodeViewIn (growScanned c n))
-            (frame-node (sideGraphOf (c .graph)) (viewOf c k) (seen (growScanned c n) k) n (nodeViewOf c k n) begin-frame i boundary-held) (sc .over) refl refl begin-listed
+            (frame-node (sideGraphOf (c .graph)) (viewOf c k) (seen (growScanned c n) k) n
+            (nodeViewOf c k n) begin-frame i boundary-held)
+            (sc .over) refl refl begin-listed
             (λ s e f. clash (listedIn (growScanned c n) s) (listed-begin s e) f);
         held = λ s e. begin-holder s ∙ boundary-held s (begin-listed s e);
         across-noted = λ t e v.
@@ -165,8 +183,12 @@ module _ (c : State) (n : ℕ) where
             (sc .holder t);
         both-held = λ s m.
             let a : Noted c n (growScanned c n) s = sc .noted s m in
-            let h : holderAt c s ≡ n + 1 = boundary-held s (a .listed) in
-            (⊎-elim (λ (b : holderAt (growScanned c n .state) s ≡ holderAt c s). b ∙ h) (λ (b : (holderAt c s ≡ 0) × (member (opposite s) noted ≡ true)). absurd (omega (arith, b .0))) (sc .holder s), a .held);
+            let h : holderAt c s ≡ n + 1 = boundary-held s (a .listed) in (
+              ⊎-elim (λ (b : holderAt (growScanned c n .state) s ≡ holderAt c s). b ∙ h)
+                  (λ (b : (holderAt c s ≡ 0) × (member (opposite s) noted ≡ true)). absurd (omega (arith, b .0)))
+                  (sc .holder s),
+              a .held,
+            );
         apart = λ s m. sc .kept s m .1;
         sub = λ s m. m;
         done = λ s m. inl m;

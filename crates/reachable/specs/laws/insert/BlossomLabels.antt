@@ -22,7 +22,9 @@ radiusSum c k (m ∷ ms) = radiusOf c k m + radiusSum c k ms
 pub radius-le-sum : (c : State) (k : Labels) (ms : List ℕ) (m : ℕ) → member m ms ≡ true → radiusOf c k m ≤ radiusSum c k ms
 unfolding radiusSum
 radius-le-sum c k [] m h = member-nil m h
-radius-le-sum c k (i ∷ ms) m h = member-cons m i ms h (λ e. rw e (omega arith)) (λ e. let r : radiusOf c k m ≤ radiusSum c k ms = radius-le-sum c k ms m e in omega arith)
+radius-le-sum c k (i ∷ ms) m h =
+    member-cons m i ms h (λ e. rw e (omega arith))
+    (λ e. let r : radiusOf c k m ≤ radiusSum c k ms = radius-le-sum c k ms m e in omega arith)
 
 module _ (c : State) (k : Labels) (circle : List ℕ) (n : ℕ) where
   unfoldable pub shiftedDepth : ℕ → ℕ
@@ -49,4 +51,11 @@ module _ (c : State) (k : Labels) (circle : List ℕ) (n : ℕ) where
 
 -- the new labels: n is the blossom
 unfoldable pub blossomLabels : State → Labels → List ℕ → ℕ → Labels
-blossomLabels c k circle n = record { depth = shiftedDepth c k circle n; rank = k .rank; owner = newOwner c k circle n; nextRank = k .nextRank; base = update (k .base) n (radiusSum c k circle) }
+blossomLabels c k circle n =
+    record {
+      depth = shiftedDepth c k circle n;
+      rank = k .rank;
+      owner = newOwner c k circle n;
+      nextRank = k .nextRank;
+      base = update (k .base) n (radiusSum c k circle);
+    }

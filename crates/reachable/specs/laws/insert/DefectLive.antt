@@ -9,7 +9,7 @@ use Rattle.graph.specs.Basic.{member}
 use Rattle.graph.specs.State.{State, defectVertex, blossom, nodeCount, vertexHolderAt, sidesAt, classOf, parentOf}
 use Rattle.graph.specs.Sound.{isRemoved}
 use Rattle.graph.specs.laws.Members.{by-test, clash}
-use Rattle.graph.specs.laws.Shape.{Shape}
+use Rattle.graph.specs.Shape.{Shape}
 use Rattle.reachable.specs.Invariant.{Emptied, Live}
 use Rattle.reachable.specs.laws.state.Live.{class-beyond, parent-beyond}
 use Rattle.reachable.specs.laws.insert.DefectState.{DefectMade}

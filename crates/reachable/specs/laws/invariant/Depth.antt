@@ -22,7 +22,8 @@ chain-le depth (more {y} {o} {os} e r) v h =
     (λ p. let k : depth v ≤ depth (o .vertex) = chain-le depth r v p in omega arith)
 
 -- the same depths of the stack's vertices
-pub chain-same : (depth depth' : ℕ → ℕ) {y : ℕ} {st : List Overgrown} → Chain depth y st → ((v : ℕ) → member v (stacked st) ≡ true → depth' v ≡ depth v) → Chain depth' y st
+pub chain-same : (depth depth' : ℕ → ℕ) {y : ℕ} {st : List Overgrown} → Chain depth y st
+    → ((v : ℕ) → member v (stacked st) ≡ true → depth' v ≡ depth v) → Chain depth' y st
 chain-same depth depth' none h = none
 chain-same depth depth' (more {y} {o} {os} e r) h =
     let k : depth' (o .vertex) ≡ depth (o .vertex) = h (o .vertex) (member-head (o .vertex) (stacked os)) in

@@ -25,7 +25,17 @@ update-other f v y u h = rw (ne-eqb u v h)
 
 -- the view once v is taken for a node n of radius y
 abbrev pub takenView : View → (ℕ → ℕ) → (ℕ → ℕ) → ℕ → ℕ → ℕ → View
-takenView x h vh v n y = record { holder = h; vertexHolder = vh; growth = x .growth; defect = x .defect; depth = update (x .depth) v y; rank = update (x .rank) v (x .nextRank); owner = update (x .owner) v n; nextRank = suc (x .nextRank) }
+takenView x h vh v n y =
+    record {
+      holder = h;
+      vertexHolder = vh;
+      growth = x .growth;
+      defect = x .defect;
+      depth = update (x .depth) v y;
+      rank = update (x .rank) v (x .nextRank);
+      owner = update (x .owner) v n;
+      nextRank = suc (x .nextRank);
+    }
 
 abbrev pub takenNode : NodeView → (ℕ → Bool) → List Overgrown → NodeView
 takenNode l p st = record { listed = p; stack = st; base = l .base; dual = l .dual }
@@ -50,7 +60,8 @@ pub record TakenVertex (q : SideGraph) (x : View) (n : ℕ) (l : NodeView) (v : 
   pub fresh : (s : ℕ) → p s ≡ true → l .listed s ≡ false → (s < q .sides) × (q .end s ≡ v)
   pub rest : (t : ℕ) → t < q .sides → q .end t ≡ v → p t ≡ false → (l .listed (opposite t) ≡ true) × (p (opposite t) ≡ false)
   -- a side that is listed now, across one that still is: the edge is not full
-  pub open-edge : (t : ℕ) → t < q .sides → q .end t ≡ v → p t ≡ true → l .listed (opposite t) ≡ true → q .weight t ≢ 0 → x .growth t + x .growth (opposite t) ≢ q .weight t
+  pub open-edge : (t : ℕ) → t < q .sides → q .end t ≡ v → p t ≡ true → l .listed (opposite t) ≡ true → q .weight t ≢ 0
+      → x .growth t + x .growth (opposite t) ≢ q .weight t
   -- a side through which v is taken
   pub through : ℕ
   pub through-in : through < q .sides

@@ -13,7 +13,7 @@ use Rattle.reachable.specs.laws.state.Live.{parent-beyond}
 use Rattle.graph.specs.laws.Members.{by-test}
 use Rattle.calls.specs.laws.Accepted.{BlossomAccepted}
 use Rattle.reachable.specs.Invariant.{Labels, Clusters, Invariant}
-use Rattle.reachable.specs.laws.state.Numbers.{SoundNumbers}
+use Rattle.reachable.specs.Numbers.{SoundNumbers}
 use Rattle.reachable.specs.laws.insert.JoinedLists.{joinedLists}
 use Rattle.reachable.specs.laws.insert.Circle.{Members, CirclePreparing}
 use Rattle.reachable.specs.laws.insert.BlossomLabels.{newOwner, blossomLabels}

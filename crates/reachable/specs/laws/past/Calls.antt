@@ -15,9 +15,9 @@ use Rattle.graph.specs.laws.Members.{by-test}
 use Rattle.graph.specs.Open.{Edge, blankState, opened, cleared, openRefusal}
 use Rattle.graph.specs.laws.Opened.{getD-zeros}
 use Rattle.pass.specs.laws.Passes.{Passed}
-use Rattle.length.specs.declared.Answer.{Answer}
-use Rattle.length.specs.declared.Answer.the-variants.{NonZeroGrow, Unlimited, Conflicting, TouchingVirtual, BlossomNeedExpand, VertexShrinkStop, VertexShrinkStopPeer, Done, Node, Prepared, Refused, Vertex}
-use Rattle.length.specs.Answer.{Reply, says}
+use Rattle.update_length.specs.declared.Answer.{Answer}
+use Rattle.update_length.specs.declared.Answer.the-variants.{NonZeroGrow, Unlimited, Conflicting, TouchingVirtual, BlossomNeedExpand, VertexShrinkStop, VertexShrinkStopPeer, Done, Node, Prepared, Refused, Vertex}
+use Rattle.update_length.specs.Answer.{Reply, says}
 use Rattle.calls.specs.Refuse.{nodeRefusal, storeShort, unless}
 use Rattle.pass.specs.Prepare.{prepareNode}
 use Rattle.pass.specs.laws.Prepare.{prepare-passed}

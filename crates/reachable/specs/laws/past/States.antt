@@ -6,7 +6,7 @@ use lib.ListN.{length}
 use Rattle.graph.specs.State.{State, nodeCount, parentOf}
 use Rattle.reachable.specs.Invariant.{Labels}
 use Rattle.reachable.specs.Past.{Snapshot, Tops, Agreement, OuterBlossom, Facts, Past, past, HasPast}
-use Rattle.reachable.specs.laws.state.Numbers.{SoundNumbers}
+use Rattle.reachable.specs.Numbers.{SoundNumbers}
 use Rattle.reachable.specs.laws.prepare.Since.{frame-refl}
 use Rattle.reachable.specs.laws.Active.{withStates, states-clusters}
 use Rattle.reachable.specs.laws.past.Still.{agreement-still, Apart, apart-still}

@@ -5,7 +5,7 @@ use native.Mathlib.Decide.{decLt}
 use mathlib.Core.Path.{_≡_}
 use mathlib.Core.Logic.{by-cases}
 use Rattle.graph.specs.State.{State, nodeCount}
-use Rattle.graph.specs.laws.Shape.{Shape}
+use Rattle.graph.specs.Shape.{Shape}
 use Rattle.reachable.specs.Invariant.{Labels, Clusters, Invariant}
 use Rattle.reachable.specs.Past.{Snapshot, Tops}
 use Rattle.reachable.specs.laws.state.Live.{parent-beyond}

@@ -6,9 +6,10 @@ use mathlib.Core.Bool.{true, false}
 use Rattle.graph.specs.State.{State, vertexCount}
 use Rattle.graph.specs.laws.Members.{by-test}
 use Rattle.graph.specs.Sound.{sound}
-use Rattle.graph.specs.laws.Shape.{Shape, sound-end}
+use Rattle.graph.specs.laws.Shape.{sound-end}
+use Rattle.graph.specs.Shape.{Shape}
 use Rattle.pass.specs.Prepare.{Prepared, onePass, prepareFrom, prepareNode}
-use Rattle.pass.specs.laws.Counts.{EndsIn}
+use Rattle.pass.specs.inner.Ends.{EndsIn}
 use Rattle.pass.specs.laws.Prepare.{passState, one-passed, prepare-more, prepare-last, left, left-le, ends-passed, pass-falls}
 use Rattle.reachable.specs.Passes.{passes, Ends}
 
@@ -43,7 +44,9 @@ module _ (n d : ℕ) (Q : State → ℕ → Prepared → Type 0)
       (λ e.
       let falls : left d (passState c n d) < left d c = pass-falls c n d ends e in
       rw (prepare-more fuel c n d k e)
-      (more c k (prepareFrom fuel (passState c n d) n d (k + 1)) e (prepare-gives fuel (passState c n d) (k + 1) (ends-passed n c (passState c n d) (one-passed c n d) ends) (omega arith))))
+      (more c k (prepareFrom fuel (passState c n d) n d (k + 1)) e
+      (prepare-gives fuel (passState c n d) (k + 1) (ends-passed n c (passState c n d) (one-passed c n d) ends)
+      (omega arith))))
       (λ e. rw (prepare-last fuel c n d k e) (last c k e))
 
 pub prepare-ends : (c : State) → Shape c → 1 ≤ vertexCount c → sound c ≡ true → (n d : ℕ) → Ends c n d 0 (prepareNode c n d)
@@ -56,7 +59,10 @@ passes-le : (fuel : ℕ) (c : State) (n d k : ℕ) → prepareFrom fuel c n d k 
 passes-le zero c n d k = unfold prepareFrom in (omega arith)
 passes-le (suc fuel) c n d k =
     by-test (onePass c n d .another)
-    (λ e. rw (prepare-more fuel c n d k e) (let r : prepareFrom fuel (passState c n d) n d (k + 1) .passes ≤ k + 1 + fuel = passes-le fuel (passState c n d) n d (k + 1) in omega arith))
+    (λ e. rw (prepare-more fuel c n d k e)
+    (let r : prepareFrom fuel (passState c n d) n d (k + 1) .passes
+    ≤ k + 1 + fuel = passes-le fuel (passState c n d) n d (k + 1) in
+    omega arith))
     (λ e. rw (prepare-last fuel c n d k e) (omega arith))
 
 pub prepare-passes : (c : State) (n d : ℕ) → prepareNode c n d .passes ≤ vertexCount c + 1

@@ -18,8 +18,8 @@ use Rattle.graph.specs.Sound.{storedDefect, overSound}
 use Rattle.pass.specs.Work.{Work, onState, keepOnce, note, callAnother, startPass}
 use Rattle.pass.specs.Grow.{growPass}
 use Rattle.pass.specs.Shrink.{emptyTops, belowTops, dropSide, dropStep, shrinkStep, closed, releaseSide, releaseStep, dropped, shrinkScanned, shrinkPass}
-use Rattle.pass.specs.laws.Fits.{OwnSides}
-use Rattle.graph.specs.laws.Shape.{Shape}
+use Rattle.pass.specs.inner.Own.{OwnSides}
+use Rattle.graph.specs.Shape.{Shape}
 use Rattle.pass.specs.laws.GrowSound.{Grown, Takings, sound-paired, grow-pass-grown}
 use Rattle.reachable.specs.laws.shrink.FreeSides.{side-freed, keep-once-state}
 
@@ -88,7 +88,9 @@ module _ (c : State) where
   unfolding dropStep
   in-drop-step n w v r =
       if-both In (eqb (vertexHolderAt (w .state) v) (n + 1))
-      (fold-keeps dropSide In in-drop-side (onState w (freeVertex (w .state) v)) (sidesAt (w .state) v) (unfold onState in (in-range-free-vertex c (w .state) v r))) r
+      (fold-keeps dropSide In in-drop-side (onState w (freeVertex (w .state) v)) (sidesAt (w .state) v)
+      (unfold onState in (in-range-free-vertex c (w .state) v r)))
+      r
 
   in-shrink-step : (w : Work) (s : ℕ) → HoldersInRange c (w .state) → HoldersInRange c (shrinkStep w s .state)
   unfolding shrinkStep note
@@ -104,7 +106,8 @@ module _ (c : State) where
   unfolding releaseStep
   in-release-step n w v r =
       if-both In (eqb (vertexHolderAt (w .state) v) 0) r
-      (fold-keeps (releaseSide n) In (in-release-side n) (onState w (freeVertex (w .state) v)) (sidesAt (w .state) v) (unfold onState in (in-range-free-vertex c (w .state) v r)))
+      (fold-keeps (releaseSide n) In (in-release-side n) (onState w (freeVertex (w .state) v)) (sidesAt (w .state) v)
+      (unfold onState in (in-range-free-vertex c (w .state) v r)))
 
   pub shrink-in-range : (n : ℕ) → HoldersInRange c c → HoldersInRange c (shrinkPass c n .state)
   unfolding shrinkPass shrinkScanned dropped startPass
@@ -116,19 +119,38 @@ module _ (c : State) where
 -- ---- growing
 
 -- a growing pass takes only what is free, for defect nodes
-module _ (c : State) (z : Shape c) (n : ℕ) (b : n < nodeCount c) (r : HoldersInRange c c) (own : OwnSides n (sideCount c) c (boundaryOf c n)) (over : all (overSound c) (overgrownOf c n) ≡ true) where
+module _ (c : State) (z : Shape c) (n : ℕ) (b : n < nodeCount c) (r : HoldersInRange c c)
+    (own : OwnSides n (sideCount c) c (boundaryOf c n)) (over : all (overSound c) (overgrownOf c n) ≡ true) where
   nothing-taken : Grown c c
-  nothing-taken = record { keeps = kept-refl c; stays = λ t m e. e; vstays = λ v m e. e; holder = r .holder; grandson = r .grandson; defect = r .stored; vertexHolder = r .vertexHolder; vertexGrandson = r .vertexGrandson }
+  nothing-taken =
+      record {
+        keeps = kept-refl c;
+        stays = λ t m e. e;
+        vstays = λ v m e. e;
+        holder = r .holder;
+        grandson = r .grandson;
+        defect = r .stored;
+        vertexHolder = r .vertexHolder;
+        vertexGrandson = r .vertexGrandson;
+      }
 
   taken : Takings c n (growPass c n) []
   unfolding overSound
   taken = grow-pass-grown c (sound-paired c z) n (sideCount c) b nothing-taken own
-      (all-weaker (overSound c) (λ (o : Overgrown). leb (o .amount) dualLimit) (λ o e. and-right (ltb (o .vertex) (vertexCount c)) (leb (o .amount) dualLimit) e) (overgrownOf c n) over)
+      (all-weaker (overSound c) (λ (o : Overgrown). leb (o .amount) dualLimit)
+      (λ o e. and-right (ltb (o .vertex) (vertexCount c)) (leb (o .amount) dualLimit) e) (overgrownOf c n) over)
 
   pub grow-in-range : HoldersInRange c (growPass c n .state)
   grow-in-range =
       let g : Grown c (growPass c n .state) = taken .grown in
-      record { holder = g .holder; grandson = g .grandson; vertexHolder = g .vertexHolder; vertexGrandson = g .vertexGrandson; stored = g .defect; lengths = g .keeps .holder ∙ r .lengths ∙ sym (g .keeps .grandson) }
+      record {
+        holder = g .holder;
+        grandson = g .grandson;
+        vertexHolder = g .vertexHolder;
+        vertexGrandson = g .vertexGrandson;
+        stored = g .defect;
+        lengths = g .keeps .holder ∙ r .lengths ∙ sym (g .keeps .grandson);
+      }
 
   pub grow-amounts : all (λ (o : Overgrown). leb (o .amount) dualLimit) (growPass c n .over) ≡ true
   grow-amounts = taken .amounts

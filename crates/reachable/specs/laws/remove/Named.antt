@@ -10,8 +10,8 @@ use Rattle.graph.specs.Basic.{any, member}
 use Rattle.graph.specs.State.{State, removed, nodeCount, classOf, shrinking, up}
 use Rattle.graph.specs.Sound.{isRemoved}
 use Rattle.graph.specs.laws.Members.{by-test, clash, or-right, none-member}
-use Rattle.length.specs.declared.Answer.the-variants.{Refused}
-use Rattle.length.specs.Answer.{Reply, says}
+use Rattle.update_length.specs.declared.Answer.the-variants.{Refused}
+use Rattle.update_length.specs.Answer.{Reply, says}
 use Rattle.calls.specs.Refuse.{badNode, storeShort, nodeRefusal, unless}
 use Rattle.calls.specs.Insert.{insertBlossom, blossomRefusal}
 use Rattle.calls.specs.Remove.{removeRefusal, removeBlossom}

@@ -11,7 +11,8 @@ use lib.ListN.{length}
 use borrow.Author.Tests.{eqb-true, eqb-false, eq-eqb}
 use Rattle.graph.specs.Basic.{fold, member, distinct}
 use Rattle.graph.specs.State.{State, Overgrown, opposite, endAt, growthAt, holderAt, vertexHolderAt, defectAt, sidesAt, weightOver, dualOf, boundaryOf, freeVertex}
-use Rattle.graph.specs.laws.State.{Kept, kept-trans, kept-free-vertex, opposite-opposite}
+use Rattle.graph.specs.laws.State.{kept-trans, kept-free-vertex, opposite-opposite}
+use Rattle.graph.specs.inner.Kept.{SameButHolders}
 use Rattle.graph.specs.laws.Members.{by-test, clash, or-cases, or-left, or-right, or-neither-left, or-neither-right, member-head, member-tail, member-cons, member-nil, distinct-head, distinct-tail}
 use Rattle.pass.specs.Work.{Work, onState}
 use Rattle.pass.specs.Shrink.{emptyTops, belowTops, dropSide, dropStep, closed}
@@ -49,7 +50,7 @@ module _ (c : State) (n : ℕ) (k : Labels) (graph-ok : GraphOk (c .graph)) wher
 
   -- while the pass runs, with the stack st
   pub record Shrinking (st : List Overgrown) (w : Work) : Type 0 where
-    pub keeps : Kept c (w .state)
+    pub keeps : SameButHolders c (w .state)
     pub global : Global Q (viewDuring c k w)
     pub node : NodeInvariant Q (viewDuring c k w) n (nodeViewDuring c n k w st)
     -- a kept side that may be free calls for another pass
@@ -63,8 +64,12 @@ module _ (c : State) (n : ℕ) (k : Labels) (graph-ok : GraphOk (c .graph)) wher
   module _ (w : Work) (st st' : List Overgrown) (i : Shrinking st w) (v : ℕ)
       (own : vertexHolderAt (w .state) v ≡ n + 1) (plain : defectAt c v ≡ 0) (at-radius : k .depth v ≡ k .base n + dualOf c n)
       (p : State → ℕ → Bool) (z : Work) (fr : SidesFreed p (sidesAt (w .state) v) (onState w (freeVertex (w .state) v)) z)
-      (when : (s : ℕ) → member (opposite s) (sidesAt c v) ≡ true → p (onState w (freeVertex (w .state) v) .state) (opposite s) ≡ true → Relisted Q (viewDuring c k w) n v s × (weightOver c s ≤ growthAt c s + growthAt c (opposite s)))
-      (then-kept : (s : ℕ) → Relisted Q (viewDuring c k w) n v s → weightOver c s ≤ growthAt c s + growthAt c (opposite s) → p (onState w (freeVertex (w .state) v) .state) (opposite s) ≡ true)
+      (when : (s : ℕ) → member (opposite s) (sidesAt c v) ≡ true
+      → p (onState w (freeVertex (w .state) v) .state) (opposite s) ≡ true
+      → Relisted Q (viewDuring c k w) n v s × (weightOver c s ≤ growthAt c s + growthAt c (opposite s)))
+      (then-kept : (s : ℕ) → Relisted Q (viewDuring c k w) n v s
+      → weightOver c s ≤ growthAt c s + growthAt c (opposite s)
+      → p (onState w (freeVertex (w .state) v) .state) (opposite s) ≡ true)
       (stack-old : (u : ℕ) → member u (stacked st') ≡ true → member u (stacked st) ≡ true)
       (stack-kept : (u : ℕ) → u ≢ v → member u (stacked st) ≡ true → member u (stacked st') ≡ true)
       (stack-off : member v (stacked st') ≡ false)
@@ -85,7 +90,7 @@ module _ (c : State) (n : ℕ) (k : Labels) (graph-ok : GraphOk (c .graph)) wher
     unfolding onState
     first-another = refl
 
-    first-keeps : Kept (w .state) (onState w (freeVertex (w .state) v) .state)
+    first-keeps : SameButHolders (w .state) (onState w (freeVertex (w .state) v) .state)
     unfolding onState
     first-keeps = kept-free-vertex (w .state) v
 
@@ -100,11 +105,15 @@ module _ (c : State) (n : ℕ) (k : Labels) (graph-ok : GraphOk (c .graph)) wher
     side-out t f = by-test (member t (sidesAt (w .state) v)) (λ e. let a = graph-ok .at-out v t (rw at-v at e) in absurd (f (a .0) (a .1))) (λ e. e)
 
     -- what is kept now and was not
-    new-relisted : (s : ℕ) → member s (z .kept) ≡ true → member s (w .kept) ≡ false → Relisted Q (viewDuring c k w) n v s × (weightOver c s ≤ growthAt c s + growthAt c (opposite s)) × (weightOver c s ≡ 0 → z .another ≡ true)
+    new-relisted : (s : ℕ) → member s (z .kept) ≡ true → member s (w .kept) ≡ false
+        → Relisted Q (viewDuring c k w) n v s × (weightOver c s ≤ growthAt c s + growthAt c (opposite s))
+        × (weightOver c s ≡ 0 → z .another ≡ true)
     new-relisted s e f =
         ⊎-elim
         (λ (a : member s (onState w (freeVertex (w .state) v) .kept) ≡ true). clash (member s (w .kept)) (rw first-kept at a) f)
-        (λ (a : (member (opposite s) (sidesAt (w .state) v) ≡ true) × (p (onState w (freeVertex (w .state) v) .state) (opposite s) ≡ true) × (weightOver (onState w (freeVertex (w .state) v) .state) (opposite s) ≡ 0 → z .another ≡ true)).
+        (λ (a : (member (opposite s) (sidesAt (w .state) v) ≡ true)
+        × (p (onState w (freeVertex (w .state) v) .state) (opposite s) ≡ true)
+        × (weightOver (onState w (freeVertex (w .state) v) .state) (opposite s) ≡ 0 → z .another ≡ true)).
         let b = when s (rw at-v at (a .0)) (a .1) in
         (b .0, b .1, λ y. a .2 (rw (kept-trans (i .keeps) first-keeps .graph, graph-ok .side-graph .same-weight s) y)))
         (fr .new s e)
@@ -115,7 +124,9 @@ module _ (c : State) (n : ℕ) (k : Labels) (graph-ok : GraphOk (c .graph)) wher
       vertex-kept = λ u a. vertex-now u ∙ vertex-other (w .state) v u a;
       side-freed = λ t b e. fr .freed t (side-in t b e);
       side-kept = λ t f. fr .other t (side-out t f) ∙ first-holder t;
-      still = λ s e. or-cases (member s (w .kept)) (member s (boundaryOf c n)) e (λ a. or-left (member s (z .kept)) (member s (boundaryOf c n)) (fr .still s (rw first-kept a))) (λ a. or-right (member s (z .kept)) (member s (boundaryOf c n)) a);
+      still = λ s e. or-cases (member s (w .kept)) (member s (boundaryOf c n)) e
+          (λ a. or-left (member s (z .kept)) (member s (boundaryOf c n)) (fr .still s (rw first-kept a)))
+          (λ a. or-right (member s (z .kept)) (member s (boundaryOf c n)) a);
       relisted = λ s e f.
           or-cases (member s (z .kept)) (member s (boundaryOf c n)) e
           (λ a. new-relisted s a (or-neither-left (member s (w .kept)) (member s (boundaryOf c n)) f) .0)
@@ -123,7 +134,13 @@ module _ (c : State) (n : ℕ) (k : Labels) (graph-ok : GraphOk (c .graph)) wher
       all-relisted = λ s b f.
           or-left (member s (z .kept)) (member s (boundaryOf c n))
           (let o : opposite (opposite s) ≡ s = opposite-opposite s in
-          rw o at (fr .all (λ t m. side-out (opposite t) (λ d e. let a = graph-ok .at-out v t (rw at-v at m) in graph-ok .side-graph .differ t (a .0) (e ∙ sym (a .1)))) (opposite s) (side-in (opposite s) (graph-ok .side-graph .across s (b .inside)) (b .at)) (then-kept s b f)));
+          rw o
+          at
+          (fr .all
+          (λ t m. side-out (opposite t)
+          (λ d e. let a = graph-ok .at-out v t (rw at-v at m) in
+          graph-ok .side-graph .differ t (a .0) (e ∙ sym (a .1))))
+          (opposite s) (side-in (opposite s) (graph-ok .side-graph .across s (b .inside)) (b .at)) (then-kept s b f)));
       stack-old = stack-old;
       stack-kept = stack-kept;
       stack-off = stack-off;
@@ -134,14 +151,20 @@ module _ (c : State) (n : ℕ) (k : Labels) (graph-ok : GraphOk (c .graph)) wher
     pub vertex-released : Shrinking st' z
     vertex-released = record {
       keeps = kept-trans (i .keeps) (kept-trans first-keeps (fr .keeps));
-      global = released-global Q (graph-ok .side-graph) (viewDuring c k w) n (nodeViewDuring c n k w st) (i .global) (i .node) v own plain at-radius (holderAt (z .state)) (vertexHolderAt (z .state)) (listedDuring c n z) st' released;
-      node = released-node Q (graph-ok .side-graph) (viewDuring c k w) n (nodeViewDuring c n k w st) (i .global) (i .node) v own plain at-radius (holderAt (z .state)) (vertexHolderAt (z .state)) (listedDuring c n z) st' released;
+      global = released-global Q (graph-ok .side-graph) (viewDuring c k w) n (nodeViewDuring c n k w st) (i .global)
+          (i .node) v own plain at-radius (holderAt (z .state)) (vertexHolderAt (z .state))
+          (listedDuring c n z) st' released;
+      node = released-node Q (graph-ok .side-graph) (viewDuring c k w) n (nodeViewDuring c n k w st) (i .global)
+          (i .node) v own plain at-radius (holderAt (z .state)) (vertexHolderAt (z .state))
+          (listedDuring c n z) st' released;
       zero-calls-another = λ s e g d.
           by-test (member s (w .kept))
           (λ a. fr .another (first-another ∙ i .zero-calls-another s a g d))
           (λ a.
           let b = new-relisted s e a in
-          let zero : growthAt c (opposite s) ≡ 0 = zero-at-radius Q (viewDuring c k w) n (nodeViewDuring c n k w st) (i .global) (i .node) v own plain at-radius (opposite s) (graph-ok .side-graph .across s (b .0 .inside)) (b .0 .at) in
+          let zero : growthAt c (opposite s) ≡ 0 =
+          zero-at-radius Q (viewDuring c k w) n (nodeViewDuring c n k w st) (i .global) (i .node) v own plain at-radius
+          (opposite s) (graph-ok .side-graph .across s (b .0 .inside)) (b .0 .at) in
           let le : weightOver c s ≤ growthAt c s + growthAt c (opposite s) = b .1 in
           b .2 (omega arith));
       sides = λ t.
@@ -149,28 +172,43 @@ module _ (c : State) (n : ℕ) (k : Labels) (graph-ok : GraphOk (c .graph)) wher
           (λ m.
           let a = graph-ok .at-out v t (rw at-v at m) in
           let h : holderAt (w .state) t ≡ n + 1 = i .node .all-sides v own plain t (a .0) (a .1) in
-          inr (⊎-elim (λ (e : holderAt (w .state) t ≡ holderAt c t). sym e ∙ h) (λ (e : (holderAt c t ≡ n + 1) × (holderAt (w .state) t ≡ 0)). e .0) (i .sides t), fr .freed t m))
+          inr (
+            ⊎-elim (λ (e : holderAt (w .state) t ≡ holderAt c t). sym e ∙ h)
+                (λ (e : (holderAt c t ≡ n + 1) × (holderAt (w .state) t ≡ 0)). e .0) (i .sides t),
+            fr .freed t m,
+          ))
           (λ m.
           let e : holderAt (z .state) t ≡ holderAt (w .state) t = fr .other t m ∙ first-holder t in
-          ⊎-elim (λ (f : holderAt (w .state) t ≡ holderAt c t). inl (e ∙ f)) (λ (f : (holderAt c t ≡ n + 1) × (holderAt (w .state) t ≡ 0)). inr (f .0, e ∙ f .1)) (i .sides t));
+          ⊎-elim (λ (f : holderAt (w .state) t ≡ holderAt c t). inl (e ∙ f))
+          (λ (f : (holderAt c t ≡ n + 1) × (holderAt (w .state) t ≡ 0)). inr (f .0, e ∙ f .1)) (i .sides t));
       vertices = λ u.
           by-cases (decEq u v)
-          (λ a. inr (rw a (⊎-elim (λ (e : vertexHolderAt (w .state) v ≡ vertexHolderAt c v). sym e ∙ own) (λ (e : (vertexHolderAt c v ≡ n + 1) × (vertexHolderAt (w .state) v ≡ 0)). e .0) (i .vertices v)), rw a (vertex-now v ∙ vertex-freed (w .state) v)))
+          (λ a. inr (
+            rw a
+                (⊎-elim (λ (e : vertexHolderAt (w .state) v ≡ vertexHolderAt c v). sym e ∙ own)
+                (λ (e : (vertexHolderAt c v ≡ n + 1) × (vertexHolderAt (w .state) v ≡ 0)). e .0) (i .vertices v)),
+            rw a (vertex-now v ∙ vertex-freed (w .state) v),
+          ))
           (λ a.
           let e : vertexHolderAt (z .state) u ≡ vertexHolderAt (w .state) u = vertex-now u ∙ vertex-other (w .state) v u a in
-          ⊎-elim (λ (f : vertexHolderAt (w .state) u ≡ vertexHolderAt c u). inl (e ∙ f)) (λ (f : (vertexHolderAt c u ≡ n + 1) × (vertexHolderAt (w .state) u ≡ 0)). inr (f .0, e ∙ f .1)) (i .vertices u));
+          ⊎-elim (λ (f : vertexHolderAt (w .state) u ≡ vertexHolderAt c u). inl (e ∙ f))
+          (λ (f : (vertexHolderAt c u ≡ n + 1) × (vertexHolderAt (w .state) u ≡ 0)). inr (f .0, e ∙ f .1))
+          (i .vertices u));
     }
 
   -- ---- the tops of amount 0
 
-  drop-one : (w : Work) (v : ℕ) (os : List Overgrown) (a : ℕ) → a ≡ 0 → Shrinking (record { vertex = v; amount = a } ∷ os) w → distinct (v ∷ stacked os) ≡ true → Shrinking os (dropStep n w v)
+  drop-one : (w : Work) (v : ℕ) (os : List Overgrown) (a : ℕ) → a ≡ 0
+      → Shrinking (record { vertex = v; amount = a } ∷ os) w → distinct (v ∷ stacked os) ≡ true
+      → Shrinking os (dropStep n w v)
   unfolding dropStep
   drop-one w v os a zero-a i d =
       let o : Overgrown = record { vertex = v; amount = a } in
       let og : OvergrownVertex Q (viewDuring c k w) n (nodeViewDuring c n k w (o ∷ os)) v = i .node .overgrown-vertices v (member-head v (stacked os)) in
       let own : vertexHolderAt (w .state) v ≡ n + 1 = og .own in
       let first : Work = onState w (freeVertex (w .state) v) in
-      let fr : SidesFreed always (sidesAt (w .state) v) first (fold dropSide first (sidesAt (w .state) v)) = rw drop-freeing (free-sides always always-test (sidesAt (w .state) v) first) in
+      let fr : SidesFreed always (sidesAt (w .state) v) first (fold dropSide first (sidesAt (w .state) v)) =
+      rw drop-freeing (free-sides always always-test (sidesAt (w .state) v) first) in
       let chains : (k .depth v + a ≡ k .base n + dualOf c n) × Chain (k .depth) (k .depth v) os = parts (i .node .chain) in
       let at-radius : k .depth v ≡ k .base n + dualOf c n = omega (arith, chains .0) in
       rw (own, eq-eqb (n + 1) (n + 1) refl)
@@ -193,7 +231,10 @@ module _ (c : State) (n : ℕ) (k : Labels) (graph-ok : GraphOk (c .graph)) wher
       parts : {y : ℕ} → Chain (k .depth) y (record { vertex = v; amount = a } ∷ os) → (k .depth v + a ≡ y) × Chain (k .depth) (k .depth v) os
       parts (more e r) = (e, r)
 
-      across : (s : ℕ) → OvergrownVertex Q (viewDuring c k w) n (nodeViewDuring c n k w (record { vertex = v; amount = a } ∷ os)) v → (opposite s < length (c .graph .end)) × (endAt c (opposite s) ≡ v) → Relisted Q (viewDuring c k w) n v s × (weightOver c s ≤ growthAt c s + growthAt c (opposite s))
+      across : (s : ℕ)
+          → OvergrownVertex Q (viewDuring c k w) n (nodeViewDuring c n k w (record { vertex = v; amount = a } ∷ os)) v
+          → (opposite s < length (c .graph .end)) × (endAt c (opposite s) ≡ v)
+          → Relisted Q (viewDuring c k w) n v s × (weightOver c s ≤ growthAt c s + growthAt c (opposite s))
       across s og m =
           let far : holderAt (w .state) (opposite s) ≡ n + 1 = i .node .all-sides v (og .own) (og .plain) (opposite s) (m .0) (m .1) in
           let oo : opposite (opposite s) ≡ s = opposite-opposite s in
@@ -208,10 +249,13 @@ module _ (c : State) (n : ℕ) (k : Labels) (graph-ok : GraphOk (c .graph)) wher
           (record { inside = inside; at = m .1; near = rw oo at (g .far); far = far }, omega arith))
           (i .node .closed (opposite s) far (og .out (opposite s) (m .0) (m .1)))
 
-  pub drop-all : (st : List Overgrown) (w : Work) → distinct (stacked st) ≡ true → Shrinking st w → Shrinking (belowTops st) (fold (dropStep n) w (emptyTops st))
+  pub drop-all : (st : List Overgrown) (w : Work) → distinct (stacked st) ≡ true → Shrinking st w
+      → Shrinking (belowTops st) (fold (dropStep n) w (emptyTops st))
   unfolding belowTops emptyTops fold
   drop-all [] w d i = i
   drop-all (o ∷ os) w d i =
       by-test (eqb (o .amount) 0)
-      (λ e. rw e (drop-all os (dropStep n w (o .vertex)) (distinct-tail (o .vertex) (stacked os) d) (drop-one w (o .vertex) os (o .amount) (eqb-true _ _ e) i d)))
+      (λ e. rw e
+      (drop-all os (dropStep n w (o .vertex)) (distinct-tail (o .vertex) (stacked os) d)
+      (drop-one w (o .vertex) os (o .amount) (eqb-true _ _ e) i d)))
       (λ e. rw e i)

@@ -21,7 +21,9 @@ same-length c = search needs
 returns-3 : tie.Need-returns-3
 returns-3 c =
     let a = c .before .before .before .before .before .before .before .before .before .args in
-    told-fits (a .lines .now) (a .o .at) (a .o .full) _ _ (a .l .now) (c .before .before .before .before .before .before .if1 .left) (search needs) (search needs) (search needs) (c .before .before .word .ensures)
+    told-fits (a .lines .now) (a .o .at) (a .o .full) _ _ (a .l .now)
+    (c .before .before .before .before .before .before .if1 .left) (search needs) (search needs) (search needs)
+    (c .before .before .word .ensures)
 
 pub put-line-spec : {M : Type 1} → statement M
 put-line-spec = tie.close (tie.spec returns sub-if2 returns-2 word-requires same-length returns-3)

@@ -26,8 +26,12 @@ returns c =
     let e = c .before .before .before .before .before .before in
     let d = e .before .before .before .before in
     let a = d .before .before .before .before .args in
-    let few = decimal-short (a .k) (search needs) in
-    (written-as (written-then (written-then (d .decimal .ensures) (e .byte .ensures)) (c .before .before .word .ensures)) (line-start (a .k) (a .w .now)), omega (arith, c .before .before .word .ensures .place, e .byte .ensures .place, d .decimal .ensures .place))
+    let few = decimal-short (a .k) (search needs) in (
+      written-as
+          (written-then (written-then (d .decimal .ensures) (e .byte .ensures)) (c .before .before .word .ensures))
+          (line-start (a .k) (a .w .now)),
+      omega (arith, c .before .before .word .ensures .place, e .byte .ensures .place, d .decimal .ensures .place),
+    )
 
 pub start-line-spec : {M : Type 1} → statement M
 start-line-spec =

@@ -31,7 +31,10 @@ returns : tie.Need-returns
 returns c =
     let w = c .before .before .before .before .before .before .before in
     let z : w .write-line .result - 0 ≡ w .write-line .result = omega arith in
-    told-as (c .before .before .put-line .ensures) (rw z (written-front (w .write-line .ensures .0) (omega (arith, w .write-line .ensures .0 .place, w .write-line .ensures .1))))
+    told-as (c .before .before .put-line .ensures)
+    (rw z
+    (written-front (w .write-line .ensures .0)
+    (omega (arith, w .write-line .ensures .0 .place, w .write-line .ensures .1))))
 
 pub tell-spec : {M : Type 1} → statement M
 tell-spec =

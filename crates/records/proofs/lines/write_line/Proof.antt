@@ -20,8 +20,12 @@ returns : tie.Need-returns
 returns c =
     let e = c .before .before .before .before .before .before in
     let d = e .before .before .before .before in
-    let a = d .before .before .before .before .before .args in
-    (written-as (written-then (written-then (d .start-line .ensures .0) (e .numbers .ensures)) (c .before .before .byte .ensures)) (line-parts (a .k) (a .w .now) _), omega (arith, c .before .before .byte .ensures .place, e .numbers .ensures .place))
+    let a = d .before .before .before .before .before .args in (
+      written-as
+          (written-then (written-then (d .start-line .ensures .0) (e .numbers .ensures)) (c .before .before .byte .ensures))
+          (line-parts (a .k) (a .w .now) _),
+      omega (arith, c .before .before .byte .ensures .place, e .numbers .ensures .place),
+    )
 
 pub write-line-spec : {M : Type 1} → statement M
 write-line-spec =

@@ -75,8 +75,16 @@ returns c =
     let z = small-of (a .args .s) (a .pre .4) in
     let len = m .block-length .ensures in
     let e = c .before .«open» .ensures in (
-      e .0 ∙ opens-code (a .args .s) (a .args .edges .now) (a .args .virtuals .now) (a .args .block .now) (a .args .scratch .now) (m .block-length .result - 0) (6 * a .args .s .e - 0) (3 * a .args .s .e - 0) (a .args .s .virtuals - 0) (omega (arith, len)) (omega arith) (omega arith) (omega arith) (omega (arith, len, a .pre .0)) (omega (arith, a .pre .1)),
-      ap (λ l. l ++ drop (m .block-length .result - 0) (a .args .block .now)) (e .1) ∙ opens-block (a .args .s) (a .args .edges .now) (a .args .virtuals .now) (a .args .block .now) (a .args .scratch .now) (m .block-length .result - 0) (6 * a .args .s .e - 0) (3 * a .args .s .e - 0) (a .args .s .virtuals - 0) (omega (arith, len)) (omega arith) (omega arith) (omega arith) (omega (arith, len, a .pre .0)) (omega (arith, a .pre .1)),
+      e .0
+          ∙ opens-code (a .args .s) (a .args .edges .now) (a .args .virtuals .now) (a .args .block .now)
+          (a .args .scratch .now) (m .block-length .result - 0) (6 * a .args .s .e - 0) (3 * a .args .s .e - 0)
+          (a .args .s .virtuals - 0) (omega (arith, len)) (omega arith) (omega arith) (omega arith)
+          (omega (arith, len, a .pre .0)) (omega (arith, a .pre .1)),
+      ap (λ l. l ++ drop (m .block-length .result - 0) (a .args .block .now)) (e .1)
+          ∙ opens-block (a .args .s) (a .args .edges .now) (a .args .virtuals .now) (a .args .block .now)
+          (a .args .scratch .now) (m .block-length .result - 0) (6 * a .args .s .e - 0) (3 * a .args .s .e - 0)
+          (a .args .s .virtuals - 0) (omega (arith, len)) (omega arith) (omega arith) (omega arith)
+          (omega (arith, len, a .pre .0)) (omega (arith, a .pre .1)),
     )
 
 pub open-into-spec : {M : Type 1} → statement M

@@ -45,7 +45,12 @@ unfolding fieldCounts
 returns-10 c = cc
 
 returns-11 : tie.Need-returns-11
-returns-11 c = let m = c .match .rest in sym (fields-none (c .before .args .kind) (m .0 .0 .0 .0 .0 .0 .0 .0 .0 .1) (m .0 .0 .0 .0 .0 .0 .0 .0 .1) (m .0 .0 .0 .0 .0 .0 .0 .1) (m .0 .0 .0 .0 .0 .0 .1) (m .0 .0 .0 .0 .0 .1) (m .0 .0 .0 .0 .1) (m .0 .0 .0 .1) (m .0 .0 .1) (m .0 .1) (m .1))
+returns-11 c =
+    let m = c .match .rest in
+    sym
+    (fields-none (c .before .args .kind) (m .0 .0 .0 .0 .0 .0 .0 .0 .0 .1) (m .0 .0 .0 .0 .0 .0 .0 .0 .1)
+    (m .0 .0 .0 .0 .0 .0 .0 .1) (m .0 .0 .0 .0 .0 .0 .1) (m .0 .0 .0 .0 .0 .1) (m .0 .0 .0 .0 .1) (m .0 .0 .0 .1)
+    (m .0 .0 .1) (m .0 .1) (m .1))
 
 pub field-count-spec : {M : Type 1} → statement M
 field-count-spec =

@@ -13,10 +13,16 @@ pair-requires : tie.Need-pair-requires
 pair-requires c κs = omega (arith, lengthy _ (sym (c .before .length-fits .ensures) ∙ c .if1 .taken) .kind)
 
 field-requires : tie.Need-field-requires
-field-requires c κs = three-fields _ (sym (c .before .before .before .length-fits .ensures) ∙ c .before .before .if1 .taken) (sym (c .before .pair .ensures .0) ∙ c .if2 .taken)
+field-requires c κs =
+    three-fields _ (sym (c .before .before .before .length-fits .ensures) ∙ c .before .before .if1 .taken)
+    (sym (c .before .pair .ensures .0) ∙ c .if2 .taken)
 
 returns : tie.Need-returns
-returns c = ap (λ x. leb x 1) (c .field .ensures .0) ∙ sym (formed-length _ (sym (c .before .before .before .before .length-fits .ensures) ∙ c .before .before .before .if1 .taken) (sym (c .before .before .pair .ensures .0) ∙ c .before .if2 .taken))
+returns c =
+    ap (λ x. leb x 1) (c .field .ensures .0)
+    ∙ sym
+    (formed-length _ (sym (c .before .before .before .before .length-fits .ensures) ∙ c .before .before .before .if1 .taken)
+    (sym (c .before .before .pair .ensures .0) ∙ c .before .if2 .taken))
 
 returns-2 : tie.Need-returns-2
 returns-2 c = sym (formed-plain _ (sym (c .before .before .before .length-fits .ensures) ∙ c .before .before .if1 .taken) (λ q. omega arith))

@@ -31,7 +31,10 @@ returns-2 c =
     let v = c .before .before .before .before .before in
     let f = c .before .before .before .before .before .before .before .before .before in
     let a = c .before .before .before .before .before .before .before .before .before .before .before .args in
-    let new = virtual-new (a .s) (a .virtuals .now) _ (omega (arith, f .field .ensures .0)) (ap (λ y. newVirtual (a .virtuals .now) (a .s .virtuals) y) (sym (f .field .ensures .0)) ∙ sym (v .new-virtual .ensures) ∙ c .before .before .before .before .if2 .taken) in
+    let new =
+    virtual-new (a .s) (a .virtuals .now) _ (omega (arith, f .field .ensures .0))
+    (ap (λ y. newVirtual (a .virtuals .now) (a .s .virtuals) y) (sym (f .field .ensures .0))
+    ∙ sym (v .new-virtual .ensures) ∙ c .before .before .before .before .if2 .taken) in
     (new .0, c .before .before .put .ensures ∙ ap (λ y. set (a .virtuals .now) (a .s .virtuals) (pos y)) (f .field .ensures .0) ∙ new .1)
 
 same-length-2 : tie.Need-same-length-2
@@ -42,7 +45,9 @@ returns-3 c =
     let v = c .before in
     let f = c .before .before .before .before .before in
     let a = c .before .before .before .before .before .before .before .args in
-    virtual-old (a .s) (a .virtuals .now) _ (omega (arith, f .field .ensures .0)) (ap (λ y. newVirtual (a .virtuals .now) (a .s .virtuals) y) (sym (f .field .ensures .0)) ∙ sym (v .new-virtual .ensures) ∙ c .if2 .left)
+    virtual-old (a .s) (a .virtuals .now) _ (omega (arith, f .field .ensures .0))
+    (ap (λ y. newVirtual (a .virtuals .now) (a .s .virtuals) y) (sym (f .field .ensures .0))
+    ∙ sym (v .new-virtual .ensures) ∙ c .if2 .left)
 
 pub add-virtual-spec : {M : Type 1} → statement M
 add-virtual-spec =

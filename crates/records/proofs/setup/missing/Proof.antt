@@ -24,7 +24,11 @@ word-requires c κs = search needs
 returns : tie.Need-returns Inv-loop μ-loop
 returns c =
     let s = c .before .before .before in
-    ap not (sym (sym (s .loop .inv .1) ∙ member-found (s .before .args .words .now) (s .before .args .x) (s .loop .i) (search needs) (sym (c .before .word .ensures .0) ∙ c .if1 .taken)))
+    ap not
+    (sym
+    (sym (s .loop .inv .1)
+    ∙ member-found (s .before .args .words .now) (s .before .args .x) (s .loop .i) (search needs)
+    (sym (c .before .word .ensures .0) ∙ c .if1 .taken)))
 
 add-i : tie.Need-add-i Inv-loop μ-loop
 add-i c = search needs
@@ -35,8 +39,13 @@ loop-less c = search needs
 loop-again : tie.Need-loop-again Inv-loop μ-loop
 loop-again c =
     let s = c .before .before .before in
-    let ne : c .before .word .result ≡ s .before .args .x → ⊥ = c .if1 .left in
-    (search needs, sym (member-later (s .before .args .words .now) (s .before .args .x) (s .loop .i) (search needs) (λ q. ne (c .before .word .ensures .0 ∙ q))) ∙ s .loop .inv .1)
+    let ne : c .before .word .result ≡ s .before .args .x → ⊥ = c .if1 .left in (
+      search needs,
+      sym
+          (member-later (s .before .args .words .now) (s .before .args .x) (s .loop .i) (search needs)
+          (λ q. ne (c .before .word .ensures .0 ∙ q)))
+          ∙ s .loop .inv .1,
+    )
 
 returns-2 : tie.Need-returns-2 Inv-loop μ-loop
 returns-2 c =

@@ -34,8 +34,15 @@ returns : tie.Need-returns
 returns c =
     let s = c .before .before .before .before .before .before in
     let z = toZ-ofZ (s .before .before .fits .x) in
-    let few = decimal-short (s .magnitude .result) (search needs) in
-    (written-as (c .before .before .decimal .ensures) (ap decimal (s .magnitude .ensures .0 ∙ ap natAbs z) ∙ sym (signed-plain (s .before .before .args .x) (sym (ap nonNeg z) ∙ sym (c .before .before .before .before .before .non-negative .ensures) ∙ c .before .before .before .before .if1 .taken))), omega (arith, c .before .before .decimal .ensures .place))
+    let few = decimal-short (s .magnitude .result) (search needs) in (
+      written-as (c .before .before .decimal .ensures)
+          (ap decimal (s .magnitude .ensures .0 ∙ ap natAbs z)
+          ∙ sym
+          (signed-plain (s .before .before .args .x)
+          (sym (ap nonNeg z) ∙ sym (c .before .before .before .before .before .non-negative .ensures)
+          ∙ c .before .before .before .before .if1 .taken))),
+      omega (arith, c .before .before .decimal .ensures .place),
+    )
 
 same-length-2 : tie.Need-same-length-2
 same-length-2 c = search needs
@@ -44,8 +51,22 @@ returns-2 : tie.Need-returns-2
 returns-2 c =
     let s = c .before .before .before .before .before .before .before .before .before .before in
     let z = toZ-ofZ (s .before .before .fits .x) in
-    let few = decimal-short (s .magnitude .result) (search needs) in
-    (written-as (written-then (c .before .before .before .before .before .before .byte .ensures) (c .before .before .decimal2 .ensures)) (ap (λ n. 45 ∷ decimal n) (s .magnitude .ensures .0 ∙ ap natAbs z) ∙ sym (signed-minus (s .before .before .args .x) (sym (ap nonNeg z) ∙ sym (c .before .before .before .before .before .before .before .before .before .non-negative .ensures) ∙ c .before .before .before .before .before .before .before .before .if1 .left))), omega (arith, c .before .before .decimal2 .ensures .place, c .before .before .before .before .before .before .byte .ensures .place))
+    let few = decimal-short (s .magnitude .result) (search needs) in (
+      written-as
+          (written-then (c .before .before .before .before .before .before .byte .ensures)
+          (c .before .before .decimal2 .ensures))
+          (ap (λ n. 45 ∷ decimal n) (s .magnitude .ensures .0 ∙ ap natAbs z)
+          ∙ sym
+          (signed-minus (s .before .before .args .x)
+          (sym (ap nonNeg z)
+          ∙ sym (c .before .before .before .before .before .before .before .before .before .non-negative .ensures)
+          ∙ c .before .before .before .before .before .before .before .before .if1 .left))),
+      omega (
+        arith,
+        c .before .before .decimal2 .ensures .place,
+        c .before .before .before .before .before .before .byte .ensures .place,
+      ),
+    )
 
 pub signed-spec : {M : Type 1} → statement M
 signed-spec =

@@ -20,7 +20,11 @@ same-length c = search needs
 
 returns : tie.Need-returns
 unfolding ascii
-returns c = told-lines (c .before .before .tell-one .ensures) (lines-touching _ _ _ (sym (c .before .before .before .before .before .before .touches .ensures) ∙ c .before .before .before .before .before .if1 .taken))
+returns c =
+    told-lines (c .before .before .tell-one .ensures)
+    (lines-touching _ _ _
+    (sym (c .before .before .before .before .before .before .touches .ensures)
+    ∙ c .before .before .before .before .before .if1 .taken))
 
 returns-2 : tie.Need-returns-2
 returns-2 c = told-lines (told-none (c .before .before .before .pre .0)) (lines-apart _ _ _ (sym (c .before .touches .ensures) ∙ c .if1 .left))

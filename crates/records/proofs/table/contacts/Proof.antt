@@ -11,7 +11,11 @@ use Rattle.records.proofs.table.contacts.Statement.{statement}
 use Rattle.records.proofs.table.contacts.Tie as tie
 
 abbrev Inv-loop : tie.InvT-loop
-Inv-loop lines₀ k b n out₀ e₀ lines out e = (e ≤ n) × Telling lines₀ (out₀ .at) (out₀ .full) lines (out .at) (out .full) (linesFor k (touching (contacts (stateOf b)))) (contactsFrom k (stateOf b) e) × (length lines ≡ length lines₀)
+Inv-loop lines₀ k b n out₀ e₀ lines out e =
+    (e ≤ n)
+    × Telling lines₀ (out₀ .at) (out₀ .full) lines (out .at) (out .full) (linesFor k (touching (contacts (stateOf b))))
+    (contactsFrom k (stateOf b) e)
+    × (length lines ≡ length lines₀)
 
 abbrev μ-loop : tie.MeasureT-loop
 μ-loop lines₀ k b n out₀ e₀ lines out e = n - e
@@ -36,8 +40,14 @@ loop-less c = search needs
 loop-again : tie.Need-loop-again Inv-loop μ-loop
 loop-again c =
     let s = c .before .before .before .before .before in
-    let a = s .before .before .before in
-    (search needs, telling-more (s .loop .inv .1) (contacts-more (a .args .k) (stateOf (a .args .b .now)) (s .loop .e) (omega (arith, s .before .edge-count .ensures .0))) (c .before .before .contact-line .ensures), search needs)
+    let a = s .before .before .before in (
+      search needs,
+      telling-more (s .loop .inv .1)
+          (contacts-more (a .args .k) (stateOf (a .args .b .now)) (s .loop .e)
+          (omega (arith, s .before .edge-count .ensures .0)))
+          (c .before .before .contact-line .ensures),
+      search needs,
+    )
 
 same-length : tie.Need-same-length Inv-loop μ-loop
 same-length c = search needs

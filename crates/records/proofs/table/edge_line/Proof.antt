@@ -31,7 +31,10 @@ same-length c = search needs
 
 returns : tie.Need-returns
 unfolding ascii
-returns c = told-as (c .before .before .tell-three .ensures) (edge-line _ _ _ _ _ (c .before .before .before .before .before .before .growth .ensures .0) (c .before .before .before .before .before .growth2 .ensures .0))
+returns c =
+    told-as (c .before .before .tell-three .ensures)
+    (edge-line _ _ _ _ _ (c .before .before .before .before .before .before .growth .ensures .0)
+    (c .before .before .before .before .before .growth2 .ensures .0))
 
 pub edge-line-spec : {M : Type 1} → statement M
 edge-line-spec =

@@ -11,7 +11,11 @@ use Rattle.records.proofs.table.table.Statement.{statement}
 use Rattle.records.proofs.table.table.Tie as tie
 
 abbrev Inv-loop : tie.InvT-loop
-Inv-loop lines₀ k b n out₀ e₀ lines out e = (e ≤ n) × Telling lines₀ (out₀ .at) (out₀ .full) lines (out .at) (out .full) (linesFor k (growths (growthTable (stateOf b)))) (tableFrom k (stateOf b) e) × (length lines ≡ length lines₀)
+Inv-loop lines₀ k b n out₀ e₀ lines out e =
+    (e ≤ n)
+    × Telling lines₀ (out₀ .at) (out₀ .full) lines (out .at) (out .full) (linesFor k (growths (growthTable (stateOf b))))
+    (tableFrom k (stateOf b) e)
+    × (length lines ≡ length lines₀)
 
 abbrev μ-loop : tie.MeasureT-loop
 μ-loop lines₀ k b n out₀ e₀ lines out e = n - e
@@ -38,8 +42,12 @@ loop-again c =
     let s = c .before .before .before .before .before in
     let a = s .before .before .before in
     let m = growths-even (a .args .b .now) (a .pre .1) in
-    let h : 2 * s .loop .e + 1 < length (growthTable (stateOf (a .args .b .now))) = omega (arith, s .before .edge-count .ensures .0) in
-    (search needs, telling-more (s .loop .inv .1) (table-more (a .args .k) (stateOf (a .args .b .now)) (s .loop .e) h) (c .before .before .edge-line .ensures), search needs)
+    let h : 2 * s .loop .e + 1 < length (growthTable (stateOf (a .args .b .now))) = omega (arith, s .before .edge-count .ensures .0) in (
+      search needs,
+      telling-more (s .loop .inv .1) (table-more (a .args .k) (stateOf (a .args .b .now)) (s .loop .e) h)
+          (c .before .before .edge-line .ensures),
+      search needs,
+    )
 
 same-length : tie.Need-same-length Inv-loop μ-loop
 same-length c = search needs

@@ -1,4 +1,4 @@
-use Rattle.records.specs.Table.{touches}
+use Rattle.records.specs.inner.Table.{touches}
 use borrow.Author.Needs.{needs}
 use Rattle.records.proofs.table.touches.Statement.{statement}
 use Rattle.records.proofs.table.touches.Tie as tie

@@ -2,11 +2,10 @@ use borrow.Author.Needs.{needs}
 use native.Mathlib.Omega.{arith}
 use mathlib.Core.Path.{sym, _∙_, ap}
 use mathlib.Core.List.{_∷_, [], _++_}
-use Prim.Native.Nat.{_+_, _/_}
+use Prim.Native.Nat.{_+_, _/_, ℕ, _<_}
 use Rattle.records.specs.Text.{decimal as digits}
 use Rattle.records.specs.laws.Lines.{decimal-last, decimal-more}
 use Rattle.records.specs.laws.Write.{written-as, written-then, decimal-some, decimal-shorter}
-use Prim.Native.Nat.{ℕ, _<_}
 use borrow.Fn.Kinds.{In}
 use borrow.Fn.PlainCycle.{Measures, is, falls, and}
 use Rattle.records.proofs.text.decimal.Reads as decimal
@@ -75,7 +74,10 @@ decimal-byte-requires-2 : (t : ℕ) → decimal-lts.Need-byte-requires-2 (
   decimal-below t,
   decimal.Post,
 ) (decimal-at t) decimal.Post
-decimal-byte-requires-2 t c κs = let more = decimal-shorter (c .before .before .before .before .before .before .before .before .args .x) (c .before .before .before .before .before .before .if1 .left) in
+decimal-byte-requires-2 t c κs =
+    let more =
+    decimal-shorter (c .before .before .before .before .before .before .before .before .args .x)
+    (c .before .before .before .before .before .before .if1 .left) in
     omega arith
 
 decimal-same-length : (t : ℕ) → decimal-lts.Need-same-length (
@@ -96,7 +98,10 @@ decimal-returns : (t : ℕ) → decimal-lts.Need-returns (
   decimal-below t,
   decimal.Post,
 ) (decimal-at t) decimal.Post
-decimal-returns t c = written-as (c .before .before .byte .ensures) (ap (λ d. d ∷ []) (c .before .before .before .digit .ensures) ∙ sym (decimal-last _ (c .before .before .before .before .before .if1 .taken)))
+decimal-returns t c =
+    written-as (c .before .before .byte .ensures)
+    (ap (λ d. d ∷ []) (c .before .before .before .digit .ensures)
+    ∙ sym (decimal-last _ (c .before .before .before .before .before .if1 .taken)))
 
 decimal-same-length-2 : (t : ℕ) → decimal-lts.Need-same-length-2 (
   digit-reads.Asked,
@@ -116,7 +121,15 @@ decimal-returns-2 : (t : ℕ) → decimal-lts.Need-returns-2 (
   decimal-below t,
   decimal.Post,
 ) (decimal-at t) decimal.Post
-decimal-returns-2 t c = written-as (written-then (c .before .before .before .before .before .before .before .decimal .ensures) (c .before .before .byte2 .ensures)) (ap (λ d. digits (c .before .before .before .before .before .before .before .before .before .before .before .args .x / 10) ++ (d ∷ [])) (c .before .before .before .digit2 .ensures) ∙ sym (decimal-more _ (c .before .before .before .before .before .before .before .before .before .if1 .left)))
+decimal-returns-2 t c =
+    written-as
+    (written-then (c .before .before .before .before .before .before .before .decimal .ensures)
+    (c .before .before .byte2 .ensures))
+    (ap
+    (λ d. digits (c .before .before .before .before .before .before .before .before .before .before .before .args .x / 10)
+    ++ (d ∷ []))
+    (c .before .before .before .digit2 .ensures)
+    ∙ sym (decimal-more _ (c .before .before .before .before .before .before .before .before .before .if1 .left)))
 
 pub +decimal-spec : {M : Type 1} → statement M
 +decimal-spec = close μ-decimal λ t. decimal-lts.spec (

@@ -40,8 +40,12 @@ loop-less c = search needs
 
 loop-again : tie.Need-loop-again Inv-loop μ-loop
 loop-again c =
-    let s = c .before .before .before .before .before .before in
-    (numbers-more (s .before .before .before .args .ns .now) (s .loop .i) (search needs) (s .loop .inv .0) (c .before .before .number .ensures), search needs, search needs)
+    let s = c .before .before .before .before .before .before in (
+      numbers-more (s .before .before .before .args .ns .now) (s .loop .i) (search needs) (s .loop .inv .0)
+          (c .before .before .number .ensures),
+      search needs,
+      search needs,
+    )
 
 same-length : tie.Need-same-length Inv-loop μ-loop
 same-length c = search needs

@@ -1,5 +1,5 @@
 use mir.Facts.{toZ-ofZ}
-use Rattle.length.specs.declared.Answer.the-variants.{NonZeroGrow, Conflicting, TouchingVirtual, VertexShrinkStopPeer}
+use Rattle.update_length.specs.declared.Answer.the-variants.{NonZeroGrow, Conflicting, TouchingVirtual, VertexShrinkStopPeer}
 use native.Mathlib.Omega.{arith}
 use mathlib.Core.Path.{sym, _∙_, ap}
 use mathlib.Core.List.{_∷_, [], _++_}
@@ -130,7 +130,10 @@ returns : tie.Need-returns
 unfolding wordsOf ascii spaced
 returns c =
     let s = c .before .before .before .before .before in
-    told-as (c .before .before .free .ensures) (ap (λ z. line (s .before .before .before .args .k) (wordsOf (NonZeroGrow z (s .a .given .0 .1 .0)))) (toZ-ofZ (sfits-of ((rw (s .a .given .1) at (s .before .before .before .good .1 .1 .1 .0)) .1 .1 .1 .1 .0 .1))) ∙ ap (λ a. line (s .before .before .before .args .k) (wordsOf a)) (sym (s .a .given .1)))
+    told-as (c .before .before .free .ensures)
+    (ap (λ z. line (s .before .before .before .args .k) (wordsOf (NonZeroGrow z (s .a .given .0 .1 .0))))
+    (toZ-ofZ (sfits-of ((rw (s .a .given .1) at (s .before .before .before .good .1 .1 .1 .0)) .1 .1 .1 .1 .0 .1)))
+    ∙ ap (λ a. line (s .before .before .before .args .k) (wordsOf a)) (sym (s .a .given .1)))
 
 same-length-2 : tie.Need-same-length-2
 same-length-2 c = search needs
@@ -139,7 +142,10 @@ returns-2 : tie.Need-returns-2
 unfolding wordsOf ascii spaced
 returns-2 c =
     let s = c .before .before .before .before .before .before .before in
-    told-as (c .before .before .tell-one .ensures) (ap (λ f. line (s .before .before .before .args .k) (ascii "free -1" ++ spaced (f ∷ []))) (c .before .before .before .flag .ensures .0) ∙ ap (λ a. line (s .before .before .before .args .k) (wordsOf a)) (sym (s .a2 .given .1)))
+    told-as (c .before .before .tell-one .ensures)
+    (ap (λ f. line (s .before .before .before .args .k) (ascii "free -1" ++ spaced (f ∷ [])))
+    (c .before .before .before .flag .ensures .0)
+    ∙ ap (λ a. line (s .before .before .before .args .k) (wordsOf a)) (sym (s .a2 .given .1)))
 
 same-length-3 : tie.Need-same-length-3
 same-length-3 c = search needs
@@ -148,7 +154,13 @@ returns-3 : tie.Need-returns-3
 unfolding wordsOf ascii spaced
 returns-3 c =
     let s = c .before .before .before .before .before .before in
-    told-as {l = line (s .before .before .before .args .k) (wordsOf (Conflicting (s .a3 .given .0 .0) (s .a3 .given .0 .1 .0) (s .a3 .given .0 .1 .1 .0) (s .a3 .given .0 .1 .1 .1 .0)))} (c .before .before .tell-four .ensures) (ap (λ a. line (s .before .before .before .args .k) (wordsOf a)) (sym (s .a3 .given .1)))
+    told-as
+    {l = line (s .before .before .before .args .k)
+    (wordsOf
+    (Conflicting (s .a3 .given .0 .0) (s .a3 .given .0 .1 .0) (s .a3 .given .0 .1 .1 .0)
+    (s .a3 .given .0 .1 .1 .1 .0)))}
+    (c .before .before .tell-four .ensures)
+    (ap (λ a. line (s .before .before .before .args .k) (wordsOf a)) (sym (s .a3 .given .1)))
 
 same-length-4 : tie.Need-same-length-4
 same-length-4 c = search needs
@@ -157,7 +169,11 @@ returns-4 : tie.Need-returns-4
 unfolding wordsOf ascii spaced
 returns-4 c =
     let s = c .before .before .before .before .before .before in
-    told-as {l = line (s .before .before .before .args .k) (wordsOf (TouchingVirtual (s .a4 .given .0 .0) (s .a4 .given .0 .1 .0) (s .a4 .given .0 .1 .1 .0)))} (c .before .before .tell-four2 .ensures) (ap (λ a. line (s .before .before .before .args .k) (wordsOf a)) (sym (s .a4 .given .1)))
+    told-as
+    {l = line (s .before .before .before .args .k)
+    (wordsOf (TouchingVirtual (s .a4 .given .0 .0) (s .a4 .given .0 .1 .0) (s .a4 .given .0 .1 .1 .0)))}
+    (c .before .before .tell-four2 .ensures)
+    (ap (λ a. line (s .before .before .before .args .k) (wordsOf a)) (sym (s .a4 .given .1)))
 
 same-length-5 : tie.Need-same-length-5
 same-length-5 c = search needs
@@ -184,7 +200,11 @@ returns-7 : tie.Need-returns-7
 unfolding wordsOf ascii spaced
 returns-7 c =
     let s = c .before .before .before .before .before .before in
-    told-as {l = line (s .before .before .before .args .k) (wordsOf (VertexShrinkStopPeer (s .a7 .given .0 .0) (s .a7 .given .0 .1 .0) (s .a7 .given .0 .1 .1 .0)))} (c .before .before .tell-three .ensures) (ap (λ a. line (s .before .before .before .args .k) (wordsOf a)) (sym (s .a7 .given .1)))
+    told-as
+    {l = line (s .before .before .before .args .k)
+    (wordsOf (VertexShrinkStopPeer (s .a7 .given .0 .0) (s .a7 .given .0 .1 .0) (s .a7 .given .0 .1 .1 .0)))}
+    (c .before .before .tell-three .ensures)
+    (ap (λ a. line (s .before .before .before .args .k) (wordsOf a)) (sym (s .a7 .given .1)))
 
 same-length-8 : tie.Need-same-length-8
 same-length-8 c = search needs

@@ -1,5 +1,5 @@
 use borrow.Author.Needs.{needs}
-use Rattle.length.specs.Answer.{flag}
+use Rattle.update_length.specs.Answer.{flag}
 use Rattle.records.proofs.told.flag.Statement.{statement}
 use Rattle.records.proofs.told.flag.Tie as tie
 

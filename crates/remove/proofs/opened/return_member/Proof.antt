@@ -16,7 +16,9 @@ same-length : tie.Need-same-length
 same-length c = search needs
 
 returns : tie.Need-returns
-returns c = let s = c .before .before .before .before .before .before in member-returned (s .args .m) (c .before .before .before .before .set-holders .ensures) (c .before .set-parent .ensures)
+returns c =
+    let s = c .before .before .before .before .before .before in
+    member-returned (s .args .m) (c .before .before .before .before .set-holders .ensures) (c .before .set-parent .ensures)
 
 pub return-member-spec : {M : Type 1} → statement M
 return-member-spec =

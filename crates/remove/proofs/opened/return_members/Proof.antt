@@ -18,7 +18,10 @@ loop-holds : tie.Need-loop-holds Inv-loop μ-loop
 loop-holds c = (returned-none _ (c .before .before .pre .0), omega arith)
 
 return-node-requires : tie.Need-return-node-requires Inv-loop μ-loop
-return-node-requires c κs = let q = c .before .before .loop .inv in let s = c .before .before .before .before .before in (q .0 .block .formed, sides-in (q .0 .block) (q .0 .lists) (s .pre .1), omega (arith, q .0 .block .nodes), s .pre .2)
+return-node-requires c κs =
+    let q = c .before .before .loop .inv in
+    let s = c .before .before .before .before .before in
+    (q .0 .block .formed, sides-in (q .0 .block) (q .0 .lists) (s .pre .1), omega (arith, q .0 .block .nodes), s .pre .2)
 
 add-m : tie.Need-add-m Inv-loop μ-loop
 add-m c = search needs

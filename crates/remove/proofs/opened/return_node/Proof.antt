@@ -1,8 +1,7 @@
 use mathlib.Core.Path.{sym, _∙_}
 use borrow.Author.Tests.{eq-eqb, ne-eqb}
-use Rattle.remove.specs.Stops.{isMember}
+use Rattle.remove.specs.inner.Stops.{isMember}
 use Rattle.remove.specs.laws.Opened.{node-returned, node-left}
-use Rattle.graph.specs.Layout.{stateOf}
 use borrow.Author.Needs.{needs}
 use Rattle.remove.proofs.opened.return_node.Statement.{statement}
 use Rattle.remove.proofs.opened.return_node.Tie as tie
@@ -21,14 +20,20 @@ same-length c = search needs
 
 returns : tie.Need-returns
 unfolding isMember
-returns c = let s = c .before .before .before .before .before .before in node-returned (s .args .n) (s .args .m) (eq-eqb _ _ (sym (c .before .before .before .before .parent .ensures .0) ∙ c .before .before .before .if1 .taken)) (c .before .return-member .ensures)
+returns c =
+    let s = c .before .before .before .before .before .before in
+    node-returned (s .args .n) (s .args .m)
+    (eq-eqb _ _ (sym (c .before .before .before .before .parent .ensures .0) ∙ c .before .before .before .if1 .taken))
+    (c .before .return-member .ensures)
 
 same-length-2 : tie.Need-same-length-2
 same-length-2 c = search needs
 
 returns-2 : tie.Need-returns-2
 unfolding isMember
-returns-2 c = let s = c .before .before .before in node-left (s .args .n) (s .args .m) (s .pre .0) (ne-eqb _ _ (λ e. c .if1 .left (c .before .parent .ensures .0 ∙ e)))
+returns-2 c =
+    let s = c .before .before .before in
+    node-left (s .args .n) (s .args .m) (s .pre .0) (ne-eqb _ _ (λ e. c .if1 .left (c .before .parent .ensures .0 ∙ e)))
 
 pub return-node-spec : {M : Type 1} → statement M
 return-node-spec =

@@ -18,7 +18,15 @@ loop-holds : tie.Need-loop-holds Inv-loop μ-loop
 loop-holds c = let s = c .before .before in set-none (s .args .n) (s .args .x) (s .pre .0)
 
 boundary-side-requires : tie.Need-boundary-side-requires Inv-loop μ-loop
-boundary-side-requires c κs = let q = c .before .before .loop .inv in let s = c .before .before .before .before .before in (q .block .formed .laid, q .block .formed .listed, omega (arith, q .block .nodes, s .pre .2), sides-in (q .block) (set-lists q) (s .pre .1) (s .args .n) (omega (arith, q .block .nodes, s .pre .2)), rw (set-list q) (omega arith))
+boundary-side-requires c κs =
+    let q = c .before .before .loop .inv in
+    let s = c .before .before .before .before .before in (
+      q .block .formed .laid,
+      q .block .formed .listed,
+      omega (arith, q .block .nodes, s .pre .2),
+      sides-in (q .block) (set-lists q) (s .pre .1) (s .args .n) (omega (arith, q .block .nodes, s .pre .2)),
+      rw (set-list q) (omega arith),
+    )
 
 set-holder-requires : tie.Need-set-holder-requires Inv-loop μ-loop
 set-holder-requires c κs = search needs
@@ -30,7 +38,10 @@ loop-less : tie.Need-loop-less Inv-loop μ-loop
 loop-less c = search needs
 
 loop-again : tie.Need-loop-again Inv-loop μ-loop
-loop-again c = set-more (c .before .before .before .before .before .before .loop .inv) (c .before .before .before .boundary-side .result) (omega arith) (c .before .before .before .boundary-side .ensures .0) (c .before .set-holder .ensures)
+loop-again c =
+    set-more (c .before .before .before .before .before .before .loop .inv)
+    (c .before .before .before .boundary-side .result) (omega arith) (c .before .before .before .boundary-side .ensures .0)
+    (c .before .set-holder .ensures)
 
 same-length : tie.Need-same-length Inv-loop μ-loop
 same-length c = search needs

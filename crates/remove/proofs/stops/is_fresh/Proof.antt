@@ -1,4 +1,4 @@
-use Rattle.remove.specs.Stops.{freeBy}
+use Rattle.remove.specs.inner.Stops.{freeBy}
 use borrow.Author.Needs.{needs}
 use Rattle.remove.proofs.stops.is_fresh.Statement.{statement}
 use Rattle.remove.proofs.stops.is_fresh.Tie as tie

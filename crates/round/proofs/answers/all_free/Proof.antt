@@ -35,13 +35,23 @@ loop-less : tie.Need-loop-less Inv-loop μ-loop
 loop-less c = search needs
 
 loop-again : tie.Need-loop-again Inv-loop μ-loop
-loop-again c = free-more (stateOf (c .before .before .before .before .before .before .args .b .now)) (stateOf (c .before .before .before .before .before .before .args .b .now) .active) (c .before .before .before .before .loop .i) (c .before .before .before .before .loop .inv) (omega arith) (sym (ap isFree (c .before .before .answer-at .ensures)) ∙ sym (c .before .is-free .ensures) ∙ c .if1 .taken)
+loop-again c =
+    free-more (stateOf (c .before .before .before .before .before .before .args .b .now))
+    (stateOf (c .before .before .before .before .before .before .args .b .now) .active)
+    (c .before .before .before .before .loop .i) (c .before .before .before .before .loop .inv) (omega arith)
+    (sym (ap isFree (c .before .before .answer-at .ensures)) ∙ sym (c .before .is-free .ensures) ∙ c .if1 .taken)
 
 returns : tie.Need-returns Inv-loop μ-loop
-returns c = free-not (stateOf (c .before .before .before .before .before .before .args .b .now)) (stateOf (c .before .before .before .before .before .before .args .b .now) .active) (c .before .before .before .before .loop .i) (c .before .before .before .before .loop .inv) (omega arith) (sym (ap isFree (c .before .before .answer-at .ensures)) ∙ sym (c .before .is-free .ensures) ∙ c .if1 .left)
+returns c =
+    free-not (stateOf (c .before .before .before .before .before .before .args .b .now))
+    (stateOf (c .before .before .before .before .before .before .args .b .now) .active)
+    (c .before .before .before .before .loop .i) (c .before .before .before .before .loop .inv) (omega arith)
+    (sym (ap isFree (c .before .before .answer-at .ensures)) ∙ sym (c .before .is-free .ensures) ∙ c .if1 .left)
 
 returns-2 : tie.Need-returns-2 Inv-loop μ-loop
-returns-2 c = free-all (stateOf (c .before .before .before .args .b .now)) (stateOf (c .before .before .before .args .b .now) .active) (c .before .loop .i) (c .before .loop .inv) (omega arith)
+returns-2 c =
+    free-all (stateOf (c .before .before .before .args .b .now)) (stateOf (c .before .before .before .args .b .now) .active)
+    (c .before .loop .i) (c .before .loop .inv) (omega arith)
 
 pub all-free-spec : {M : Type 1} → statement M
 all-free-spec =

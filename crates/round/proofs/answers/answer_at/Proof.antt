@@ -8,7 +8,9 @@ active-node-requires : tie.Need-active-node-requires
 active-node-requires c κs = search needs
 
 answer-of-requires : tie.Need-answer-of-requires
-answer-of-requires c κs = let s = c .before in (s .pre .0, rw (c .active-node .ensures .0) (member-at (stateOf (s .args .b .now) .active) (s .args .i) 0 (s .pre .1)))
+answer-of-requires c κs =
+    let s = c .before in
+    (s .pre .0, rw (c .active-node .ensures .0) (member-at (stateOf (s .args .b .now) .active) (s .args .i) 0 (s .pre .1)))
 
 returns : tie.Need-returns
 returns c = rw (← c .before .active-node .ensures .0) (c .answer-of .ensures)

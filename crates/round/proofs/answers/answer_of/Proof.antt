@@ -1,4 +1,4 @@
-use Rattle.round.specs.Asked.{answerOf}
+use Rattle.round.specs.inner.Asked.{answerOf}
 use Rattle.graph.specs.laws.Active.{active-below}
 use Rattle.graph.specs.Layout.{stateOf}
 use borrow.Author.Needs.{needs}
@@ -12,7 +12,13 @@ direction-requires : tie.Need-direction-requires
 direction-requires c κs = search needs
 
 scan-requires : tie.Need-scan-requires
-scan-requires c κs = let s = c .before .before in (s .pre .0 .formed, s .pre .0 .readable, active-below (stateOf (s .args .b .now)) (s .pre .0 .active) (s .args .n) (s .pre .1), s .pre .0 .sides (s .args .n) (s .pre .1))
+scan-requires c κs =
+    let s = c .before .before in (
+      s .pre .0 .formed,
+      s .pre .0 .readable,
+      active-below (stateOf (s .args .b .now)) (s .pre .0 .active) (s .args .n) (s .pre .1),
+      s .pre .0 .sides (s .args .n) (s .pre .1),
+    )
 
 returns : tie.Need-returns
 unfolding answerOf

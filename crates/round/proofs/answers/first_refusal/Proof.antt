@@ -28,7 +28,11 @@ refusal-of-requires : tie.Need-refusal-of-requires Inv-loop μ-loop
 refusal-of-requires c κs = search needs
 
 returns : tie.Need-returns Inv-loop μ-loop
-returns c = refusal-here (stateOf (c .before .before .before .before .before .before .args .b .now)) (stateOf (c .before .before .before .before .before .before .args .b .now) .active) (c .before .before .before .before .loop .i) (c .before .before .before .before .loop .inv) (omega arith) _ (c .before .refusal-of .ensures ∙ ap refusalOf (c .before .before .answer-at .ensures)) (c .if1 .taken)
+returns c =
+    refusal-here (stateOf (c .before .before .before .before .before .before .args .b .now))
+    (stateOf (c .before .before .before .before .before .before .args .b .now) .active)
+    (c .before .before .before .before .loop .i) (c .before .before .before .before .loop .inv) (omega arith) _
+    (c .before .refusal-of .ensures ∙ ap refusalOf (c .before .before .answer-at .ensures)) (c .if1 .taken)
 
 add-i : tie.Need-add-i Inv-loop μ-loop
 add-i c = search needs
@@ -37,10 +41,17 @@ loop-less : tie.Need-loop-less Inv-loop μ-loop
 loop-less c = search needs
 
 loop-again : tie.Need-loop-again Inv-loop μ-loop
-loop-again c = refusal-more (stateOf (c .before .before .before .before .before .before .args .b .now)) (stateOf (c .before .before .before .before .before .before .args .b .now) .active) (c .before .before .before .before .loop .i) (c .before .before .before .before .loop .inv) (omega arith) (c .before .refusal-of .result) (c .before .refusal-of .ensures ∙ ap refusalOf (c .before .before .answer-at .ensures)) (c .if1 .left)
+loop-again c =
+    refusal-more (stateOf (c .before .before .before .before .before .before .args .b .now))
+    (stateOf (c .before .before .before .before .before .before .args .b .now) .active)
+    (c .before .before .before .before .loop .i) (c .before .before .before .before .loop .inv) (omega arith)
+    (c .before .refusal-of .result) (c .before .refusal-of .ensures ∙ ap refusalOf (c .before .before .answer-at .ensures))
+    (c .if1 .left)
 
 returns-2 : tie.Need-returns-2 Inv-loop μ-loop
-returns-2 c = refusal-none (stateOf (c .before .before .before .args .b .now)) (stateOf (c .before .before .before .args .b .now) .active) (c .before .loop .i) (c .before .loop .inv) (omega arith)
+returns-2 c =
+    refusal-none (stateOf (c .before .before .before .args .b .now))
+    (stateOf (c .before .before .before .args .b .now) .active) (c .before .loop .i) (c .before .loop .inv) (omega arith)
 
 pub first-refusal-spec : {M : Type 1} → statement M
 first-refusal-spec =

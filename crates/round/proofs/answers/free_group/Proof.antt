@@ -13,7 +13,9 @@ use Rattle.round.proofs.answers.free_group.Statement.{statement}
 use Rattle.round.proofs.answers.free_group.Tie as tie
 
 abbrev Inv-loop : tie.InvT-loop
-Inv-loop b k g₀ i₀ g i = fold joinFree g (answersOf (stateOf b) (drop i (stateOf b .active))) ≡ fold joinFree (groupUnlimited false) (answersOf (stateOf b) (stateOf b .active))
+Inv-loop b k g₀ i₀ g i =
+    fold joinFree g (answersOf (stateOf b) (drop i (stateOf b .active)))
+    ≡ fold joinFree (groupUnlimited false) (answersOf (stateOf b) (stateOf b .active))
 
 abbrev μ-loop : tie.MeasureT-loop
 μ-loop b k g₀ i₀ g i = k - i
@@ -37,10 +39,17 @@ loop-less : tie.Need-loop-less Inv-loop μ-loop
 loop-less c = search needs
 
 loop-again : tie.Need-loop-again Inv-loop μ-loop
-loop-again c = rw (c .join-free .ensures, c .before .answer-at .ensures) (group-more (stateOf (c .before .before .before .before .before .args .b .now)) (stateOf (c .before .before .before .before .before .args .b .now) .active) (c .before .before .before .loop .i) (c .before .before .before .loop .g) (groupUnlimited false) (c .before .before .before .loop .inv) (omega arith))
+loop-again c =
+    rw (c .join-free .ensures, c .before .answer-at .ensures)
+    (group-more (stateOf (c .before .before .before .before .before .args .b .now))
+    (stateOf (c .before .before .before .before .before .args .b .now) .active) (c .before .before .before .loop .i)
+    (c .before .before .before .loop .g) (groupUnlimited false) (c .before .before .before .loop .inv) (omega arith))
 
 returns : tie.Need-returns Inv-loop μ-loop
-returns c = group-all (stateOf (c .before .before .before .args .b .now)) (stateOf (c .before .before .before .args .b .now) .active) (c .before .loop .i) (c .before .loop .g) (groupUnlimited false) (c .before .loop .inv) (omega arith)
+returns c =
+    group-all (stateOf (c .before .before .before .args .b .now))
+    (stateOf (c .before .before .before .args .b .now) .active) (c .before .loop .i) (c .before .loop .g)
+    (groupUnlimited false) (c .before .loop .inv) (omega arith)
 
 pub free-group-spec : {M : Type 1} → statement M
 free-group-spec =

@@ -49,7 +49,12 @@ enum-told-10 c = search needs
 
 returns : tie.Need-returns
 unfolding joinFree
-returns c = (rw (toZ-ofZ (sfits-of ((rw (c .before .before .a .given .1) at (c .before .before .before .before .good .1 .0)) .1 .1 .1 .1 .0 .1))) at (c .join-length .ensures)) ∙ ap (joinFree (c .before .before .before .before .args .g)) (sym (c .before .before .a .given .1))
+returns c =
+    (rw
+    (toZ-ofZ
+    (sfits-of ((rw (c .before .before .a .given .1) at (c .before .before .before .before .good .1 .0)) .1 .1 .1 .1 .0 .1)))
+    at (c .join-length .ensures))
+    ∙ ap (joinFree (c .before .before .before .before .args .g)) (sym (c .before .before .a .given .1))
 
 returns-2 : tie.Need-returns-2
 unfolding joinFree

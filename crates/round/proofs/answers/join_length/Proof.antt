@@ -22,11 +22,23 @@ enum-known-g-4 c = search needs
 
 returns : tie.Need-returns
 unfolding joinLength
-returns c = rw (toZ-ofZ (sfits-of (c .lesser .ok)), c .lesser .ensures, toZ-ofZ (sfits-of ((rw (c .before .before .g .given .1) at (c .before .before .before .before .good .0)) .1 .1 .1 .1 .0 .1)), toZ-ofZ (c .before .before .before .before .fits .k)) (ap (λ g. joinLength g (c .before .before .before .before .args .k) (c .before .before .before .before .args .f)) (sym (c .before .before .g .given .1)))
+returns c =
+    rw (
+      toZ-ofZ (sfits-of (c .lesser .ok)),
+      c .lesser .ensures,
+      toZ-ofZ
+          (sfits-of ((rw (c .before .before .g .given .1) at (c .before .before .before .before .good .0)) .1 .1 .1 .1 .0 .1)),
+      toZ-ofZ (c .before .before .before .before .fits .k),
+    )
+    (ap (λ g. joinLength g (c .before .before .before .before .args .k) (c .before .before .before .before .args .f))
+    (sym (c .before .before .g .given .1)))
 
 returns-2 : tie.Need-returns-2
 unfolding joinLength
-returns-2 c = rw (toZ-ofZ (c .before .before .before .fits .k)) (ap (λ g. joinLength g (c .before .before .before .args .k) (c .before .before .before .args .f)) (sym (c .before .g2 .given .1)))
+returns-2 c =
+    rw (toZ-ofZ (c .before .before .before .fits .k))
+    (ap (λ g. joinLength g (c .before .before .before .args .k) (c .before .before .before .args .f))
+    (sym (c .before .g2 .given .1)))
 
 returns-3 : tie.Need-returns-3
 unfolding joinLength

@@ -19,7 +19,9 @@ enum-known-g-4 c = search needs
 
 returns : tie.Need-returns
 unfolding joinUnlimited
-returns c = rw (toZ-ofZ (sfits-of ((rw (c .before .g .given .1) at (c .before .before .before .good .0)) .1 .1 .1 .1 .0 .1))) (ap (λ g. joinUnlimited g (c .before .before .before .args .f)) (sym (c .before .g .given .1)))
+returns c =
+    rw (toZ-ofZ (sfits-of ((rw (c .before .g .given .1) at (c .before .before .before .good .0)) .1 .1 .1 .1 .0 .1)))
+    (ap (λ g. joinUnlimited g (c .before .before .before .args .f)) (sym (c .before .g .given .1)))
 
 returns-2 : tie.Need-returns-2
 unfolding joinUnlimited

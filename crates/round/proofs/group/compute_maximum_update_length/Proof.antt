@@ -19,7 +19,10 @@ returns : tie.Need-returns
 returns c = let p = c .before .before .before .in-turn .ensures in (group-stopped _ _ _ (p .0) _ (c .if1 .taken), p .1)
 
 first-refusal-requires : tie.Need-first-refusal-requires
-first-refusal-requires c κs = let p = c .before .before .before .before .in-turn .ensures in prepared-askable _ _ _ (c .before .before .before .before .before .before .before .before .pre .0) (prepared-to _ _ _ (p .0) .block) (prepared-ok _ _ _ (p .0) (c .before .if1 .left))
+first-refusal-requires c κs =
+    let p = c .before .before .before .before .in-turn .ensures in
+    prepared-askable _ _ _ (c .before .before .before .before .before .before .before .before .pre .0)
+    (prepared-to _ _ _ (p .0) .block) (prepared-ok _ _ _ (p .0) (c .before .if1 .left))
 
 same-length-3 : tie.Need-same-length-3
 same-length-3 c = search needs
@@ -28,10 +31,21 @@ same-length-4 : tie.Need-same-length-4
 same-length-4 c = search needs
 
 returns-2 : tie.Need-returns-2
-returns-2 c = let p = c .before .before .before .before .before .before .in-turn .ensures in (group-refused _ _ _ (p .0) (c .before .before .before .if1 .left) _ (c .before .first-refusal .ensures) _ (c .if2 .taken), p .1)
+returns-2 c =
+    let p = c .before .before .before .before .before .before .in-turn .ensures in (
+      group-refused _ _ _ (p .0) (c .before .before .before .if1 .left) _ (c .before .first-refusal .ensures) _
+          (c .if2 .taken),
+      p .1,
+    )
 
 ask-requires : tie.Need-ask-requires
-ask-requires c κs = let p = c .before .before .before .before .before .before .before .before .in-turn .ensures in let s = c .before .before .before .before .before .before .before .before .before .before .before .before in (prepared-askable _ _ _ (s .pre .0) (prepared-to _ _ _ (p .0) .block) (prepared-ok _ _ _ (p .0) (c .before .before .before .before .before .if1 .left)), s .pre .1 ∙ ap (λ n. 5 * n) (sym (same-limit _ _ _ (p .0))))
+ask-requires c κs =
+    let p = c .before .before .before .before .before .before .before .before .in-turn .ensures in
+    let s = c .before .before .before .before .before .before .before .before .before .before .before .before in (
+      prepared-askable _ _ _ (s .pre .0) (prepared-to _ _ _ (p .0) .block)
+          (prepared-ok _ _ _ (p .0) (c .before .before .before .before .before .if1 .left)),
+      s .pre .1 ∙ ap (λ n. 5 * n) (sym (same-limit _ _ _ (p .0))),
+    )
 
 same-length-5 : tie.Need-same-length-5
 same-length-5 c = search needs
@@ -43,7 +57,13 @@ same-length-7 : tie.Need-same-length-7
 same-length-7 c = search needs
 
 returns-3 : tie.Need-returns-3
-returns-3 c = let p = c .before .before .before .before .before .before .before .before .before .before .before .in-turn .ensures in (group-asked _ _ _ (p .0) (c .before .before .before .before .before .before .before .before .if1 .left) _ (c .before .before .before .before .before .before .first-refusal .ensures) _ (c .before .before .before .before .before .if2 .left) (c .before .before .ask .ensures), p .1)
+returns-3 c =
+    let p = c .before .before .before .before .before .before .before .before .before .before .before .in-turn .ensures in (
+      group-asked _ _ _ (p .0) (c .before .before .before .before .before .before .before .before .if1 .left) _
+          (c .before .before .before .before .before .before .first-refusal .ensures) _
+          (c .before .before .before .before .before .if2 .left) (c .before .before .ask .ensures),
+      p .1,
+    )
 
 pub compute-maximum-update-length-spec : {M : Type 1} → statement M
 compute-maximum-update-length-spec =

@@ -6,7 +6,7 @@ use lib.ListN.{take}
 use Rattle.graph.specs.Basic.{all}
 use Rattle.graph.specs.Opening.{edgeAt, edgesFrom}
 use Rattle.graph.specs.laws.Scan.{list-more, list-fails, list-done}
-use Rattle.memory.specs.laws.Open.{edges-count, edges-get}
+use Rattle.open_graph.specs.laws.Open.{edges-count, edges-get}
 use Rattle.sheet.specs.Called.{endsOk}
 use borrow.Author.Needs.{needs}
 use Rattle.sheet.proofs.open.ends_ok.Statement.{statement}

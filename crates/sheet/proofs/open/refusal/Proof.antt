@@ -9,7 +9,7 @@ use Rattle.graph.specs.Basic.{all}
 use Rattle.graph.specs.Open.{sizesOk}
 use Rattle.graph.specs.Opening.{edgesIn, edgesFrom, virtualsFrom, fits}
 use Rattle.graph.specs.laws.Size.{sizes-in}
-use Rattle.memory.specs.laws.Open.{first-passed}
+use Rattle.open_graph.specs.laws.Open.{first-passed}
 use Rattle.sheet.specs.Called.{endsOk, sheetRefusal}
 use borrow.Author.Needs.{needs}
 use Rattle.sheet.proofs.open.refusal.Statement.{statement}

@@ -16,7 +16,13 @@ same-length : tie.Need-same-length
 same-length c = search needs
 
 returns : tie.Need-returns
-returns c = rw (c .before .wipe2 .ensures, c .before .before .before .before .wipe .ensures, c .before .before .before .before .before .before .before .unmark .ensures) (cleared-scratch (c .before .before .before .before .before .before .before .before .before .pre .0))
+returns c =
+    rw (
+      c .before .wipe2 .ensures,
+      c .before .before .before .before .wipe .ensures,
+      c .before .before .before .before .before .before .before .unmark .ensures,
+    )
+    (cleared-scratch (c .before .before .before .before .before .before .before .before .before .pre .0))
 
 pub clear-spec : {M : Type 1} → statement M
 clear-spec = tie.close (tie.spec unmark-requires wipe-requires wipe-requires-2 same-length returns)

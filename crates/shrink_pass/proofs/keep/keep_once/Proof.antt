@@ -33,7 +33,11 @@ same-length : tie.Need-same-length
 same-length c = search needs
 
 returns : tie.Need-returns
-returns c = λ b q. rw (c .before .before .put2 .ensures, c .before .before .before .before .before .put .ensures) (does-keep-new q _ (omega arith) (sym (c .before .before .before .before .before .before .before .before .word .ensures .0) ∙ c .before .before .before .before .before .before .before .if1 .taken))
+returns c =
+    λ b q. rw (c .before .before .put2 .ensures, c .before .before .before .before .before .put .ensures)
+    (does-keep-new q _ (omega arith)
+    (sym (c .before .before .before .before .before .before .before .before .word .ensures .0)
+    ∙ c .before .before .before .before .before .before .before .if1 .taken))
 
 same-length-2 : tie.Need-same-length-2
 same-length-2 c = search needs

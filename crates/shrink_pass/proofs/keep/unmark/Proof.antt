@@ -3,7 +3,7 @@ use native.Mathlib.Omega.{arith}
 use Prim.Native.Nat.{_-_, _*_, _<_, _≤_}
 use mathlib.Core.Path.{_≡_}
 use lib.ListN.{length}
-use Rattle.shrink_pass.specs.Shrinking.{unmarked}
+use Rattle.shrink_pass.specs.inner.Shrinking.{unmarked}
 use Rattle.shrink_pass.specs.laws.Finish.{unmark-none, unmark-word, unmark-more}
 use Rattle.shrink_pass.proofs.keep.unmark.Statement.{statement}
 use Rattle.shrink_pass.proofs.keep.unmark.Tie as tie
@@ -27,7 +27,17 @@ add-put : tie.Need-add-put Inv-loop μ-loop
 add-put c = search needs
 
 put-requires : tie.Need-put-requires Inv-loop μ-loop
-put-requires c κs = let z : c .before .word .result < c .before .before .before .before .before .args .m = rw (c .before .word .ensures .0, c .before .before .before .before .loop .inv .0, unmark-word (c .before .before .before .before .before .args .t .now) (c .before .before .before .before .before .args .m) (c .before .before .before .before .loop .i) (c .before .before .before .before .loop .i) (omega arith)) (c .before .before .before .before .before .pre .3 (c .before .before .before .before .loop .i) (omega arith)) in (omega arith, omega arith)
+put-requires c κs =
+    let z : c .before .word .result < c .before .before .before .before .before .args .m =
+    rw (
+      c .before .word .ensures .0,
+      c .before .before .before .before .loop .inv .0,
+      unmark-word (c .before .before .before .before .before .args .t .now)
+          (c .before .before .before .before .before .args .m) (c .before .before .before .before .loop .i)
+          (c .before .before .before .before .loop .i) (omega arith),
+    )
+    (c .before .before .before .before .before .pre .3 (c .before .before .before .before .loop .i) (omega arith)) in
+    (omega arith, omega arith)
 
 add-i : tie.Need-add-i Inv-loop μ-loop
 add-i c = search needs
@@ -36,7 +46,18 @@ loop-less : tie.Need-loop-less Inv-loop μ-loop
 loop-less c = search needs
 
 loop-again : tie.Need-loop-again Inv-loop μ-loop
-loop-again c = (rw (c .before .put .ensures, c .before .before .before .word .ensures .0, c .before .before .before .before .before .before .loop .inv .0) (unmark-more (c .before .before .before .before .before .before .before .args .t .now) (c .before .before .before .before .before .before .before .args .m) (c .before .before .before .before .before .before .loop .i) (omega arith)), omega arith, omega arith)
+loop-again c = (
+  rw (
+    c .before .put .ensures,
+    c .before .before .before .word .ensures .0,
+    c .before .before .before .before .before .before .loop .inv .0,
+  )
+      (unmark-more (c .before .before .before .before .before .before .before .args .t .now)
+      (c .before .before .before .before .before .before .before .args .m)
+      (c .before .before .before .before .before .before .loop .i) (omega arith)),
+  omega arith,
+  omega arith,
+)
 
 same-length : tie.Need-same-length Inv-loop μ-loop
 same-length c = search needs

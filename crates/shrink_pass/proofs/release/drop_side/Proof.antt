@@ -16,7 +16,14 @@ free-requires : tie.Need-free-requires
 free-requires c κs = search needs
 
 keep-once-requires : tie.Need-keep-once-requires
-keep-once-requires c κs = let q = c .before .before .before .before .before .before .before .pre .0 in (across-below q _ _ (c .before .before .before .before .before .before .before .pre .1) (c .before .before .before .before .before .before .opposite .ensures .1), omega arith, q .room, q .size)
+keep-once-requires c κs =
+    let q = c .before .before .before .before .before .before .before .pre .0 in (
+      across-below q _ _ (c .before .before .before .before .before .before .before .pre .1)
+          (c .before .before .before .before .before .before .opposite .ensures .1),
+      omega arith,
+      q .room,
+      q .size,
+    )
 
 same-length : tie.Need-same-length
 same-length c = search needs
@@ -25,7 +32,12 @@ same-length-2 : tie.Need-same-length-2
 same-length-2 c = search needs
 
 returns : tie.Need-returns
-returns c = does-drop-side (c .before .before .before .before .before .before .before .before .before .before .pre .0) _ _ (c .before .before .before .before .before .free .ensures) (ap (λ x. eqb x 0) (c .before .before .before .before .before .before .before .weight .ensures .0)) (λ k. rw (c .before .before .before .before .before .before .before .before .before .opposite .ensures .0) at (c .before .before .keep-once .ensures _ k))
+returns c =
+    does-drop-side (c .before .before .before .before .before .before .before .before .before .before .pre .0) _ _
+    (c .before .before .before .before .before .free .ensures)
+    (ap (λ x. eqb x 0) (c .before .before .before .before .before .before .before .weight .ensures .0))
+    (λ k. rw (c .before .before .before .before .before .before .before .before .before .opposite .ensures .0)
+    at (c .before .before .keep-once .ensures _ k))
 
 pub drop-side-spec : {M : Type 1} → statement M
 drop-side-spec =

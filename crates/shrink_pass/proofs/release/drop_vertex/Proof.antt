@@ -20,7 +20,11 @@ same-length-2 : tie.Need-same-length-2
 same-length-2 c = search needs
 
 returns : tie.Need-returns
-returns c = does-drop _ _ (sym (c .before .before .before .before .before .before .holder .ensures .0) ∙ c .before .before .before .before .before .if1 .taken) (c .before .before .part-vertex .ensures)
+returns c =
+    does-drop _ _
+    (sym (c .before .before .before .before .before .before .holder .ensures .0)
+    ∙ c .before .before .before .before .before .if1 .taken)
+    (c .before .before .part-vertex .ensures)
 
 same-length-3 : tie.Need-same-length-3
 same-length-3 c = search needs

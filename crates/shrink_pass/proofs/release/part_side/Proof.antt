@@ -19,13 +19,19 @@ same-length-2 : tie.Need-same-length-2
 same-length-2 c = search needs
 
 returns : tie.Need-returns
-returns c = does-part-drop _ _ _ (rw (c .before .before .before .before .before .before .closed .ensures) at (c .before .before .before .before .before .if1 .taken)) (c .before .before .drop-side .ensures)
+returns c =
+    does-part-drop _ _ _
+    (rw (c .before .before .before .before .before .before .closed .ensures)
+    at (c .before .before .before .before .before .if1 .taken))
+    (c .before .before .drop-side .ensures)
 
 same-length-3 : tie.Need-same-length-3
 same-length-3 c = search needs
 
 returns-2 : tie.Need-returns-2
-returns-2 c = does-part-free _ _ _ (rw (c .before .before .before .before .closed .ensures) at (c .before .before .before .if1 .left)) (does-free-side (c .before .before .before .before .before .before .pre .0) _ (c .before .free .ensures))
+returns-2 c =
+    does-part-free _ _ _ (rw (c .before .before .before .before .closed .ensures) at (c .before .before .before .if1 .left))
+    (does-free-side (c .before .before .before .before .before .before .pre .0) _ (c .before .free .ensures))
 
 pub part-side-spec : {M : Type 1} → statement M
 part-side-spec =

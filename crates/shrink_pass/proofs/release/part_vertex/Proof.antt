@@ -8,7 +8,10 @@ free-requires : tie.Need-free-requires
 free-requires c κs = search needs
 
 part-sides-requires : tie.Need-part-sides-requires
-part-sides-requires c κs = let q = does-free-vertex (c .before .before .before .before .before .pre .0) _ (c .before .before .before .free .ensures) in (q .busy, omega arith, omega arith)
+part-sides-requires c κs =
+    let q =
+    does-free-vertex (c .before .before .before .before .before .pre .0) _ (c .before .before .before .free .ensures) in
+    (q .working, omega arith, omega arith)
 
 same-length : tie.Need-same-length
 same-length c = search needs
@@ -17,7 +20,9 @@ same-length-2 : tie.Need-same-length-2
 same-length-2 c = search needs
 
 returns : tie.Need-returns
-returns c = does-part-vertex (c .before .before .before .before .before .before .before .before .pre .0) _ _ _ (c .before .before .before .before .before .before .free .ensures) (λ k. c .before .before .part-sides .ensures)
+returns c =
+    does-part-vertex (c .before .before .before .before .before .before .before .before .pre .0) _ _ _
+    (c .before .before .before .before .before .before .free .ensures) (λ k. c .before .before .part-sides .ensures)
 
 pub part-vertex-spec : {M : Type 1} → statement M
 part-vertex-spec =

@@ -23,7 +23,11 @@ same-length-3 : tie.Need-same-length-3
 same-length-3 c = search needs
 
 returns-2 : tie.Need-returns-2
-returns-2 c = does-release _ _ (λ z. c .before .before .before .before .before .if1 .left (c .before .before .before .before .before .before .holder .ensures .0 ∙ z)) (c .before .before .part-vertex .ensures)
+returns-2 c =
+    does-release _ _
+    (λ z. c .before .before .before .before .before .if1 .left
+    (c .before .before .before .before .before .before .holder .ensures .0 ∙ z))
+    (c .before .before .part-vertex .ensures)
 
 pub release-vertex-spec : {M : Type 1} → statement M
 release-vertex-spec =

@@ -6,13 +6,13 @@ use lib.ListN.{drop}
 use Rattle.graph.specs.Basic.{any}
 use Rattle.graph.specs.State.{boundaryOf}
 use Rattle.graph.specs.Layout.{stateOf}
-use Rattle.shrink_pass.specs.Shrinking.{emptied}
+use Rattle.shrink_pass.specs.inner.Shrinking.{vertexLeft}
 use Rattle.graph.specs.laws.Members.{any-here, any-on, any-end}
 use Rattle.shrink_pass.proofs.shrink.any_emptied.Statement.{statement}
 use Rattle.shrink_pass.proofs.shrink.any_emptied.Tie as tie
 
 abbrev Inv-loop : tie.InvT-loop
-Inv-loop b n l i₀ i = (i ≤ l) × (any (emptied (stateOf b)) (drop i (boundaryOf (stateOf b) n)) ≡ any (emptied (stateOf b)) (boundaryOf (stateOf b) n))
+Inv-loop b n l i₀ i = (i ≤ l) × (any (vertexLeft (stateOf b)) (drop i (boundaryOf (stateOf b) n)) ≡ any (vertexLeft (stateOf b)) (boundaryOf (stateOf b) n))
 
 abbrev μ-loop : tie.MeasureT-loop
 μ-loop b n l i₀ i = l - i
@@ -32,7 +32,9 @@ emptied-requires c κs = search needs
 returns : tie.Need-returns Inv-loop μ-loop
 returns c = let d = c .before .before .before .before .loop in
     let a = c .before .before .before .before .before .before .args in
-    any-here (emptied (stateOf (a .b .now))) (boundaryOf (stateOf (a .b .now)) (a .n)) (d .i) (d .inv .1) (omega arith) (rw (c .before .before .boundary-side .ensures .0) at (sym (c .before .emptied .ensures) ∙ c .if1 .taken))
+    any-here (vertexLeft (stateOf (a .b .now))) (boundaryOf (stateOf (a .b .now)) (a .n)) (d .i) (d .inv .1)
+    (omega arith)
+    (rw (c .before .before .boundary-side .ensures .0) at (sym (c .before .emptied .ensures) ∙ c .if1 .taken))
 
 add-i : tie.Need-add-i Inv-loop μ-loop
 add-i c = search needs
@@ -42,13 +44,16 @@ loop-less c = search needs
 
 loop-again : tie.Need-loop-again Inv-loop μ-loop
 loop-again c = let d = c .before .before .before .before .loop in
-    let a = c .before .before .before .before .before .before .args in
-    (omega arith, any-on (emptied (stateOf (a .b .now))) (boundaryOf (stateOf (a .b .now)) (a .n)) (d .i) (d .inv .1) (omega arith) (rw (c .before .before .boundary-side .ensures .0) at (sym (c .before .emptied .ensures) ∙ c .if1 .left)))
+    let a = c .before .before .before .before .before .before .args in (
+      omega arith,
+      any-on (vertexLeft (stateOf (a .b .now))) (boundaryOf (stateOf (a .b .now)) (a .n)) (d .i) (d .inv .1) (omega arith)
+          (rw (c .before .before .boundary-side .ensures .0) at (sym (c .before .emptied .ensures) ∙ c .if1 .left)),
+    )
 
 returns-2 : tie.Need-returns-2 Inv-loop μ-loop
 returns-2 c = let d = c .before .loop in
     let a = c .before .before .before .args in
-    any-end (emptied (stateOf (a .b .now))) (boundaryOf (stateOf (a .b .now)) (a .n)) (d .i) (d .inv .1) (omega arith)
+    any-end (vertexLeft (stateOf (a .b .now))) (boundaryOf (stateOf (a .b .now)) (a .n)) (d .i) (d .inv .1) (omega arith)
 
 pub any-emptied-spec : {M : Type 1} → statement M
 any-emptied-spec =

@@ -1,4 +1,4 @@
-use Rattle.shrink_pass.specs.Shrinking.{emptied}
+use Rattle.shrink_pass.specs.inner.Shrinking.{vertexLeft}
 use borrow.Author.Needs.{needs}
 use Rattle.shrink_pass.proofs.shrink.emptied.Statement.{statement}
 use Rattle.shrink_pass.proofs.shrink.emptied.Tie as tie
@@ -13,7 +13,7 @@ defect-flag-requires : tie.Need-defect-flag-requires
 defect-flag-requires c κs = search needs
 
 returns : tie.Need-returns
-unfolding emptied
+unfolding vertexLeft
 returns c = cc
 
 pub emptied-spec : {M : Type 1} → statement M

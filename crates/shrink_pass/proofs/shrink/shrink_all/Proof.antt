@@ -14,10 +14,27 @@ overgrown-len-requires : tie.Need-overgrown-len-requires
 overgrown-len-requires c κs = let f = c .before .before .before .shrink-work .ensures .0 .formed in (f .laid, f .listed, omega arith)
 
 sub-replace-lists : tie.Need-sub-replace-lists
-sub-replace-lists c = let s = c .before .before .before .before .before .before .before .before .before .before .before .pre in rw (c .before .before .overgrown-len .ensures .0) (tops-fit (s .0) (s .1) (c .before .before .before .before .before .before .before .before .before .side-count .ensures .0) (s .2) (c .before .before .before .before .before .before .shrink-work .ensures .1))
+sub-replace-lists c =
+    let s = c .before .before .before .before .before .before .before .before .before .before .before .pre in
+    rw (c .before .before .overgrown-len .ensures .0)
+    (tops-fit (s .0) (s .1)
+    (c .before .before .before .before .before .before .before .before .before .side-count .ensures .0) (s .2)
+    (c .before .before .before .before .before .before .shrink-work .ensures .1))
 
 replace-lists-requires : tie.Need-replace-lists-requires
-replace-lists-requires c κs = let s = c .before .before .before .before .before .before .before .before .before .before .before .pre in let w = c .before .before .before .before .before .before .shrink-work .ensures in let q = w .1 in (w .0 .formed, omega arith, omega (arith, q .kept, q .scratch .keeps, q .scratch .size), omega arith, omega arith, lists-fit (s .0) (s .1) (c .before .before .before .before .before .before .before .before .before .side-count .ensures .0) (s .2) q (c .before .before .overgrown-len .result) (c .before .before .overgrown-len .ensures .0))
+replace-lists-requires c κs =
+    let s = c .before .before .before .before .before .before .before .before .before .before .before .pre in
+    let w = c .before .before .before .before .before .before .shrink-work .ensures in
+    let q = w .1 in (
+      w .0 .formed,
+      omega arith,
+      omega (arith, q .kept, q .scratch .keeps, q .scratch .size),
+      omega arith,
+      omega arith,
+      lists-fit (s .0) (s .1)
+          (c .before .before .before .before .before .before .before .before .before .side-count .ensures .0) (s .2) q
+          (c .before .before .overgrown-len .result) (c .before .before .overgrown-len .ensures .0),
+    )
 
 clear-requires : tie.Need-clear-requires
 clear-requires c κs = (marked-of (c .before .before .before .before .before .before .before .before .before .shrink-work .ensures .1), omega arith)
@@ -29,7 +46,16 @@ same-length-2 : tie.Need-same-length-2
 same-length-2 c = search needs
 
 returns : tie.Need-returns
-returns c = let s = c .before .before .before .before .before .before .before .before .before .before .before .before .before .before .before .before .pre in let w = c .before .before .before .before .before .before .before .before .before .before .before .shrink-work .ensures in after-shrink (s .0) (s .1) (c .before .before .before .before .before .before .before .before .before .before .before .before .before .before .side-count .ensures .0) (s .2) (w .1) (c .before .before .before .before .before .before .before .overgrown-len .result) (c .before .before .before .before .before .before .before .overgrown-len .ensures .0) (w .0) (c .before .before .before .before .replace-lists .ensures) (c .before .clear .ensures)
+returns c =
+    let s =
+    c .before .before .before .before .before .before .before .before .before .before .before .before .before .before .before .before .pre in
+    let w =
+    c .before .before .before .before .before .before .before .before .before .before .before .shrink-work .ensures in
+    after-shrink (s .0) (s .1)
+    (c .before .before .before .before .before .before .before .before .before .before .before .before .before .before .side-count .ensures .0)
+    (s .2) (w .1) (c .before .before .before .before .before .before .before .overgrown-len .result)
+    (c .before .before .before .before .before .before .before .overgrown-len .ensures .0) (w .0)
+    (c .before .before .before .before .replace-lists .ensures) (c .before .clear .ensures)
 
 pub shrink-all-spec : {M : Type 1} → statement M
 shrink-all-spec =

@@ -26,7 +26,11 @@ same-length-3 : tie.Need-same-length-3
 same-length-3 c = search needs
 
 returns-2 : tie.Need-returns-2
-returns-2 c = let s = c .before .before .before .before .before .pre in let i = idle-test (c .before .before .before .empty-tops .result) (c .before .any-emptied .result) (c .if1 .left) in after-idle _ _ _ (s .0 .formed) (s .1) (sym (c .before .before .before .empty-tops .ensures) ∙ i .0) (sym (c .before .any-emptied .ensures) ∙ i .1)
+returns-2 c =
+    let s = c .before .before .before .before .before .pre in
+    let i = idle-test (c .before .before .before .empty-tops .result) (c .before .any-emptied .result) (c .if1 .left) in
+    after-idle _ _ _ (s .0 .formed) (s .1) (sym (c .before .before .before .empty-tops .ensures) ∙ i .0)
+    (sym (c .before .any-emptied .ensures) ∙ i .1)
 
 pub shrink-pass-spec : {M : Type 1} → statement M
 shrink-pass-spec =

@@ -20,13 +20,21 @@ same-length : tie.Need-same-length
 same-length c = search needs
 
 returns : tie.Need-returns
-returns c = does-scan-note _ (sym (c .before .before .before .before .before .emptied .ensures) ∙ c .before .before .before .before .if1 .taken) (rw (c .before .before .before .end .ensures .0) at (c .before .note .ensures _ (c .before .before .before .end .ensures .1) (c .before .before .before .before .before .before .pre .0)))
+returns c =
+    does-scan-note _
+    (sym (c .before .before .before .before .before .emptied .ensures) ∙ c .before .before .before .before .if1 .taken)
+    (rw (c .before .before .before .end .ensures .0)
+    at
+    (c .before .note .ensures _ (c .before .before .before .end .ensures .1)
+    (c .before .before .before .before .before .before .pre .0)))
 
 same-length-2 : tie.Need-same-length-2
 same-length-2 c = search needs
 
 returns-2 : tie.Need-returns-2
-returns-2 c = does-scan-keep _ (sym (c .before .before .before .before .emptied .ensures) ∙ c .before .before .before .if1 .left) (c .before .keep-once .ensures _ (c .before .before .before .before .before .pre .0))
+returns-2 c =
+    does-scan-keep _ (sym (c .before .before .before .before .emptied .ensures) ∙ c .before .before .before .if1 .left)
+    (c .before .keep-once .ensures _ (c .before .before .before .before .before .pre .0))
 
 pub shrink-side-spec : {M : Type 1} → statement M
 shrink-side-spec =

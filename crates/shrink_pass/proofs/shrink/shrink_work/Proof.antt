@@ -9,10 +9,17 @@ drop-tops-requires : tie.Need-drop-tops-requires
 drop-tops-requires c κs = let s = c .before .before .pre in (start-busy _ _ _ _ (s .0) (s .2), s .0 .node, s .1, s .3)
 
 shrink-scan-requires : tie.Need-shrink-scan-requires
-shrink-scan-requires c κs = let d = c .before .before .before .before .drop-tops .ensures in (d .busy, omega arith, shrinkable-kept _ (d .keeps) (c .before .before .before .before .before .before .before .pre .1), none-noted _ (c .before .before .before .before .before .before .before .pre .0) (c .before .before .before .before .before .before .before .pre .2) d)
+shrink-scan-requires c κs =
+    let d = c .before .before .before .before .drop-tops .ensures in (
+      d .working,
+      omega arith,
+      shrinkable-kept _ (d .keeps) (c .before .before .before .before .before .before .before .pre .1),
+      none-noted _ (c .before .before .before .before .before .before .before .pre .0)
+          (c .before .before .before .before .before .before .before .pre .2) d,
+    )
 
 release-noted-requires : tie.Need-release-noted-requires
-release-noted-requires c κs = (c .before .before .before .shrink-scan .ensures .busy, omega arith)
+release-noted-requires c κs = (c .before .before .before .shrink-scan .ensures .working, omega arith)
 
 same-length : tie.Need-same-length
 same-length c = search needs
@@ -21,7 +28,16 @@ same-length-2 : tie.Need-same-length-2
 same-length-2 c = search needs
 
 returns : tie.Need-returns
-returns c = let d = c .before .before .before .before .before .before .before .before .before .before .before .drop-tops .ensures in let s = c .before .before .before .before .before .before .shrink-scan .ensures in let e = c .before .before .release-noted .ensures in (becomes-then (d .block) (becomes-then (s .block) (e .block)), shrink-worked _ (c .before .before .before .before .before .before .before .before .before .before .before .before .before .before .pre .0) (c .before .before .before .before .before .before .before .before .before .before .before .before .before .before .pre .2) d s e)
+returns c =
+    let d = c .before .before .before .before .before .before .before .before .before .before .before .drop-tops .ensures in
+    let s = c .before .before .before .before .before .before .shrink-scan .ensures in
+    let e = c .before .before .release-noted .ensures in (
+      becomes-then (d .block) (becomes-then (s .block) (e .block)),
+      shrink-worked _
+          (c .before .before .before .before .before .before .before .before .before .before .before .before .before .before .pre .0)
+          (c .before .before .before .before .before .before .before .before .before .before .before .before .before .before .pre .2)
+          d s e,
+    )
 
 pub shrink-work-spec : {M : Type 1} → statement M
 shrink-work-spec =

@@ -3,9 +3,8 @@ use native.Mathlib.Omega.{arith}
 use Prim.Native.Nat.{_-_, _≤_}
 use mathlib.Core.Path.{sym, _∙_}
 use Rattle.graph.specs.State.{overgrownOf}
-use Rattle.graph.specs.Layout.{stateOf}
+use Rattle.graph.specs.Layout.{stateOf, overgrownFrom}
 use Rattle.shrink_pass.specs.laws.Top.{Counted, count-none, count-more, count-stop, count-all}
-use Rattle.graph.specs.Layout.{overgrownFrom}
 use Rattle.shrink_pass.proofs.tops.empty_tops.Statement.{statement}
 use Rattle.shrink_pass.proofs.tops.empty_tops.Tie as tie
 
@@ -31,7 +30,11 @@ loop-less : tie.Need-loop-less Inv-loop μ-loop
 loop-less c = search needs
 
 loop-again : tie.Need-loop-again Inv-loop μ-loop
-loop-again c = (omega arith, count-more _ _ _ (c .before .before .before .loop .inv .1) (omega arith) (sym (c .before .overgrown-amount .ensures .0) ∙ c .if1 .taken))
+loop-again c = (
+  omega arith,
+  count-more _ _ _ (c .before .before .before .loop .inv .1) (omega arith)
+      (sym (c .before .overgrown-amount .ensures .0) ∙ c .if1 .taken),
+)
 
 returns : tie.Need-returns Inv-loop μ-loop
 returns c = count-stop _ _ _ (c .before .before .before .loop .inv .1) (omega arith) (λ z. c .if1 .left (c .before .overgrown-amount .ensures .0 ∙ z))

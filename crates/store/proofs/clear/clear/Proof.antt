@@ -20,7 +20,11 @@ same-length c = search needs
 
 returns : tie.Need-returns
 returns c =
-    cleared-of _ _ _ _ _ (c .before .before .before .before .before .before .before .before .before .before .before .before .pre) (c .before .before .before .before .before .before .before .before .before .before .put-node-count .ensures) (c .before .before .before .before .before .before .before .put-active-count .ensures) (c .before .before .before .before .clear-vertices .ensures) (c .before .clear-sides .ensures)
+    cleared-of _ _ _ _ _
+    (c .before .before .before .before .before .before .before .before .before .before .before .before .pre)
+    (c .before .before .before .before .before .before .before .before .before .before .put-node-count .ensures)
+    (c .before .before .before .before .before .before .before .put-active-count .ensures)
+    (c .before .before .before .before .clear-vertices .ensures) (c .before .clear-sides .ensures)
 
 pub clear-spec : {M : Type 1} → statement M
 clear-spec =

@@ -16,7 +16,9 @@ same-length : tie.Need-same-length
 same-length c = search needs
 
 returns : tie.Need-returns
-returns c = sides-rewritten _ _ _ _ (c .before .before .before .before .before .before .before .zero-sides .ensures) (c .before .before .before .before .zero-sides2 .ensures) (c .before .zero-sides3 .ensures)
+returns c =
+    sides-rewritten _ _ _ _ (c .before .before .before .before .before .before .before .zero-sides .ensures)
+    (c .before .before .before .before .zero-sides2 .ensures) (c .before .zero-sides3 .ensures)
 
 pub clear-sides-spec : {M : Type 1} → statement M
 clear-sides-spec =

@@ -16,7 +16,9 @@ same-length : tie.Need-same-length
 same-length c = search needs
 
 returns : tie.Need-returns
-returns c = vertices-rewritten _ _ _ _ (c .before .before .before .before .before .before .before .drop-defects .ensures) (c .before .before .before .before .zero-vertices .ensures) (c .before .zero-vertices2 .ensures)
+returns c =
+    vertices-rewritten _ _ _ _ (c .before .before .before .before .before .before .before .drop-defects .ensures)
+    (c .before .before .before .before .zero-vertices .ensures) (c .before .zero-vertices2 .ensures)
 
 pub clear-vertices-spec : {M : Type 1} → statement M
 clear-vertices-spec =

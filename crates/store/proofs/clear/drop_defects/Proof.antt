@@ -1,12 +1,11 @@
 use borrow.Author.Needs.{needs}
-use Prim.Native.Nat.{_≤_, _-_, _%_}
+use Prim.Native.Nat.{_≤_, _-_, _%_, ℕ}
 use mathlib.Core.Path.{_≡_, _∙_}
 use native.Mathlib.Omega.{arith}
 use lib.ListN.{getD, length}
 use Rattle.graph.specs.Layout.{rowsOf, row}
 use Rattle.graph.specs.laws.Table.{Tabled, tabled-none, tabled-more, tabled-all, tabled-rest, table-list, vertex-row}
 use mathlib.Core.List.{List}
-use Prim.Native.Nat.{ℕ}
 use Rattle.store.proofs.clear.drop_defects.Statement.{statement}
 use Rattle.store.proofs.clear.drop_defects.Tie as tie
 
@@ -41,8 +40,13 @@ loop-again c =
     let l : List ℕ = row (rowsOf (a .args .b .now)) 1 in
     let h = vertex-row (a .args .b .now) 0 (a .pre) (omega arith) in
     let f : ℕ → ℕ = λ i. getD l i 0 % 2 in
-    let z = c .before .before .before .vertex-word .ensures .0 ∙ tabled-rest 1 (a .args .b .now) (s .loop .b) f (s .loop .v) (omega arith) (s .loop .inv .1) (omega (arith, h)) in
-    (search needs, tabled-more 1 (a .args .b .now) (s .loop .b) (c .before .put-vertex .last .0) f (s .loop .v) (omega arith) (s .loop .inv .1) (omega (arith, h)) (rw z at (c .before .put-vertex .ensures)))
+    let z =
+    c .before .before .before .vertex-word .ensures .0
+    ∙ tabled-rest 1 (a .args .b .now) (s .loop .b) f (s .loop .v) (omega arith) (s .loop .inv .1) (omega (arith, h)) in (
+      search needs,
+      tabled-more 1 (a .args .b .now) (s .loop .b) (c .before .put-vertex .last .0) f (s .loop .v) (omega arith)
+          (s .loop .inv .1) (omega (arith, h)) (rw z at (c .before .put-vertex .ensures)),
+    )
 
 same-length : tie.Need-same-length Inv-loop μ-loop
 same-length c = search needs

@@ -29,8 +29,12 @@ loop-less c = search needs
 loop-again : tie.Need-loop-again Inv-loop μ-loop
 loop-again c =
     let s = c .before .before .before .before in
-    let a = s .before .before .before in
-    (search needs, tabled-more (5 + a .args .k) (a .args .b .now) (s .loop .b) (c .before .put-side .last .0) (λ p. 0) (s .loop .s) (omega arith) (s .loop .inv .1) (omega (arith, side-row (a .args .b .now) (a .args .k) (a .pre .0) (a .pre .1))) (c .before .put-side .ensures))
+    let a = s .before .before .before in (
+      search needs,
+      tabled-more (5 + a .args .k) (a .args .b .now) (s .loop .b) (c .before .put-side .last .0) (λ p. 0) (s .loop .s)
+          (omega arith) (s .loop .inv .1) (omega (arith, side-row (a .args .b .now) (a .args .k) (a .pre .0) (a .pre .1)))
+          (c .before .put-side .ensures),
+    )
 
 same-length : tie.Need-same-length Inv-loop μ-loop
 same-length c = search needs
@@ -39,7 +43,8 @@ returns : tie.Need-returns Inv-loop μ-loop
 returns c =
     let s = c .before in
     let a = s .before .before .before in
-    tabled-zeros (5 + a .args .k) (a .args .b .now) (s .loop .b) (s .loop .s) (s .loop .inv .1) (omega (arith, side-row (a .args .b .now) (a .args .k) (a .pre .0) (a .pre .1)))
+    tabled-zeros (5 + a .args .k) (a .args .b .now) (s .loop .b) (s .loop .s) (s .loop .inv .1)
+    (omega (arith, side-row (a .args .b .now) (a .args .k) (a .pre .0) (a .pre .1)))
 
 pub zero-sides-spec : {M : Type 1} → statement M
 zero-sides-spec =

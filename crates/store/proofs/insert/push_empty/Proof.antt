@@ -1,7 +1,7 @@
 use native.Mathlib.Omega.{arith}
-use mathlib.Core.Path.{_≡_, _∙_}
+use mathlib.Core.Path.{_∙_}
 use Rattle.graph.specs.Form.{Laid}
-use Rattle.graph.specs.Insert.{tailPut}
+use Rattle.graph.specs.inner.Insert.{tailPut}
 use Rattle.graph.specs.laws.Used.{entries-total}
 use Rattle.store.specs.laws.Insert.{rewritten-then, pushed-empty, head-limit, tail-limit}
 use borrow.Author.Needs.{needs}
@@ -29,7 +29,13 @@ put-tail-requires c κs =
     let p = c .before .before .put-head .ensures in
     let s = c .before .before .before .before .before .before .before .before .before in (
       p .kept .laid,
-      omega (arith, head-limit (c .before .before .before .before .before .before .before .node-count .result) (c .before .before .before .before .new-node .result) p, s .pre .1, c .before .before .before .before .before .before .before .node-count .ensures .0),
+      omega (
+        arith,
+        head-limit (c .before .before .before .before .before .before .before .node-count .result)
+            (c .before .before .before .before .new-node .result) p,
+        s .pre .1,
+        c .before .before .before .before .before .before .before .node-count .ensures .0,
+      ),
       omega (arith, s .pre .0 .laid .sized, s .pre .0 .laid .counted, c .before .before .before .before .before .entry-count .ensures .1),
     )
 
@@ -40,8 +46,17 @@ put-node-count-requires : tie.Need-put-node-count-requires
 put-node-count-requires c κs =
     let q = c .before .before .put-tail .ensures in
     let p = c .before .before .before .before .before .put-head .ensures in
-    let s = c .before .before .before .before .before .before .before .before .before .before .before .before in
-    (q .kept .laid, omega (arith, tail-limit _ _ q, head-limit (c .before .before .before .before .before .before .before .before .before .before .node-count .result) (c .before .before .before .before .before .before .before .new-node .result) p, s .pre .1, c .before .before .before .before .before .before .before .before .before .before .node-count .ensures .0))
+    let s = c .before .before .before .before .before .before .before .before .before .before .before .before in (
+      q .kept .laid,
+      omega (
+        arith,
+        tail-limit _ _ q,
+        head-limit (c .before .before .before .before .before .before .before .before .before .before .node-count .result)
+            (c .before .before .before .before .before .before .before .new-node .result) p,
+        s .pre .1,
+        c .before .before .before .before .before .before .before .before .before .before .node-count .ensures .0,
+      ),
+    )
 
 same-length : tie.Need-same-length
 same-length c = search needs

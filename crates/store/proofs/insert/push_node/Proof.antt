@@ -1,5 +1,4 @@
 use native.Mathlib.Omega.{arith}
-use mathlib.Core.Path.{_≡_, sym, _∙_}
 use Rattle.graph.specs.State.{vertexCount}
 use Rattle.graph.specs.Layout.{stateOf, classFrom}
 use Rattle.graph.specs.Word.{numbersAt}
@@ -17,13 +16,30 @@ push-empty-requires : tie.Need-push-empty-requires
 push-empty-requires c κs = search needs
 
 replace-lists-requires : tie.Need-replace-lists-requires
-replace-lists-requires c κs = let s = c .before .before .before .before .before .before in let i = c .before .before .push-empty .ensures in let e = c .before .before .before .before .node-count .ensures .0 in (i .formed, omega (arith, i .nodes, e), s .pre .4, omega arith, omega arith, new-room (classFrom (vertexCount (stateOf (s .args .b .now))) (s .args .class)) (s .args .x) (c .before .before .before .before .node-count .result) (s .args .k) (formed-shape _ (s .pre .0)) e i (s .pre .5))
+replace-lists-requires c κs =
+    let s = c .before .before .before .before .before .before in
+    let i = c .before .before .push-empty .ensures in
+    let e = c .before .before .before .before .node-count .ensures .0 in (
+      i .formed,
+      omega (arith, i .nodes, e),
+      s .pre .4,
+      omega arith,
+      omega arith,
+      new-room (classFrom (vertexCount (stateOf (s .args .b .now))) (s .args .class)) (s .args .x)
+          (c .before .before .before .before .node-count .result) (s .args .k) (formed-shape _ (s .pre .0)) e i (s .pre .5),
+    )
 
 same-length : tie.Need-same-length
 same-length c = search needs
 
 returns : tie.Need-returns
-returns c = let s = c .before .before .before .before .before .before .before .before in let i = c .before .before .before .before .push-empty .ensures in let e = c .before .before .before .before .before .before .node-count .ensures .0 in pushed-lists (classFrom (vertexCount (stateOf (s .args .b .now))) (s .args .class)) (s .args .x) (c .before .before .before .before .before .before .node-count .result) (numbersAt (s .args .t .now) 0 (s .args .k)) (formed-shape _ (s .pre .0)) e i (rw (numbers-none (s .args .t .now) 0) at (c .before .replace-lists .ensures))
+returns c =
+    let s = c .before .before .before .before .before .before .before .before in
+    let i = c .before .before .before .before .push-empty .ensures in
+    let e = c .before .before .before .before .before .before .node-count .ensures .0 in
+    pushed-lists (classFrom (vertexCount (stateOf (s .args .b .now))) (s .args .class)) (s .args .x)
+    (c .before .before .before .before .before .before .node-count .result) (numbersAt (s .args .t .now) 0 (s .args .k))
+    (formed-shape _ (s .pre .0)) e i (rw (numbers-none (s .args .t .now) 0) at (c .before .replace-lists .ensures))
 
 pub push-node-spec : {M : Type 1} → statement M
 push-node-spec =

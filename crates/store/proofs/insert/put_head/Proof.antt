@@ -20,7 +20,15 @@ same-length : tie.Need-same-length
 same-length c = search needs
 
 returns : tie.Need-returns
-returns c = let s = c .before .before .before .before .before .before .before .before .before .before .before .before in rewritten-put (s .args .n) (s .args .d .dual) (rewritten-put (s .args .n) (s .args .d .parent) (rewritten-put (s .args .n) (s .args .d .state) (rewritten-first (c .before .before .before .before .before .before .before .before .before .before .put-node .ensures)) (c .before .before .before .before .before .before .before .put-node2 .ensures)) (c .before .before .before .before .put-node3 .ensures)) (c .before .put-node4 .ensures)
+returns c =
+    let s = c .before .before .before .before .before .before .before .before .before .before .before .before in
+    rewritten-put (s .args .n) (s .args .d .dual)
+    (rewritten-put (s .args .n) (s .args .d .parent)
+    (rewritten-put (s .args .n) (s .args .d .state)
+    (rewritten-first (c .before .before .before .before .before .before .before .before .before .before .put-node .ensures))
+    (c .before .before .before .before .before .before .before .put-node2 .ensures))
+    (c .before .before .before .before .put-node3 .ensures))
+    (c .before .put-node4 .ensures)
 
 pub put-head-spec : {M : Type 1} → statement M
 put-head-spec =

@@ -17,7 +17,13 @@ same-length : tie.Need-same-length
 same-length c = search needs
 
 returns : tie.Need-returns
-returns c = let s = c .before .before .before .before .before .before .before .before .before in rewritten-put (s .args .n) 0 (rewritten-put (s .args .n) 0 (rewritten-first (c .before .before .before .before .before .before .before .put-node .ensures)) (c .before .before .before .before .put-node2 .ensures)) (c .before .put-node3 .ensures)
+returns c =
+    let s = c .before .before .before .before .before .before .before .before .before in
+    rewritten-put (s .args .n) 0
+    (rewritten-put (s .args .n) 0
+    (rewritten-first (c .before .before .before .before .before .before .before .put-node .ensures))
+    (c .before .before .before .before .put-node2 .ensures))
+    (c .before .put-node3 .ensures)
 
 pub put-tail-spec : {M : Type 1} → statement M
 put-tail-spec =

@@ -4,7 +4,8 @@ use Prim.Native.Nat.{_+_, _-_, _≤_}
 use mathlib.Core.Path.{_≡_}
 use Rattle.graph.specs.Layout.{stateOf}
 use Rattle.graph.specs.laws.List.{store-max}
-use Rattle.store.specs.laws.Move.{Filled, wrote-none, fill-more}
+use Rattle.store.specs.laws.Move.{wrote-none, fill-more}
+use Rattle.store.specs.inner.Wrote.{Filled}
 use Rattle.store.proofs.replace.fill.Statement.{statement}
 use Rattle.store.proofs.replace.fill.Tie as tie
 
@@ -15,7 +16,11 @@ abbrev μ-loop : tie.MeasureT-loop
 μ-loop b₀ t q at n i₀ b i = n - i
 
 loop-holds : tie.Need-loop-holds Inv-loop μ-loop
-loop-holds c = (omega arith, store-max (c .args .b .now) (c .pre .0), wrote-none 18 (c .args .b .now) (c .args .at) (c .args .at + 0) _ (c .pre .0) (λ p x y. absurd (omega arith)))
+loop-holds c = (
+  omega arith,
+  store-max (c .args .b .now) (c .pre .0),
+  wrote-none 18 (c .args .b .now) (c .args .at) (c .args .at + 0) _ (c .pre .0) (λ p x y. absurd (omega arith)),
+)
 
 add-word : tie.Need-add-word Inv-loop μ-loop
 add-word c = search needs
@@ -36,7 +41,14 @@ loop-less : tie.Need-loop-less Inv-loop μ-loop
 loop-less c = search needs
 
 loop-again : tie.Need-loop-again Inv-loop μ-loop
-loop-again c = let s = c .before .before .before .before .before .before in let a = c .before .before .before .before .before .loop in (omega arith, a .inv .1, fill-more (s .pre .0) (s .args .t .now) (s .args .q) (s .args .at) (a .i) _ (a .inv .2) (omega arith) (c .before .before .before .word .ensures .0) (c .before .put-store .ensures))
+loop-again c =
+    let s = c .before .before .before .before .before .before in
+    let a = c .before .before .before .before .before .loop in (
+      omega arith,
+      a .inv .1,
+      fill-more (s .pre .0) (s .args .t .now) (s .args .q) (s .args .at) (a .i) _ (a .inv .2) (omega arith)
+          (c .before .before .before .word .ensures .0) (c .before .put-store .ensures),
+    )
 
 same-length : tie.Need-same-length Inv-loop μ-loop
 same-length c = search needs

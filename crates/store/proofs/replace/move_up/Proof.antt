@@ -4,8 +4,10 @@ use Prim.Native.Nat.{_+_, _-_, _≤_}
 use mathlib.Core.Path.{_≡_}
 use lib.ListN.{getD}
 use Rattle.graph.specs.Layout.{stateOf}
-use Rattle.graph.specs.laws.List.{storeOf, store-max}
-use Rattle.store.specs.laws.Move.{Wrote, wrote-none, move-up-more}
+use Rattle.graph.specs.laws.List.{store-max}
+use Rattle.graph.specs.inner.Lists.{storeOf}
+use Rattle.store.specs.laws.Move.{wrote-none, move-up-more}
+use Rattle.store.specs.inner.Wrote.{Wrote}
 use Rattle.store.proofs.replace.move_up.Statement.{statement}
 use Rattle.store.proofs.replace.move_up.Tie as tie
 
@@ -16,7 +18,12 @@ abbrev μ-loop : tie.MeasureT-loop
 μ-loop b₀ from to n i₀ b i = i
 
 loop-holds : tie.Need-loop-holds Inv-loop μ-loop
-loop-holds c = (omega arith, store-max (c .args .b .now) (c .pre .0), wrote-none 18 (c .args .b .now) (c .args .to + c .args .n) (c .args .to + c .args .n) _ (c .pre .0) (λ p x y. absurd (omega arith)))
+loop-holds c = (
+  omega arith,
+  store-max (c .args .b .now) (c .pre .0),
+  wrote-none 18 (c .args .b .now) (c .args .to + c .args .n) (c .args .to + c .args .n) _ (c .pre .0)
+      (λ p x y. absurd (omega arith)),
+)
 
 sub-i : tie.Need-sub-i Inv-loop μ-loop
 sub-i c = search needs
@@ -37,7 +44,15 @@ loop-less : tie.Need-loop-less Inv-loop μ-loop
 loop-less c = search needs
 
 loop-again : tie.Need-loop-again Inv-loop μ-loop
-loop-again c = let s = c .before .before .before .before .before .before .before in let a = c .before .before .before .before .before .before .loop in let z : a .i ≡ a .i - 1 + 1 = omega arith in (omega arith, a .inv .1, move-up-more (s .pre .0) (s .args .from) (s .args .to) (s .args .n) (a .i - 1) _ (rw z at (a .inv .2)) (s .pre .1) (omega arith) (omega arith) (c .before .before .before .store-word .ensures .0) (c .before .put-store .ensures))
+loop-again c =
+    let s = c .before .before .before .before .before .before .before in
+    let a = c .before .before .before .before .before .before .loop in
+    let z : a .i ≡ a .i - 1 + 1 = omega arith in (
+      omega arith,
+      a .inv .1,
+      move-up-more (s .pre .0) (s .args .from) (s .args .to) (s .args .n) (a .i - 1) _ (rw z at (a .inv .2)) (s .pre .1)
+          (omega arith) (omega arith) (c .before .before .before .store-word .ensures .0) (c .before .put-store .ensures),
+    )
 
 same-length : tie.Need-same-length Inv-loop μ-loop
 same-length c = search needs

@@ -22,7 +22,11 @@ same-length : tie.Need-same-length
 same-length c = search needs
 
 returns : tie.Need-returns
-returns c = let s = c .before .before .before .before .before .before .before .before .before in resized _ _ _ _ (s .args .n) (s .args .c) (s .args .k) (s .args .o) (s .args .y) (c .before .before .before .before .before .before .before .shift-starts .ensures) (c .before .before .before .before .put-node .ensures) (c .before .put-node2 .ensures)
+returns c =
+    let s = c .before .before .before .before .before .before .before .before .before in
+    resized _ _ _ _ (s .args .n) (s .args .c) (s .args .k) (s .args .o) (s .args .y)
+    (c .before .before .before .before .before .before .before .shift-starts .ensures)
+    (c .before .before .before .before .put-node .ensures) (c .before .put-node2 .ensures)
 
 pub put-sizes-spec : {M : Type 1} → statement M
 put-sizes-spec =

@@ -22,10 +22,25 @@ add-rest : tie.Need-add-rest
 add-rest c = search needs
 
 sub-rest : tie.Need-sub-rest
-sub-rest c = let s = c .before .before .before .before .before .before .before .before in asked-part (s .args .b .now) (s .args .n) _ _ _ _ (s .pre .0 .laid) (s .pre .0 .listed) (s .pre .1) (c .before .before .before .before .before .before .start .ensures .0) (c .before .before .before .before .boundary-len .ensures .0) (c .before .before .overgrown-len .ensures .0) (c .entry-count .ensures .0)
+sub-rest c =
+    let s = c .before .before .before .before .before .before .before .before in
+    asked-part (s .args .b .now) (s .args .n) _ _ _ _ (s .pre .0 .laid) (s .pre .0 .listed) (s .pre .1)
+    (c .before .before .before .before .before .before .start .ensures .0)
+    (c .before .before .before .before .boundary-len .ensures .0) (c .before .before .overgrown-len .ensures .0)
+    (c .entry-count .ensures .0)
 
 replace-at-requires : tie.Need-replace-at-requires
-replace-at-requires c κs = let s = c .before .before .before .before .before .before .before .before .before in (s .pre .0, asked-of (s .args .b .now) (s .args .n) _ _ _ _ (s .pre .0 .laid) (s .pre .0 .listed) (s .pre .1) (c .before .before .before .before .before .before .before .start .ensures .0) (c .before .before .before .before .before .boundary-len .ensures .0) (c .before .before .before .overgrown-len .ensures .0) (c .before .entry-count .ensures .0) (s .args .k) (s .args .m) (s .args .o) (s .pre .4) (s .pre .5), s .pre .2, s .pre .3)
+replace-at-requires c κs =
+    let s = c .before .before .before .before .before .before .before .before .before in (
+      s .pre .0,
+      asked-of (s .args .b .now) (s .args .n) _ _ _ _ (s .pre .0 .laid) (s .pre .0 .listed) (s .pre .1)
+          (c .before .before .before .before .before .before .before .start .ensures .0)
+          (c .before .before .before .before .before .boundary-len .ensures .0)
+          (c .before .before .before .overgrown-len .ensures .0) (c .before .entry-count .ensures .0) (s .args .k) (s .args .m)
+          (s .args .o) (s .pre .4) (s .pre .5),
+      s .pre .2,
+      s .pre .3,
+    )
 
 same-length : tie.Need-same-length
 same-length c = search needs

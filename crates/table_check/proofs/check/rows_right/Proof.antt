@@ -1,15 +1,13 @@
-use Rattle.table_check.specs.Tests.{rowRight}
+use Rattle.table_check.specs.Tests.{rowRight, coveredBy}
 use borrow.Author.Needs.{needs}
 use mathlib.Core.Path.{_≡_, refl, sym, _∙_, ap}
 use native.Mathlib.Omega.{arith}
-use Prim.Native.Nat.{_-_, _≤_}
+use Prim.Native.Nat.{_-_, _≤_, ℕ}
 use Rattle.graph.specs.Basic.{allBelow}
 use Rattle.graph.specs.laws.Scan.{all-more, all-fails}
 use mathlib.Core.Bool.{true}
-use Prim.Native.Nat.{ℕ}
 use lib.ListN.{length}
 use Rattle.table_check.specs.Handed.{distanceIn, rowOf}
-use Rattle.table_check.specs.Tests.{coveredBy}
 use Rattle.table_check.specs.laws.Rows.{row-inside, rows-few, row-is, covered-none, covered-more, rowTest, rows-fail, rows-pass}
 use Rattle.table_check.proofs.check.rows_right.Statement.{statement}
 use Rattle.table_check.proofs.check.rows_right.Tie as tie

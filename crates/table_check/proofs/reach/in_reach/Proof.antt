@@ -1,8 +1,7 @@
 use Rattle.table_check.specs.Tests.{allMarked}
 use mathlib.Core.Path.{_≡_, _∙_, ap}
 use native.Mathlib.Omega.{arith}
-use Prim.Native.Nat.{_-_}
-use Prim.Native.Nat.{ℕ}
+use Prim.Native.Nat.{_-_, ℕ}
 use mathlib.Core.List.{List}
 use Rattle.table_check.specs.laws.Marks.{zeros-part}
 use borrow.Author.Needs.{needs}

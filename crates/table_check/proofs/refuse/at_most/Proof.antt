@@ -7,7 +7,7 @@ use lib.Dec.{leb}
 use lib.ListN.{length}
 use Rattle.graph.specs.Word.{toNat}
 use borrow.Author.Tests.{le-leb, lt-leb}
-use Rattle.memory.specs.laws.Open.{Rest, rest-more, rest-fails, rest-all}
+use Rattle.open_graph.specs.laws.Open.{Rest, rest-more, rest-fails, rest-all}
 use Rattle.table_check.specs.laws.Words.{numbers-at, numbers-long}
 use Rattle.table_check.proofs.refuse.at_most.Statement.{statement}
 use Rattle.table_check.proofs.refuse.at_most.Tie as tie

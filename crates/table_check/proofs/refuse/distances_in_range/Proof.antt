@@ -8,7 +8,7 @@ use borrow.Author.Tests.{le-leb, lt-leb}
 use Rattle.distance.specs.Distance.{unreachable}
 use Rattle.table_check.specs.Handed.{distanceOf, distanceIn}
 use Rattle.table_check.specs.Verdict.{distancesInRange}
-use Rattle.memory.specs.laws.Open.{Rest, rest-more, rest-fails, rest-all}
+use Rattle.open_graph.specs.laws.Open.{Rest, rest-more, rest-fails, rest-all}
 use Rattle.table_check.proofs.refuse.distances_in_range.Statement.{statement}
 use Rattle.table_check.proofs.refuse.distances_in_range.Tie as tie
 

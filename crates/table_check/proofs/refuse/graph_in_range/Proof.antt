@@ -1,6 +1,6 @@
 use Rattle.table_check.specs.Verdict.{sizesRight, graphInRange}
 use Rattle.graph.specs.laws.Size.{sizes-in}
-use Rattle.memory.specs.laws.Open.{first-passed}
+use Rattle.open_graph.specs.laws.Open.{first-passed}
 use borrow.Author.Needs.{needs}
 use Rattle.table_check.proofs.refuse.graph_in_range.Statement.{statement}
 use Rattle.table_check.proofs.refuse.graph_in_range.Tie as tie

@@ -5,7 +5,7 @@ use mathlib.Core.Bool.{true}
 use borrow.Author.Tests.{not-true, not-false}
 use Rattle.table_check.specs.Verdict.{sizesRight, lengthsRight, tableRefusal}
 use Rattle.graph.specs.laws.Size.{sizes-in}
-use Rattle.memory.specs.laws.Open.{first-passed}
+use Rattle.open_graph.specs.laws.Open.{first-passed}
 use Rattle.table_check.proofs.refuse.refusal.Statement.{statement}
 use Rattle.table_check.proofs.refuse.refusal.Tie as tie
 

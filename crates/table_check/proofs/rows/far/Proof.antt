@@ -1,5 +1,5 @@
 use borrow.Author.Needs.{needs}
-use Rattle.table_check.specs.Tests.{virtualAt}
+use Rattle.table_check.specs.Tests.{virtualPairAt}
 use Rattle.table_check.specs.Handed.{distanceIn}
 use lib.ListN.{length}
 use mathlib.Core.Path.{_≡_, refl, sym, _∙_}
@@ -12,7 +12,7 @@ use Rattle.table_check.proofs.rows.far.Statement.{statement}
 use Rattle.table_check.proofs.rows.far.Tie as tie
 
 abbrev Inv-loop : tie.InvT-loop
-Inv-loop virtuals row y k₀ k = (k ≤ length virtuals) × (allBelow (virtualAt virtuals (distanceIn row) (y)) k ≡ true)
+Inv-loop virtuals row y k₀ k = (k ≤ length virtuals) × (allBelow (virtualPairAt virtuals (distanceIn row) (y)) k ≡ true)
 
 abbrev μ-loop : tie.MeasureT-loop
 μ-loop virtuals row y k₀ k = length virtuals - k
@@ -35,7 +35,7 @@ loop-again c =
     let s = c .before .before .before in
     let a = s .before .args in (
       search needs,
-      all-more (virtualAt (a .virtuals .now) (distanceIn (a .row .now)) (a .y)) (s .loop .k) (s .loop .inv .1)
+      all-more (virtualPairAt (a .virtuals .now) (distanceIn (a .row .now)) (a .y)) (s .loop .k) (s .loop .inv .1)
           (sym (c .before .virtual-at .ensures) ∙ c .if1 .taken),
     )
 
@@ -43,7 +43,7 @@ returns : tie.Need-returns Inv-loop μ-loop
 returns c =
     let s = c .before .before .before in
     let a = s .before .args in
-    sym (all-fails (virtualAt (a .virtuals .now) (distanceIn (a .row .now)) (a .y)) (length (a .virtuals .now)) (s .loop .k) (search needs)
+    sym (all-fails (virtualPairAt (a .virtuals .now) (distanceIn (a .row .now)) (a .y)) (length (a .virtuals .now)) (s .loop .k) (search needs)
     (sym (c .before .virtual-at .ensures) ∙ c .if1 .left))
 
 returns-2 : tie.Need-returns-2 Inv-loop μ-loop

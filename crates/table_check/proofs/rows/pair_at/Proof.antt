@@ -1,4 +1,4 @@
-use Rattle.table_check.specs.Tests.{pairAt}
+use Rattle.table_check.specs.Tests.{defectPairAt}
 use borrow.Author.Needs.{needs}
 use Rattle.table_check.proofs.rows.pair_at.Statement.{statement}
 use Rattle.table_check.proofs.rows.pair_at.Tie as tie
@@ -19,7 +19,7 @@ distance-in-requires : tie.Need-distance-in-requires
 distance-in-requires c κs = search needs
 
 returns : tie.Need-returns
-unfolding pairAt
+unfolding defectPairAt
 returns c = cc
 
 pub pair-at-spec : {M : Type 1} → statement M

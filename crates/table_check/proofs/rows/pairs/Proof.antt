@@ -1,5 +1,5 @@
 use borrow.Author.Needs.{needs}
-use Rattle.table_check.specs.Tests.{pairAt}
+use Rattle.table_check.specs.Tests.{defectPairAt}
 use Rattle.table_check.specs.Handed.{distanceIn}
 use lib.ListN.{length}
 use mathlib.Core.Path.{_≡_, refl, sym, _∙_}
@@ -12,7 +12,7 @@ use Rattle.table_check.proofs.rows.pairs.Statement.{statement}
 use Rattle.table_check.proofs.rows.pairs.Tie as tie
 
 abbrev Inv-loop : tie.InvT-loop
-Inv-loop defects duals row i j₀ j = (j ≤ length defects) × (allBelow (pairAt defects duals (distanceIn row) (i)) j ≡ true)
+Inv-loop defects duals row i j₀ j = (j ≤ length defects) × (allBelow (defectPairAt defects duals (distanceIn row) (i)) j ≡ true)
 
 abbrev μ-loop : tie.MeasureT-loop
 μ-loop defects duals row i j₀ j = length defects - j
@@ -35,7 +35,7 @@ loop-again c =
     let s = c .before .before .before in
     let a = s .before .args in (
       search needs,
-      all-more (pairAt (a .defects .now) (a .duals .now) (distanceIn (a .row .now)) (a .i)) (s .loop .j) (s .loop .inv .1)
+      all-more (defectPairAt (a .defects .now) (a .duals .now) (distanceIn (a .row .now)) (a .i)) (s .loop .j) (s .loop .inv .1)
           (sym (c .before .pair-at .ensures) ∙ c .if1 .taken),
     )
 
@@ -43,7 +43,7 @@ returns : tie.Need-returns Inv-loop μ-loop
 returns c =
     let s = c .before .before .before in
     let a = s .before .args in
-    sym (all-fails (pairAt (a .defects .now) (a .duals .now) (distanceIn (a .row .now)) (a .i)) (length (a .defects .now)) (s .loop .j) (search needs)
+    sym (all-fails (defectPairAt (a .defects .now) (a .duals .now) (distanceIn (a .row .now)) (a .i)) (length (a .defects .now)) (s .loop .j) (search needs)
     (sym (c .before .pair-at .ensures) ∙ c .if1 .left))
 
 returns-2 : tie.Need-returns-2 Inv-loop μ-loop

@@ -1,4 +1,4 @@
-use Rattle.table_check.specs.Tests.{virtualAt}
+use Rattle.table_check.specs.Tests.{virtualPairAt}
 use borrow.Author.Needs.{needs}
 use Rattle.table_check.proofs.rows.virtual_at.Statement.{statement}
 use Rattle.table_check.proofs.rows.virtual_at.Tie as tie
@@ -10,7 +10,7 @@ distance-in-requires : tie.Need-distance-in-requires
 distance-in-requires c κs = search needs
 
 returns : tie.Need-returns
-unfolding virtualAt
+unfolding virtualPairAt
 returns c = cc
 
 pub virtual-at-spec : {M : Type 1} → statement M

@@ -1,6 +1,6 @@
 use Rattle.table_check.specs.Verdict.{sizesRight}
 use Rattle.graph.specs.laws.Size.{sizes-in}
-use Rattle.memory.specs.laws.Open.{first-passed}
+use Rattle.open_graph.specs.laws.Open.{first-passed}
 use Rattle.table_check.specs.Streamed.{begun}
 use borrow.Author.Needs.{needs}
 use Rattle.table_check.proofs.stream.begin.Statement.{statement}

@@ -1,4 +1,3 @@
-use borrow.Author.Needs.{needs}
 use mathlib.Core.Path.{refl}
 use Rattle.graph.specs.Node.{emptyNode}
 use Rattle.graph.proofs.dual_node.DualNode.empty.Statement.{statement}

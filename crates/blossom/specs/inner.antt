@@ -1,0 +1,2 @@
+-- What only contracts inside the code cite, in `blossom` and above it.
+pub mod Circle

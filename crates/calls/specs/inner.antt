@@ -1,0 +1,3 @@
+-- What only contracts inside the code cite, in `calls` and above it.
+pub mod Phase
+pub mod Reply

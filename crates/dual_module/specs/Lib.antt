@@ -1,0 +1,4 @@
+-- What the contracts of `dual_module` cite: what a call on lent memory leaves; its laws are in laws/.
+pub mod Called
+pub mod Theorems
+pub mod laws

@@ -1,0 +1,3 @@
+-- Laws about the promises of `dual_module`.
+pub mod Called
+pub mod CircleStore

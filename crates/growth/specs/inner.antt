@@ -1,0 +1,2 @@
+-- What only contracts inside the code cite, in `growth` and above it.
+pub mod Moving

@@ -1,4 +1,0 @@
--- What the contracts of `host` cite: an answer as numbers, and what an exported call promises; its laws are in laws/.
-pub mod Words
-pub mod Told
-pub mod laws

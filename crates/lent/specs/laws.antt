@@ -1,3 +1,0 @@
--- Laws about the promises of `lent`.
-pub mod Called
-pub mod CircleStore

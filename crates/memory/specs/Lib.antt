@@ -1,2 +1,0 @@
--- Laws for the functions of `memory`; the definitions that their contracts cite are in crate `graph`.
-pub mod laws

@@ -1,0 +1,2 @@
+-- What only contracts inside the code cite, in `records` and above it.
+pub mod Table

@@ -1,0 +1,3 @@
+-- What only contracts inside the code cite, in `remove` and above it.
+pub mod Opened
+pub mod Stops

@@ -1,0 +1,4 @@
+-- What only contracts inside the code cite, in `round` and above it.
+pub mod Group
+pub mod Step
+pub mod Asked

@@ -1,3 +1,0 @@
--- What the contracts inside `run` cite: where a run stands, by what the memory holds. What a run gives is defined in crate `records` (specs/Run).
-pub mod Standing
-pub mod laws

@@ -1,0 +1,3 @@
+-- What only contracts inside the code cite, in `store` and above it.
+pub mod Store
+pub mod Wrote

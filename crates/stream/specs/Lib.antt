@@ -1,2 +1,0 @@
--- Laws that the proofs of `stream` use; the definitions stand in `records` and `run`.
-pub mod laws
