@@ -82,6 +82,11 @@ enum {
     FB_OPENED = 12,   /* fb_open_sheet: how many positive values became 0 */
     FB_VERDICT = 13,  /* fb_check_table: 1 yes, 0 no */
     FB_GROUP = 14,    /* how many conflicts and how many stops stand in the list of entries */
+    FB_DEFECT = 15,   /* fb_read_node: vertex, grow state, parent (0: none, else its number + 1), dual variable */
+    FB_BLOSSOM = 16,  /* the same of a blossom, with its first member in place of the vertex */
+    FB_INNER = 17,    /* fb_gap: one node holds both sides of the edge */
+    FB_OVER = 18,     /* fb_gap: by how much the growths of the edge exceed its weight */
+    FB_GAP = 19,      /* fb_gap: the weight of the edge less its growths */
 };
 
 /* What a refusal's number means. */
@@ -90,7 +95,7 @@ static inline const char *fb_refusal_sentence(size_t number) {
         "no such refusal",
         "lent memory has a wrong length, or a stored size is out of range",
         "the block is not sound",
-        "no such vertex, node, direction or state",
+        "no such vertex, edge, node, direction or state",
         "a size, weight or edge end is out of range, or there are not E edges",
         "the vertex is virtual, a defect, held, or has a held side",
         "the node lies in a blossom",
@@ -183,6 +188,17 @@ size_t fb_clear(int64_t *block, size_t block_length, const int64_t *scratch, siz
 /* The representative vertex of a node: FB_VERTEX. */
 size_t fb_representative_vertex(const int64_t *block, size_t block_length, const int64_t *scratch,
                                 size_t scratch_length, size_t node, size_t *answer, size_t answer_length);
+
+/* A node with its dual variable: FB_DEFECT or FB_BLOSSOM. Its parent is the blossom that it lies in: 0 for a node that
+   lies in none, or else the number of the blossom + 1. Nothing is written but the answer. Refused 1, 2, 3; a blossom
+   that was opened is refused 3. Read before and after, it tells by how much fb_advance or a round moved a node. */
+size_t fb_read_node(const int64_t *block, size_t block_length, const int64_t *scratch, size_t scratch_length,
+                    size_t node, size_t *answer, size_t answer_length);
+/* The gap of an edge: FB_INNER where one node holds both sides (the node itself, not a blossom that it lies in), else
+   FB_OVER where the growths exceed the weight, else FB_GAP; of a free edge it is the weight. Nothing is written but the
+   answer. On a block that calls have made it is never FB_OVER. Refused 1, 2, 3 for the number of an edge. */
+size_t fb_gap(const int64_t *block, size_t block_length, const int64_t *scratch, size_t scratch_length, size_t edge,
+              size_t *answer, size_t answer_length);
 
 /* The growth of every side, left and right of edge 0, of edge 1, .., goes to a list of 2 E words: FB_DONE. */
 size_t fb_read_table(const int64_t *block, size_t block_length, const int64_t *scratch, size_t scratch_length,

@@ -3,7 +3,8 @@
 # target/lib/libfusion_blossom.a and libcardrun_lines.a for C (include/fusion_blossom.h). Needs the Rattle toolchain, cc
 # and ar.
 set -e
-calls='c_api c_api_sheet c_api_check c_api_round c_api_remove'  # the crates that export fb_open and the other calls
+# the crates that export fb_open and the other calls
+calls='c_api c_api_sheet c_api_check c_api_round c_api_remove c_api_node c_api_gap'
 lines=lines_export       # the crate that exports cardrun_lines
 cd "$(dirname "$0")/.."
 mkdir -p target/lib

@@ -1,6 +1,8 @@
 //! Compares the port with the Rust on random record streams, and measures both. See README.md.
 mod compare;
 mod count;
+#[cfg(library)]
+mod gaps;
 mod graphs;
 #[cfg(library)]
 mod library;
@@ -90,6 +92,8 @@ fn main() {
         #[cfg(library)]
         Some("openings") => openings::compare(number(a.get(2), 2000), number(a.get(3), 1)),
         #[cfg(library)]
+        Some("gaps") => gaps::compare(number(a.get(2), 500), number(a.get(3), 1)),
+        #[cfg(library)]
         Some("rounds-speed") => {
             rounds::speed();
             true
@@ -101,7 +105,8 @@ fn main() {
         _ => {
             eprintln!(
                 "differential compare [RUNS] [SEED] | one SEED | sample FILE [SEED] | replay FILE | patches FILE \
-                 | speed | library [RUNS] [SEED] | rounds [RUNS] [SEED] | openings [RUNS] [SEED] | rounds-speed"
+                 | speed | library [RUNS] [SEED] | rounds [RUNS] [SEED] | openings [RUNS] [SEED] \
+                 | gaps [RUNS] [SEED] | rounds-speed"
             );
             false
         }

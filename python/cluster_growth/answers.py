@@ -2,7 +2,7 @@
 from __future__ import annotations
 
 from dataclasses import dataclass
-from typing import Callable, Dict, Sequence, Tuple, Union
+from typing import Callable, Dict, Optional, Sequence, Tuple, Union
 
 
 @dataclass(frozen=True)
@@ -169,6 +169,51 @@ class Group:
 
 
 @dataclass(frozen=True)
+class NodeRead:
+    """A node that was read: a defect has a vertex, a blossom its first member; `parent` is the blossom that it lies
+    in, or None.
+    """
+
+    vertex: Optional[int]
+    first_member: Optional[int]
+    state: int
+    parent: Optional[int]
+    dual: int
+
+    def __str__(self) -> str:
+        what = f'blossom {self.first_member}' if self.vertex is None else f'defect {self.vertex}'
+        return f'{what} {self.state} {-1 if self.parent is None else self.parent} {self.dual}'
+
+
+@dataclass(frozen=True)
+class Inner:
+    """One node holds both sides of the edge."""
+
+    def __str__(self) -> str:
+        return 'inner'
+
+
+@dataclass(frozen=True)
+class Over:
+    """The growths of the edge exceed its weight by so much, and no node holds both sides: no call leads there."""
+
+    excess: int
+
+    def __str__(self) -> str:
+        return f'over {self.excess}'
+
+
+@dataclass(frozen=True)
+class Left:
+    """The weight of the edge less its growths; 0 of a full edge."""
+
+    gap: int
+
+    def __str__(self) -> str:
+        return f'gap {self.gap}'
+
+
+@dataclass(frozen=True)
 class Moved:
     """`advance` moved the node's dual variable by so much: below 0 it shrank, 0 for a node that stays."""
 
@@ -179,7 +224,8 @@ class Moved:
 
 
 Length = Union[Free, Unlimited, Conflict, TouchingVirtual, NeedExpand, ShrinkStop, ShrinkStopPeer]
-Answer = Union[Length, Done, NewNode, Prepared, Vertex, Refusal, Opened, Verdict, Group]
+Gap = Union[Inner, Over, Left]
+Answer = Union[Length, Done, NewNode, Prepared, Vertex, Refusal, Opened, Verdict, Group, NodeRead, Gap]
 
 
 @dataclass(frozen=True)
@@ -191,6 +237,11 @@ class Conflicts:
 
     def __str__(self) -> str:
         return f'group {len(self.conflicts)} {len(self.stops)}'
+
+
+def parent_of(told: int) -> Optional[int]:
+    """The blossom that a node lies in, told as its number + 1, or as 0 for none."""
+    return told - 1 if told else None
 
 
 # the case that stands first in an answer, as in include/fusion_blossom.h, and what its values make
@@ -210,6 +261,11 @@ CASES: Dict[int, Callable[..., Answer]] = {
     12: Opened,
     13: lambda yes: Verdict(bool(yes)),
     14: Group,
+    15: lambda vertex, state, parent, dual: NodeRead(vertex, None, state, parent_of(parent), dual),
+    16: lambda member, state, parent, dual: NodeRead(None, member, state, parent_of(parent), dual),
+    17: Inner,
+    18: Over,
+    19: Left,
 }
 
 ENTRY = 5  # numbers of an entry: a case and four values, 0 where there is none

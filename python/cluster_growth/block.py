@@ -1,7 +1,4 @@
-"""Reads the words of a block by docs/LAYOUT.md: what no exported call tells.
-
-`node` is the one reading that hosts need; it goes over to an exported call when the library has one.
-"""
+"""Reads the words of a block by docs/LAYOUT.md: what no exported call tells, and all of it at once."""
 from __future__ import annotations
 
 from dataclasses import dataclass
@@ -35,7 +32,7 @@ ROWS = [
 
 @dataclass(frozen=True)
 class Node:
-    """A node as it is stored.
+    """A node.
 
     A defect has a vertex, a blossom its first member, an opened blossom neither; `parent` is the blossom that it lies
     in.
@@ -79,19 +76,11 @@ class Block:
         """The word of node n in a row of nodes."""
         return self.words[self.rows[name].start + n]
 
-    # ---- what the exported call fb_read_node will tell: these two go over to it when the library has it
-
     def node(self, n: int) -> Node:
-        """A node, read from the words of the block."""
+        """A node, as `read_node` of a module has it; and one that was opened. For pictures, which read every node."""
         c, parent = self.field('class', n), self.field('parent', n)
         vertex, first = (c, None) if c < self.V else (None, c - self.V if c != self.V + REMOVED else None)
-        return Node(n, vertex, first, self.field('state', n), parent - 1 if parent else None, self.dual(n))
-
-    def dual(self, n: int) -> int:
-        """The dual variable of a node, read from the words of the block."""
-        return self.field('dual', n)
-
-    # ---- what no exported call tells
+        return Node(n, vertex, first, self.field('state', n), parent - 1 if parent else None, self.field('dual', n))
 
     def active_list(self) -> List[int]:
         """The nodes of the active list."""

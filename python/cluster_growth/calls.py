@@ -44,6 +44,8 @@ CALLS: Dict[str, Call] = {
     'advance': Call('fb_advance', (SIZE,)),
     'clear': Call('fb_clear'),
     'representative_vertex': Call('fb_representative_vertex', (SIZE,)),
+    'read_node': Call('fb_read_node', (SIZE,)),
+    'gap': Call('fb_gap', (SIZE,)),
     'read_table': Call('fb_read_table', (WORDS,)),
     'contacts': Call('fb_contacts', (WORDS,)),
     'renew_active_list': Call('fb_renew_active_list', (), ('block',)),

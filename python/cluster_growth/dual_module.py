@@ -7,7 +7,7 @@ from enum import IntEnum
 from typing import Any, Iterable, List, NamedTuple, Optional, Sequence, Tuple, Union
 
 from . import answers, library, sizes
-from .answers import Answer, Conflicts, Free, Group, Length, Moved, Refusal, Unlimited
+from .answers import Answer, Conflicts, Free, Gap, Group, Length, Moved, Refusal, Unlimited
 from .block import Block, Node
 from .calls import CALLS, SIGNED, WORDS
 from .refusals import Refused
@@ -194,9 +194,11 @@ class DualModule:
 
     def advance(self, node: int) -> Union[Moved, Length]:
         """The node moves along its state as far as it can: Moved, or what stops it."""
-        before = self.block.dual(node) if 0 <= node < self.block.count() else 0
+        before: Any = self.call('read_node', node)  # a number that is no node is refused by advance as well
         answer = self._made('advance', node)
-        return Moved(self.block.dual(node) - before) if isinstance(answer, answers.Done) else answer
+        if not isinstance(answer, answers.Done):
+            return answer
+        return Moved(self._made('read_node', node).dual - before.dual)
 
     def renew_active_list(self) -> None:
         """Nodes in Stay are taken off the active list."""
@@ -227,6 +229,13 @@ class DualModule:
         """A defect's vertex; a blossom has that of its first member."""
         return self._made('representative_vertex', node).vertex
 
+    def gap(self, edge: int) -> Gap:
+        """What is left of an edge: Inner where one node holds both sides, else Left.
+
+        Over, where the growths exceed the weight, comes only of a block that no calls have made.
+        """
+        return self._made('gap', edge)
+
     def read_table(self) -> Table:
         """The growth at both sides of every edge."""
         growths = array('q', bytes(2 * WORD * len(self.edges)))
@@ -239,13 +248,9 @@ class DualModule:
         return found[: self._made('contacts', found).count].tolist()
 
     def read_node(self, node: int) -> Node:
-        """A node with its dual variable.
-
-        Read from the block's words (block.py) while the library has no call for it.
-        """
-        if not 0 <= node < self.block.count():
-            raise Refused(3, 'read_node')
-        return self.block.node(node)
+        """A node with its grow state, its parent and its dual variable. One that was opened is refused 3."""
+        told = self._made('read_node', node)
+        return Node(node, told.vertex, told.first_member, told.state, told.parent, told.dual)
 
     def node_count(self) -> int:
         """How many nodes there are, blossoms and their members among them, opened ones too."""

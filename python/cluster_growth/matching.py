@@ -10,9 +10,9 @@ from __future__ import annotations
 
 import heapq
 from dataclasses import dataclass, field
-from typing import Callable, Dict, List, Optional, Tuple
+from typing import Any, Callable, Dict, List, Optional, Tuple
 
-from .answers import Conflict, Free, TouchingVirtual
+from .answers import Conflict, Free, NodeRead, TouchingVirtual
 from .dual_module import DualModule, GrowState
 
 
@@ -73,14 +73,13 @@ class Growing:
 
     def __init__(self, module: DualModule):
         self.module, self.near, self.found = module, neighbours(module), Matching()
-        nodes = [module.read_node(n) for n in range(module.node_count())]
-        for n in nodes:
-            if n.vertex is None or n.state != GrowState.GROW or n.dual:
-                raise ValueError(
-                    f'node {n.number} is no growing defect of dual variable 0: all have to grow equally far'
-                )
-        self.vertex: Dict[int, int] = {n.number: n.vertex for n in nodes if n.vertex is not None}
-        self.left = [n.number for n in nodes if n.state == GrowState.GROW]
+        self.vertex: Dict[int, int] = {}
+        for n in range(module.node_count()):
+            told: Any = module.call('read_node', n)
+            if not isinstance(told, NodeRead) or told.vertex is None or told.state != GrowState.GROW or told.dual:
+                raise ValueError(f'node {n} is no growing defect of dual variable 0: all have to grow equally far')
+            self.vertex[n] = told.vertex
+        self.left = list(self.vertex)
 
     def rest(self, *nodes: int) -> None:
         """The nodes are matched and grow no more."""

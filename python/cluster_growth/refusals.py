@@ -4,7 +4,7 @@ from __future__ import annotations
 SENTENCES = {
     1: 'lent memory has a wrong length, or a stored size is out of range',
     2: 'the block is not sound',
-    3: 'no such vertex, node, direction or state',
+    3: 'no such vertex, edge, node, direction or state',
     4: 'a size, weight or edge end is out of range, or there are not E edges',
     5: 'the vertex is virtual, a defect, held, or has a held side',
     6: 'the node lies in a blossom',

@@ -4,8 +4,8 @@
     tests/definitions/compare.py [--lists 600] [--states 200] [--streams 100] [--circles 5] [--seed 1] [--keep DIR]
 
 The prover computes, from the definitions themselves:
-  lists    random call lists: every answer, the whole state after the last call, whether it is sound, and at each vertex
-           what the test for refusal 5 finds and how many sides it reads;
+  lists    random call lists: every answer, the whole state after the last call, whether it is sound, every node read,
+           and at each vertex what the test for refusal 5 finds and how many sides it reads;
   states   sound states that no call list reaches (a reached state with fields changed at random), a few calls on each;
   streams  record streams: the lines, all of them and those that fit into a random space;
   circles  circles of 61, 63, 64, 65 and 101 nodes, with a repeat and without, on rows of so many defects.
@@ -191,6 +191,7 @@ use mathlib.Core.Path.{{_≡_, refl}}
 use mathlib.Core.Bool.{{Bool, true, false}}
 use mathlib.Core.List.{{List, [], _∷_, map}}
 use lib.IntN.{{pos, negsuc}}
+use Rattle.graph.specs.Basic.{{below}}
 use Rattle.graph.specs.State.{{State, Overgrown, NodeClass, defectVertex, blossom, removed}}
 use Rattle.graph.specs.Open.{{opened}}
 use Rattle.graph.specs.Sound.{{stateSound}}
@@ -201,6 +202,8 @@ use Rattle.calls.specs.Insert.{{occupied}}
 use Rattle.calls.specs.Occupied.{{sidesRead}}
 use Rattle.calls.specs.Examples.{{Line, _gives_, edge, given, wanted}}
 use Rattle.calls.specs.Opens.{{everything}}
+use Rattle.dual_module_node.specs.declared.NodeRead.the-variants.{{Defect as readDefect, Blossom as readBlossom, Refused as readRefused}}
+use Rattle.dual_module_node.specs.ReadNode.{{nodeTold, readNode}}
 
 abbrev over : ℕ → ℕ → Overgrown
 over v a = record {{ vertex = v; amount = a }}
@@ -223,10 +226,20 @@ def looks(st):
     return items(f'({truth(held)}, {read})' for held, read in found)
 
 
+def node(st, n):
+    """What is told of a node."""
+    kind, *values = M.read_node(st, n)
+    SEEN['node refused' if kind == 'refused' else f'node {kind}'] += 1
+    if kind != 'refused': values[2] += 1
+    return f"(read{kind.capitalize()} {' '.join(map(str, values))})"
+
+
 def case(name, start, lines, st):
     body = ' ∷\n    '.join(lines + ['[]'])
     gives = f'given {name}-start {name}-lines ≡ wanted {name}-lines'
     last = f'after {name}-start {name}-lines'
+    count = len(st.nodes) + 1
+    nodes = f'map (readNode ({last})) (below {count}) ≡ {items(node(st, n) for n in range(count))}'
     return f'''{name}-start : State
 {name}-start = {start}
 
@@ -234,9 +247,9 @@ def case(name, start, lines, st):
 {name}-lines =
     {body}
 
-{name} : ({gives}) × ({last} ≡ {state(st)}) × (stateSound ({last}) ≡ {truth(not M.sound(st))})
-unfolding everything edge given wanted after {name}-start {name}-lines
-{name} = (refl, refl, refl)
+{name} : ({gives}) × ({last} ≡ {state(st)}) × (stateSound ({last}) ≡ {truth(not M.sound(st))}) × ({nodes})
+unfolding everything edge given wanted after nodeTold readNode {name}-start {name}-lines
+{name} = (refl, refl, refl, refl)
 
 {name}-read : map (looked ({last})) {nats(range(st.V))} ≡ {looks(st)}
 unfolding everything edge after {name}-start {name}-lines looked
@@ -341,7 +354,8 @@ def main():
     os.makedirs(specs, exist_ok=True)
     os.makedirs(os.path.join(top, 'crates', 'trial', 'src'), exist_ok=True)
     open(os.path.join(top, 'crates', 'trial', 'src', 'lib.rt'), 'w').write('// Tests only.\n')
-    open(os.path.join(top, 'crates.txt'), 'a').write('trial: graph open_graph pass update_length growth calls records\n')
+    deps = 'graph open_graph pass update_length growth calls records dual_module_node'
+    open(os.path.join(top, 'crates.txt'), 'a').write(f'trial: {deps}\n')
     open(os.path.join(specs, 'Lib.antt'), 'w').write('-- Tests.\n' + ''.join(f'pub mod {m}\n' for m in modules))
     for m, text in modules.items(): open(os.path.join(specs, m + '.antt'), 'w').write(text)
     run = subprocess.run(['rt', 'check', 'trial'], cwd=top, capture_output=True, text=True)

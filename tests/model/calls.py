@@ -226,12 +226,34 @@ def contacts(st):
     return [e for e in range(st.E) if st.growth[2 * e] + st.growth[2 * e + 1] == st.weight[e]]
 
 
+def inner(st, e):
+    """Whether one node holds both sides of an edge: the node itself, not the blossom that it lies in."""
+    return st.holder[2 * e] != NONE and st.holder[2 * e] == st.holder[2 * e + 1]
+
+
+def gap(st, e):
+    """What is left of an edge."""
+    if not 0 <= e < st.E:
+        return ('refused', 3)
+    left = st.weight[e] - st.growth[2 * e] - st.growth[2 * e + 1]
+    return ('inner',) if inner(st, e) else ('over', -left) if left < 0 else ('gap', left)
+
+
 def representative(st, n):
     if bad_node(st, n):
         return ('refused', 3)
     while st.nodes[n].vertex == NONE:
         n = st.nodes[n].first
     return ('vertex', st.nodes[n].vertex)
+
+
+def read_node(st, n):
+    """What it stands for, its grow state, its parent or NONE, its dual variable."""
+    if bad_node(st, n):
+        return ('refused', 3)
+    node = st.nodes[n]
+    what = ('blossom', node.first) if node.vertex == NONE else ('defect', node.vertex)
+    return (*what, node.state, node.parent, node.dual)
 
 
 def clear(st):

@@ -71,6 +71,36 @@ class Calls(unittest.TestCase):
         pair.grow(2, 2)
         self.assertEqual(pair.advance(1), cg.Conflict(0, 0, 2, 2))
 
+    def test_reading_a_node(self):
+        m = cg.DualModule(4, [(0, 1, 4), (1, 2, 4), (0, 2, 4), (2, 3, 20)], virtual=[3])
+        m.insert_syndrome([1, 1, 1])
+        self.assertEqual(m.advance(2), cg.Moved(2))
+        self.assertEqual(m.read_node(2), cg.Node(2, 2, None, 1, None, 2))
+        blossom = m.insert_blossom([1, 2, 0], cg.GrowState.GROW)
+        self.assertEqual(m.advance(blossom), cg.Moved(18))
+        self.assertEqual(m.call('read_node', blossom), cg.NodeRead(None, 1, 1, None, 18))
+        self.assertEqual(m.call('read_node', 2), cg.NodeRead(2, None, 0, 3, 2))
+        said = [str(m.call('read_node', n)) for n in (3, 2, 4)]
+        self.assertEqual(said, ['blossom 1 1 -1 18', 'defect 2 0 3 2', 'refused 3'])
+        m.set_grow_state(blossom, cg.GrowState.SHRINK)
+        self.assertEqual(m.advance(blossom), cg.Moved(-18))
+        self.assertEqual(m.read_node(blossom).dual, 0)
+        self.assertEqual([m.block.node(n) for n in range(4)], [m.read_node(n) for n in range(4)])
+        self.refused(3, m.read_node, -1)
+        self.refused(3, m.advance, 4)
+        m.words[0] = 3  # a stored size that is not the block's
+        self.refused(1, m.read_node, 0)
+
+    def test_the_gap_of_an_edge(self):
+        m = graph_p()
+        self.assertEqual([m.gap(e) for e in range(3)], [cg.Left(4)] * 3)
+        m.insert_syndrome([0, 1, 1, 0])
+        m.grow(0, 3)
+        self.assertEqual([m.gap(e) for e in range(3)], [cg.Left(1), cg.Left(1), cg.Left(4)])
+        self.assertEqual([str(a) for a in (cg.Left(1), cg.Inner(), cg.Over(2))], ['gap 1', 'inner', 'over 2'])
+        self.refused(3, m.gap, 3)
+        self.refused(3, m.gap, -1)
+
     def test_all_clusters(self):
         m = graph_p()
         self.assertEqual((m.active_list(), m.group_max_update_length()), ([], cg.Unlimited(False)))
@@ -111,7 +141,8 @@ class Calls(unittest.TestCase):
         m.remove_blossom(blossom)
         self.assertEqual(m.read_table(), before)
         self.assertEqual([m.read_node(n).parent for n in circle], [None] * 3)
-        self.assertTrue(m.read_node(blossom).removed)
+        self.refused(3, m.read_node, blossom)
+        self.assertTrue(m.block.node(blossom).removed)
         self.assertEqual((m.active_list(), m.node_count()), ([0, 1, 2, 3], 4))
         m.renew_active_list()
         self.assertEqual(m.active_list(), [])

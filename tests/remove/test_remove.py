@@ -180,7 +180,7 @@ class Opening(Removed):
             with self.assertRaises(cg.Refused) as caught:
                 getattr(m, call)(*values)
             self.assertEqual(caught.exception.number, 8 if call == 'insert_blossom' else 5)
-        self.assertEqual([m.read_node(n).removed for n in range(203)], [False] * 3 + [True] * 200)
+        self.assertEqual([m.block.node(n).removed for n in range(203)], [False] * 3 + [True] * 200)
         self.assertEqual({m.words[m.block.rows['class'].start + n] for n in range(3, 203)}, {4 + REMOVED})
         m.clear()
         self.assertEqual(m.insert_blossom(m.insert_syndrome([1, 1, 1])), 3)

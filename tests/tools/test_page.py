@@ -48,6 +48,13 @@ class Page(InFolder):
         self.assertEqual(set(re.findall(r'https?://[^\s"\'`<]+', page)), {'http://www.w3.org/2000/svg'})
         self.assertIn("default-src 'none'", page)
 
+    def test_an_inner_edge_is_called_so(self):
+        out = self.path('page.html')
+        self.assertEqual(card('page', 'examples/p9.txt', '-o', out), (0, '', ''))
+        steps = data_of(out)['steps']
+        self.assertEqual(dict(map(tuple, steps[2]['gap']))[2], 'inner')
+        self.assertEqual(steps[2]['growth'][-3:], [[4, 3], [5, 3], [6, 3]])
+
     def test_steps_have_answers_and_changes(self):
         out = self.path('page.html')
         self.assertEqual(card('page', 'examples/p1.txt', '-o', out), (0, '', ''))
@@ -56,6 +63,8 @@ class Page(InFolder):
             [s['answer'][0] for s in steps[:6]], ['node 0', 'node 1', 'free 2 0', 'done', 'done', 'conflict 1 1 0 0']
         )
         self.assertEqual(steps[3]['growth'], [[1, 2], [2, 2]])
+        self.assertEqual(steps[3]['gap'], [[0, 'gap 2'], [1, 'gap 2']])
+        self.assertEqual(steps[4]['gap'], [[1, 'gap 0'], [2, 'gap 2']])
         self.assertEqual(steps[5]['words'], 'node 1 and node 0 touch at edge 1')
         self.assertEqual(steps[4]['nodes'], [[1, [2, None, 1, 0, 2]]])
 

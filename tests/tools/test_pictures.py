@@ -55,6 +55,7 @@ class Pictures(InFolder):
         self.assertEqual(one[1][-1], two[0][0])  # they meet
         over = bars(content('examples', 'p9.svg'), colours.OVER)
         self.assertEqual(length(over[0]), length(over[1]))
+        self.assertIn('2, inner', words(content('examples', 'p9.svg')))
 
     def test_odd_graphs(self):
         title = '# a < b & "c" \x1b]]>\n'

@@ -117,6 +117,31 @@ class Answers(unittest.TestCase):
         self.assertIn('halved gap 0 between node 0 and node 1', said)
 
     @needs_library
+    def test_a_node_is_read(self):
+        given = P + 'defect 1 grow; defect 2 grow; node 0; advance 0; node 0 → defect 1 1 -1 2; node 2 → refused 3'
+        status, said, wrong = card('run', '-', given=given)
+        self.assertEqual((status, wrong), (0, ''))
+        self.assertIn('run by the library', said)
+        told = [f'defect 1 1 -1 {y}   vertex 1, grow, dual variable {y}' for y in (0, 2)]
+        self.assertEqual(re.findall(r'node 0 +→ (.*)', said), told)
+        given = 'graph 4 4\nedge 0 1 4; edge 1 2 4; edge 0 2 4; edge 2 3 20\nvirtual 3\n'
+        given += 'defect 0 grow; defect 1 grow; defect 2 grow; blossom grow 1 2 0; advance 3; node 3; node 0'
+        status, said, _ = card('run', '-', given=given)
+        self.assertEqual(status, 0)
+        self.assertRegex(said, 'advance 3 +→ done +grew by 20')
+        self.assertRegex(said, 'node 3 +→ blossom 1 1 -1 20 +first member 1, grow, dual variable 20')
+        self.assertRegex(said, 'node 0 +→ defect 0 0 3 0 +vertex 0, stay, in blossom 3, dual variable 0')
+
+    @needs_library
+    def test_the_gap_of_an_edge(self):
+        given = content('examples', 'p9.txt').decode() + 'gap 2 → inner; gap 3 → gap 17; gap 4 → refused 3\n'
+        status, said, wrong = card('run', '-', given=given)
+        self.assertEqual((status, wrong), (0, ''))
+        self.assertRegex(said, 'gap 2 +→ inner +1-2: one node holds both sides')
+        self.assertRegex(said, 'gap 3 +→ gap 17 +2-3: 17 of 20 left')
+        self.assertEqual(card('run', '-', given=P + 'gap 1 → gap 4')[0], 0)
+
+    @needs_library
     def test_advance_tells_by_how_much(self):
         said = card(
             'run', '-', given=P + 'defect 1 grow; advance 0; state 0 shrink; advance 0; state 0 stay; advance 0'

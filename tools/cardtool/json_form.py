@@ -2,7 +2,7 @@
 import json
 
 from . import package  # noqa: F401
-from cluster_growth import decimal, ten_thousandths
+from cluster_growth import Node, Refused, decimal, ten_thousandths
 
 from .faults import BadInput
 from .plain import short
@@ -183,6 +183,15 @@ def node_of(node):
     }
 
 
+def nodes_of(module):
+    """The nodes as the library reads them; of a blossom that was opened there is nothing to read."""
+    for n in range(module.node_count()):
+        try:
+            yield node_of(module.read_node(n))
+        except Refused:
+            yield node_of(Node(n, None, None, 0, None, 0))
+
+
 def run_of(run):
     """A run as JSON: the script, each call with its answer, and nodes and table as the last call left them."""
     out = {**graph_of(run.script), 'run_by': run.by, 'refused': run.refused, 'calls': []}
@@ -199,6 +208,5 @@ def run_of(run):
     if not run.refused:
         out['table'] = [[e, left, right] for e, (left, right) in enumerate(run.table())]
     if run.made and run.made.module:
-        module = run.made.module
-        out['node_list'] = [node_of(module.read_node(n)) for n in range(module.node_count())]
+        out['node_list'] = list(nodes_of(run.made.module))
     return out

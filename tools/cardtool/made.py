@@ -74,14 +74,9 @@ def touching(module, item, said):
     """Where two nodes of a conflict come nearest: (edge, gap), from the boundary of the node that was asked."""
     node = item.fields[0]
     peer, block = int(said.split()[1]), module.block
-    holder, growth, weight = (block.rows[r].start for r in ('holder', 'growth', 'weight'))
-    gaps = []
-    for s in block.boundary(node):
-        if block.words[holder + (s ^ 1)] == peer + 1:
-            gaps.append(
-                (block.words[weight + s // 2] - block.words[growth + s] - block.words[growth + (s ^ 1)], s // 2)
-            )
-    return min(gaps, default=(None, None))[::-1]
+    holder = block.rows['holder'].start
+    edges = [s // 2 for s in block.boundary(node) if block.words[holder + (s ^ 1)] == peer + 1]
+    return min(((module.gap(e).gap, e) for e in edges), default=(None, None))[::-1]
 
 
 class Made:
@@ -110,8 +105,7 @@ class Made:
     def make(self, item):
         """Makes one call."""
         module, block = self.module, self.module.block
-        node = item.fields[0] if item.word == 'advance' and 0 <= item.fields[0] < block.count() else None
-        before = block.dual(node) if node is not None else 0
+        before = module.call('read_node', item.fields[0]) if item.word == 'advance' else None
         if item.word == 'open-blossom':
             members = [n for n in range(block.count()) if block.node(n).parent == item.fields[0]]
         if self.book is not None:
@@ -121,7 +115,7 @@ class Made:
             self.book.after(item, said)
         if item.word == 'open-blossom' and said == ['done']:
             self.outermost[item.number] = members
-        if node is not None and said == ['done']:
-            self.moved[item.number] = block.dual(node) - before
+        if before is not None and said == ['done']:
+            self.moved[item.number] = module.read_node(item.fields[0]).dual - before.dual
         if said and said[0].startswith('conflict') and int(said[0].split()[3]) == item.fields[0]:
             self.meets[item.number] = touching(module, item, said[0])

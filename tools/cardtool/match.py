@@ -13,13 +13,13 @@ MANY = 40  # edges that are named
 
 
 class Recorder(DualModule):
-    """A module that notes its calls, with their answers."""
+    """A module that notes its calls, with their answers; a node that is read is no call of the run."""
 
     log = None
 
     def call(self, name, *values):
         answer = super().call(name, *values)
-        if self.log is not None:
+        if self.log is not None and name != 'read_node':
             self.log.append((name, [int(v) for v in values], str(answer)))
         return answer
 

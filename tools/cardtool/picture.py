@@ -7,6 +7,7 @@ from . import colours, legend
 from .colours import GRID, INK, LINE, OVER
 from .nests import outlines
 from .scene import Scene
+from .sentences import left
 from .svg import Svg, room
 
 LEGIBLE = 4.0  # the smallest letters, in pixels
@@ -135,7 +136,10 @@ class Picture:
                     OVER if e in self.over else self.colour(e, end)[1],
                     ' font-weight="bold"',
                 )
-        words = f'{weight}' if e not in self.over else f'{gl} + {gr} > {weight}'
+        words = f'{weight}'
+        if e in self.over:
+            known = self.standing.gaps.get(e)
+            words = f'{gl} + {gr} > {weight}' if known is None else f'{weight}, {left(known)}'
         if scene.paper or gl or gr:
             self.put_label(
                 self.spots_beside(

@@ -1,9 +1,9 @@
 """Answers in words."""
 from . import package  # noqa: F401
-from cluster_growth import sentence
+from cluster_growth import Inner, Left, Over, sentence
 
 from .plain import many
-from .words import DIRECTIONS
+from .words import DIRECTIONS, STATES
 
 
 def node(n, defect):
@@ -37,11 +37,29 @@ def opened(run, item):
     return f"nodes {', '.join(map(str, members))} are outermost again"
 
 
+def read(name, x):
+    """A node that was read."""
+    what = f'vertex {x[0]}' if name == 'defect' else f'first member {x[0]}'
+    return f'{what}, {STATES[x[1]]}, ' + (f'in blossom {x[2]}, ' if x[2] >= 0 else '') + f'dual variable {x[3]}'
+
+
 def edge(run, name, x):
     if x[0] >= len(run.graph.edges):
         return ''
     left, right, weight = run.graph.edges[x[0]]
     return f'{left}-{right}: ' + (f'{x[1]} and {x[2]} of {weight}' if name == 'edge' else 'full')
+
+
+def left(gap):
+    """The gap of an edge in words."""
+    return {Inner: 'inner', Over: 'over by {0.excess}', Left: 'gap {0.gap}'}[type(gap)].format(gap)
+
+
+def gap(run, item, name, x):
+    """What the gap of an edge says."""
+    a, b, weight = run.graph.edges[item.fields[0]]
+    said = {'inner': 'one node holds both sides', 'over': 'past the weight {1} by {0}', 'gap': '{0} of {1} left'}
+    return f'{a}-{b}: ' + said[name].format(*x, weight)
 
 
 def group_free(x):
@@ -70,6 +88,10 @@ def words(run, item, answer):
         return f"{many(x[0], 'conflict')} and {many(x[1], 'stop')}"
     if name == 'refused':
         return 'an ill-formed record: ' + item.reason if item.reason else sentence(x[0])
+    if name in ('defect', 'blossom'):
+        return read(name, x)
+    if name in ('inner', 'over', 'gap'):
+        return gap(run, item, name, x)
     if name in ('edge', 'contact'):
         return edge(run, name, x)
     if name == 'done':

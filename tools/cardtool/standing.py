@@ -2,19 +2,21 @@
 from typing import Dict, List, NamedTuple, Optional, Tuple
 
 from . import package  # noqa: F401
-from cluster_growth import Node
+from cluster_growth import Gap, Node
 
 
 class Standing(NamedTuple):
-    """Growths of each edge; the outermost node that holds each side and each vertex, or None; the nodes.
+    """Growths of each edge; the outermost node that holds each side and each vertex, or None; the nodes; the gap of
+    each edge with growth.
 
-    Without the library nobody is known to hold.
+    Without the library nobody is known to hold, and no gap is known.
     """
 
     growths: List[Tuple[int, int]]
     holders: List[Tuple[Optional[int], Optional[int]]]
     vertex_holders: List[Optional[int]]
     nodes: List[Node]
+    gaps: Dict[int, Gap]
 
     def defects(self) -> Dict[int, int]:
         """The vertex of each defect node."""
@@ -39,6 +41,7 @@ def of_module(module):
         list(zip(holder[::2], holder[1::2])),
         [outer[h] for h in block.row('vertex_holder')],
         [block.node(n) for n in range(block.count())],
+        {e: module.gap(e) for e in range(len(module.edges)) if growth[2 * e] or growth[2 * e + 1]},
     )
 
 
@@ -61,4 +64,4 @@ def of_run(run):
                 for n in nodes
             ]
             nodes.append(Node(number, None, i.fields[1], i.fields[0], None, 0))
-    return Standing(table, [(None, None)] * len(table), [None] * run.graph.V, nodes)
+    return Standing(table, [(None, None)] * len(table), [None] * run.graph.V, nodes, {})

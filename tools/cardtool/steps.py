@@ -1,6 +1,6 @@
 """What each call of a run changed in the block: the steps of the page."""
 from .plain import short
-from .sentences import words
+from .sentences import left, words
 
 MOST_LINES = 12  # of an answer
 NODE_ROWS = ('class', 'state', 'parent', 'dual')
@@ -46,6 +46,7 @@ class Steps:
         touched = {n for name in NODE_ROWS for n, _ in changed[name] if n < block.count()} | set(
             range(self.count, block.count())
         )
+        edges = {s // 2 for name in ('growth', 'holder') for s, _ in changed[name]}
         gone = range(block.count(), self.count)
         self.count = block.count()
         row = lambda n: [n.vertex, n.first_member, n.state, 0 if n.parent is None else n.parent + 1, n.dual]
@@ -54,6 +55,7 @@ class Steps:
                 'item': item,
                 'growth': changed['growth'],
                 'holder': changed['holder'],
+                'gap': [(e, left(module.gap(e))) for e in sorted(edges)],
                 'spot': changed['vertex_holder'],
                 'nodes': [(n, row(block.node(n))) for n in sorted(touched)] + [(n, None) for n in reversed(gone)],
             }

@@ -4,8 +4,8 @@
     defect VERTEX STATE        blossom STATE NODE NODE ...  state NODE STATE
     prepare NODE DIRECTION     length NODE DIRECTION        length NODE DIRECTION prepared
     grow NODE LENGTH           advance NODE                 representative NODE
-    open-blossom NODE          round LENGTH                 group, prepare_all, renew
-    table, contacts, clear
+    node NODE                  gap EDGE                     open-blossom NODE
+    round LENGTH               group, prepare_all, renew    table, contacts, clear
     at VERTEX X Y [LAYER]      observable NUMBER EDGE ...
     sheet DECIMAL ...          bytes HEX...
 

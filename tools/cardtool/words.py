@@ -51,6 +51,8 @@ CALLS = {
     'clear': Word((), 13, 'clear'),
     'open-blossom': Word(('node',), None, 'remove_blossom'),
     'representative': Word(('node',), None, 'representative_vertex'),
+    'node': Word(('node',), None, 'read_node'),
+    'gap': Word(('edge',), None, 'gap'),
     'renew': Word((), None, 'renew_active_list'),
     'prepare_all': Word((), None, 'prepare_all'),
     'group': Word((), None, 'group_max_update_length'),

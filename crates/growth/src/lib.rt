@@ -5,9 +5,9 @@ ghost use mathlib.Core.Bool.{true};
 ghost use mathlib.Core.List.{map};
 ghost use lib.Dec.{ltb};
 ghost use Rattle.graph.specs.Word.{toNat, wordLimit};
-ghost use Prim.Native.Nat.{_<_, _≤_};
+ghost use Prim.Native.Nat.{_+_, _<_, _≤_};
 ghost use Rattle.graph.specs.Basic.{all, any, fold};
-ghost use Rattle.graph.specs.State.{sideCount, nodeCount, boundaryOf, overgrownOf, growthAt, withOvergrown};
+ghost use Rattle.graph.specs.State.{sideCount, nodeCount, boundaryOf, overgrownOf, growthAt, grownOver, weightOver, withOvergrown};
 ghost use Rattle.graph.specs.Node.{Movable, moved, withTop};
 ghost use Rattle.graph.specs.Layout.{stateOf};
 ghost use Rattle.graph.specs.Form.{Formed};
@@ -15,6 +15,7 @@ ghost use Rattle.graph.specs.inner.Form.{Becomes, sidesOk};
 ghost use Rattle.graph.specs.inner.Readable.{Readable};
 ghost use Rattle.growth.specs.Growth.{passesWeight, growCheck, moveSide, growApply};
 ghost use Rattle.growth.specs.inner.Moving.{numberRefuses, nodeRefuses, sideRefuses, refuses, moveNode, SidesMovable, TopPut, Growing};
+use gap::Gap;
 use graph::dual_node;
 use graph::dual_node::DualNode;
 use graph::dual_node::UP;
@@ -27,15 +28,31 @@ use graph::words;
 
 // ---- what refuses it
 
-// Whether growing side s by l passes the weight of its edge, which node n does not hold on both sides.
+// Whether growing side s by l passes the weight of its edge.
+fn passes_inner(b: &[i64], l: usize, s: usize) -> bool
+    requires { ⌜ Formed (now b) × Readable (stateOf (now b)) × (l ≤ wordLimit) × (s < sideCount (stateOf (now b))) ⌝ }
+    ensures { λ r. ⌜ r ≡ ltb (weightOver (stateOf (now (b .entry))) s) (grownOver (stateOf (now (b .entry))) s + l) ⌝ }
+{
+    let o = side::opposite(s);
+    let grown = side::growth(b, s) + side::growth(b, o) + l;
+    edge::weight(b, s / 2) < grown
+}
+
+// The same of an edge that node n does not hold on both sides, by its gap where it is not inner.
 fn passes_weight(b: &[i64], n: usize, l: usize, s: usize) -> bool
     requires { ⌜ Formed (now b) × Readable (stateOf (now b)) × (n < nodeCount (stateOf (now b))) × (l ≤ wordLimit)
         × (s < sideCount (stateOf (now b))) ⌝ }
     ensures { λ r. ⌜ r ≡ passesWeight (stateOf (now (b .entry))) n l s ⌝ }
 {
     let o = side::opposite(s);
-    let grown = side::growth(b, s) + side::growth(b, o) + l;
-    (side::holder(b, o) != n + 1) & (edge::weight(b, s / 2) < grown)
+    if side::holder(b, o) == n + 1 {
+        return false;
+    }
+    match gap::edge_gap(b, s / 2) {
+        Gap::Inner => passes_inner(b, l, s),
+        Gap::Over(_) => true,
+        Gap::Left(x) => x < l,
+    }
 }
 
 // Whether side s calls for refusal k: 10, 12, or else 11.

@@ -7,12 +7,15 @@ use mathlib.Core.List.{List, [], _∷_}
 use lib.IntN.{ℤ, pos}
 use lib.ListN.{length}
 use Rattle.graph.specs.Basic.{member, distinct}
-use Rattle.graph.specs.State.{State, removed, opposite, vertexCount, sideCount, nodeCount, endAt, sidesAt, growthAt, holderAt, vertexHolderAt, defectAt, virtualAt, parentOf, classOf, growStateOf, dualOf, boundaryOf, overgrownOf, grownOver, weightOver, stay, down}
+use Rattle.graph.specs.State.{State, removed, opposite, vertexCount, sideCount, nodeCount, endAt, sidesAt, growthAt, holderAt, vertexHolderAt, defectAt, virtualAt, parentOf, classOf, growStateOf, dualOf, boundaryOf, overgrownOf, grownOver, weightOver, stay, down, edgeCount}
 use Rattle.graph.specs.Open.{Edge, opened, openRefusal}
 use Rattle.graph.specs.Sound.{entries, sound, stateSound}
 use Rattle.graph.specs.laws.Shape.{sound-entries, sound-active}
 use Rattle.graph.specs.Shape.{Shape}
 use Rattle.graph.specs.laws.Active.{active-once}
+use Rattle.gap.specs.declared.Gap.the-variants.{Over}
+use Rattle.gap.specs.Gap.{edgeGap}
+use Rattle.reachable.specs.laws.Gap.{over-never}
 use Rattle.pass.specs.Prepare.{prepareNode}
 use Rattle.update_length.specs.declared.Answer.the-variants.{Done, Refused}
 use Rattle.update_length.specs.Answer.{says}
@@ -119,6 +122,10 @@ module _ (c : State) (r : Reachable c) where
   -- an edge passes its weight only where one node holds both its sides
   pub edge-within-weight : (s : ℕ) → s < sideCount c → (grownOver c s ≤ weightOver c s) ⊎ ((holderAt c s ≢ 0) × (holderAt c (opposite s) ≡ holderAt c s))
   edge-within-weight = reachable-invariant c r .clusters .global .within-weight
+
+  -- so the gap of an edge is never over
+  pub gap-never-over : (e x : ℕ) → e < edgeCount c → Over x ≡ edgeGap c e → ⊥
+  gap-never-over = over-never c (reachable-invariant c r .shape .end) edge-within-weight
 
   -- in either case its two growths differ by at most its weight
   pub growths-differ : (s : ℕ) → s < sideCount c → growthAt c s ≤ growthAt c (opposite s) + weightOver c s

@@ -33,3 +33,5 @@ pub mod Length
 pub mod Facts
 pub mod Occupied
 pub mod WithoutBlossoms
+-- the gap of an edge
+pub mod Gap

@@ -15,10 +15,12 @@ use Rattle.c_api.specs.Words.{answerNumbers, openNumbers, countNumbers, shortLi
 use Rattle.c_api.specs.Told.{OpenTold, DefectTold, BlossomTold, StateTold, PrepareTold, LengthTold, GrowTold, AdvanceTold, ClearTold, VertexTold, TableTold, ContactsTold}
 use Rattle.reachable.specs.Reachable.{after}
 use Rattle.table_theorem.specs.History.{History, historyAfter, noBlossoms}
-use Rattle.table_claim.specs.Lent.{LentCall, lentOpen, lentDefect, lentBlossom, lentState, lentPrepare, lentLength, lentGrow, lentTable, lentAdvance, lentContacts, lentVertex, lentClear, Returned, opening, returns, returnsList, returnsCount, lentSheet, openingSheet, lentRenew, lentPrepareAll, lentGroup, lentRound, lentRemove, returnsGroup}
+use Rattle.table_claim.specs.Lent.{LentCall, lentOpen, lentDefect, lentBlossom, lentState, lentPrepare, lentLength, lentGrow, lentTable, lentAdvance, lentContacts, lentVertex, lentClear, Returned, opening, returns, returnsList, returnsCount, lentSheet, openingSheet, lentRenew, lentPrepareAll, lentGroup, lentRound, lentRemove, returnsGroup, lentNode, returnsNode, lentGap, returnsGap}
 use Rattle.c_api_sheet.specs.Told.{sheetNumbers, SheetTold}
 use Rattle.c_api_round.specs.Told.{groupNumbers, RenewTold, PrepareAllTold, RoundTold, GroupTold}
 use Rattle.c_api_remove.specs.Told.{RemoveTold}
+use Rattle.c_api_node.specs.Told.{readNodeNumbers, ReadNodeTold}
+use Rattle.c_api_gap.specs.Told.{gapNumbers, GapTold}
 use Rattle.table_claim.specs.Run.{Sizes, fedOne, fed, returned}
 
 -- the list says done: it has room for an answer, and in front the number of that case, 7
@@ -78,6 +80,10 @@ pub data HostStep (b : List ℤ) : LentCall → List ℕ → Reported → List �
       → HostStep b (lentRound s t l) list (record { told = list'; count = k; words = [] }) b'
   fb-remove-blossom : {t b' t' : List ℤ} {n k : ℕ} {list list' : List ℕ} → RemoveTold b t n b' t' list list' k
       → HostStep b (lentRemove t n) list (record { told = list'; count = k; words = [] }) b'
+  fb-read-node : {t : List ℤ} {n k : ℕ} {list list' : List ℕ} → ReadNodeTold b t n list list' k
+      → HostStep b (lentNode t n) list (record { told = list'; count = k; words = [] }) b
+  fb-gap : {t : List ℤ} {e k : ℕ} {list list' : List ℕ} → GapTold b t e list list' k
+      → HostStep b (lentGap t e) list (record { told = list'; count = k; words = [] }) b
   -- the entries are numbers, told as words
   fb-group-max-update-length : {s t b' s' t' : List ℤ} {entries entries' : List ℕ} {k : ℕ} {list list' : List ℕ}
       → GroupTold b s t entries b' s' t' entries' list list' k
@@ -113,6 +119,8 @@ numbersIn (returns a) = answerNumbers a
 numbersIn (returnsList a words) = answerNumbers a
 numbersIn (returnsCount a k words) = countNumbers a k
 numbersIn (returnsGroup g entries) = groupNumbers g
+numbersIn (returnsNode a) = readNodeNumbers a
+numbersIn (returnsGap a) = gapNumbers a
 numbersIn (openingSheet a edges) = sheetNumbers a
 
 -- and the words of the list that was lent to it, if any
@@ -122,6 +130,8 @@ wordsIn (returns a) = []
 wordsIn (returnsList a words) = words
 wordsIn (returnsCount a k words) = words
 wordsIn (returnsGroup g entries) = map pos entries
+wordsIn (returnsNode a) = []
+wordsIn (returnsGap a) = []
 wordsIn (openingSheet a edges) = edges
 
 -- the words of that list before the call
@@ -144,6 +154,8 @@ lentWords (lentPrepareAll s t) = []
 lentWords (lentGroup s t entries) = map pos entries
 lentWords (lentRound s t l) = []
 lentWords (lentRemove t n) = []
+lentWords (lentNode t n) = []
+lentWords (lentGap t e) = []
 
 -- what the host has after a call in state c: the answer of the definitions, or what a list without room for it is told
 unfoldable pub reported : Sizes → State → LentCall → List ℕ → Reported

@@ -14,6 +14,10 @@ use Rattle.sheet.specs.Called.{SheetCalled}
 use Rattle.calls.specs.declared.group.GroupMaxUpdateLength.{GroupMaxUpdateLength}
 use Rattle.dual_module_round.specs.Called.{RenewCalled, PrepareAllCalled, RoundCalled, GroupCalled}
 use Rattle.dual_module_remove.specs.Called.{RemoveCalled}
+use Rattle.dual_module_node.specs.declared.NodeRead.{NodeRead}
+use Rattle.dual_module_node.specs.ReadNode.{ReadNodeCalled}
+use Rattle.dual_module_gap.specs.declared.GapAnswer.{GapAnswer}
+use Rattle.dual_module_gap.specs.GapRead.{GapRead}
 
 -- a call with all that it is given beside the block: the scratch t first, numbers, and the words of other lent lists
 pub data LentCall : Type 0 where
@@ -35,6 +39,8 @@ pub data LentCall : Type 0 where
   lentGroup : (second t : List ℤ) (entries : List ℕ) → LentCall
   lentRound : (second t : List ℤ) (by : ℤ) → LentCall
   lentRemove : (t : List ℤ) (node : ℕ) → LentCall
+  lentNode : (t : List ℤ) (node : ℕ) → LentCall
+  lentGap : (t : List ℤ) (edge : ℕ) → LentCall
 
 -- what the host gets from a call
 pub data Returned : Type 0 where
@@ -43,6 +49,8 @@ pub data Returned : Type 0 where
   returnsList : Answer → List ℤ → Returned  -- and what its lent list holds then
   returnsCount : Answer → ℕ → List ℤ → Returned  -- and how many of its words were written
   returnsGroup : GroupMaxUpdateLength → List ℕ → Returned  -- of the group: its answer, and what its lent entries hold then
+  returnsNode : NodeRead → Returned  -- of a node that is read
+  returnsGap : GapAnswer → Returned  -- of the gap of an edge
   openingSheet : SheetOpened → List ℤ → Returned  -- of an opening from a sheet: its answer, and what the edges hold then
 
 -- From the block b a call leads to the block b', and the host gets r. Reading leaves the block. An opening among the calls is one that is
@@ -73,6 +81,8 @@ pub data Step (b : List ℤ) : LentCall → Returned → List ℤ → Type 0 whe
       → Step b (lentGroup s t entries) (returnsGroup g entries') b'
   round : {s t b' s' t' : List ℤ} {l : ℤ} {a : Answer} → RoundCalled b s t l b' s' t' a → Step b (lentRound s t l) (returns a) b'
   remove-blossom : {t b' t' : List ℤ} {n : ℕ} {a : Answer} → RemoveCalled b t n b' t' a → Step b (lentRemove t n) (returns a) b'
+  read-node : {t : List ℤ} {n : ℕ} {a : NodeRead} → ReadNodeCalled b t n a → Step b (lentNode t n) (returnsNode a) b
+  edge-gap : {t : List ℤ} {e : ℕ} {a : GapAnswer} → GapRead b t e a → Step b (lentGap t e) (returnsGap a) b
 
 -- ---- lists of calls
 

@@ -1,5 +1,5 @@
 -- Graph P in words, as a protocol: an opening, a defect at vertex 1, the same call again with a scratch of no words, another opening that is
--- refused, a growth by 2, and the table that is read then. So the claim's lists of calls on lent memory are there, and tables that are not zero.
+-- refused, a growth by 2, node 0 and the table that are read then. So the claim's lists of calls on lent memory are there, and tables that are not zero.
 use Prim.Native.Nat.{ℕ}
 use native.Mathlib.Omega.{arith}
 use mathlib.Core.Path.{_≡_, refl, sym, _∙_}
@@ -18,12 +18,17 @@ use Rattle.dual_module.specs.Called.{DefectCalled, GrowCalled, TableRead}
 use Rattle.c_api.specs.Words.{answerNumbers, openAnswer, shortList, shortCount}
 use Rattle.c_api.specs.Told.{OpenTold, DefectTold, GrowTold, TableTold}
 use Rattle.table_claim.specs.Opens.{everythingLent}
-use Rattle.table_claim.specs.Lent.{lentBlossom, open-refused, insert-defect, grow, none, next}
+use Rattle.table_claim.specs.Lent.{lentBlossom, open-refused, insert-defect, grow, none, next, read-node}
 use Rattle.table_claim.specs.Run.{fed, LentRun, runSizes, runStart, runCalls, historyBy, lentHistory, WithoutBlossoms}
+use Rattle.dual_module_node.specs.declared.NodeRead.the-variants.{Defect}
+use Rattle.dual_module_node.specs.ReadNode.{nodeTold, readNode, readUnless, ReadNodeCalled}
+use Rattle.c_api_node.specs.Told.{readNodeNumbers, ReadNodeTold}
+use Rattle.table_theorem.specs.History.{entryAt}
 use Rattle.table_claim.specs.EveryRunTheorems.{protocol-tells-history}
 use Rattle.table_claim.specs.Carried.{carried}
-use Rattle.table_claim.specs.Hosted.{SaysDone, fb-insert-defect, fb-grow, no-more, one-more, HostRun, hostHistory, BlossomsRefused}
+use Rattle.table_claim.specs.Hosted.{SaysDone, fb-insert-defect, fb-grow, fb-read-node, no-more, one-more, HostRun, hostHistory, BlossomsRefused}
 use Rattle.table_claim.specs.Demand3.{afresh}
+use Rattle.table_claim.specs.Demand3Theorems.{read-dual-is-recorded, told-dual-is-recorded}
 use Rattle.table_claim.specs.ExampleTheorems.{demand-on-P}
 
 abbrev pub edges : List Edge
@@ -77,6 +82,11 @@ grown = record {
   scratch = refl;
 }
 
+-- node 0 is read: a defect at vertex 1, in Grow, in no blossom, of dual variable 2
+node-read : ReadNodeCalled (blockWith 2) scratch 0 (Defect 1 1 0 2)
+unfolding everythingLent readUnless readNode nodeTold
+node-read = refl
+
 -- refused 1, and nothing changed
 not-lent : DefectCalled (blockWith 0) [] 1 1 (blockWith 0) [] (Refused 1)
 unfolding everythingLent
@@ -113,7 +123,7 @@ run = record {
   opening-is = opening;
   exchanges = _;
   last = blockWith 2;
-  steps = next (insert-defect inserted) (next (insert-defect not-lent) (next (open-refused not-opened (λ e. absurd (omega arith))) (next (grow grown) none)));
+  steps = next (insert-defect inserted) (next (insert-defect not-lent) (next (open-refused not-opened (λ e. absurd (omega arith))) (next (grow grown) (next (read-node node-read) none))));
 }
 
 -- the definitions are asked the defect and the growth
@@ -133,6 +143,10 @@ history-is = sym (protocol-tells-history run) ∙ history-told
 blossomless : WithoutBlossoms run
 unfolding everythingLent
 blossomless = refl
+
+-- the dual variable that was read is that of the history
+dual-is : pos 2 ≡ entryAt (lentHistory run) 0 .y
+dual-is = read-dual-is-recorded run blossomless scratch 0 1 1 0 2 node-read
 
 table-read : TableRead (blockWith 2) scratch (words (zeros 6)) (words (0 ∷ 2 ∷ 2 ∷ 0 ∷ 0 ∷ 0 ∷ [])) Done
 unfolding everythingLent
@@ -180,6 +194,13 @@ grow-told : GrowTold (blockWith 0) scratch 0 (pos 2) (blockWith 2) scratch five 
 unfolding answerNumbers
 grow-told = record { short = λ h. absurd (omega arith); told = λ h. record { answer = Done; says = grown; tells = record { listed = refl; count = refl } } }
 
+node-told : ReadNodeTold (blockWith 2) scratch 0 five (15 ∷ 1 ∷ 1 ∷ 0 ∷ 2 ∷ []) 5
+unfolding readNodeNumbers
+node-told = record {
+  short = λ h. absurd (omega arith);
+  told = λ h. record { answer = Defect 1 1 0 2; says = node-read; tells = record { listed = refl; count = refl } };
+}
+
 table-told : TableTold (blockWith 2) scratch (words (zeros 6)) (words (0 ∷ 2 ∷ 2 ∷ 0 ∷ 0 ∷ 0 ∷ [])) five (7 ∷ 0 ∷ 0 ∷ 0 ∷ 0 ∷ []) 1
 unfolding answerNumbers
 table-told =
@@ -210,12 +231,16 @@ hostRun = record {
   done = says-done;
   exchanges = _;
   last = blockWith 2;
-  steps = one-more (fb-insert-defect defect-told) (one-more (fb-grow grow-not-made) (one-more (fb-grow grow-refused) (one-more (fb-grow grow-told) no-more)));
+  steps = one-more (fb-insert-defect defect-told) (one-more (fb-grow grow-not-made) (one-more (fb-grow grow-refused) (one-more (fb-grow grow-told) (one-more (fb-read-node node-told) no-more))));
 }
 
 all-refused : BlossomsRefused hostRun
 unfolding everythingLent
 all-refused = refl
+
+dual-told : pos 2 ≡ entryAt (hostHistory hostRun) 0 .y
+dual-told =
+    told-dual-is-recorded hostRun all-refused scratch 0 node-told (record { room = omega arith; first-is = refl })
 
 exported-table : words (0 ∷ 2 ∷ 2 ∷ 0 ∷ 0 ∷ 0 ∷ []) ≡ words (afresh 4 edges virtuals (hostHistory hostRun))
 exported-table =

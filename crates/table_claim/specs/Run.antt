@@ -20,7 +20,7 @@ use Rattle.calls.specs.Calls.{setGrowState, prepareDualNodeGrowth, maxUpdateLen
 use Rattle.reachable.specs.Reachable.{after}
 use Rattle.table_theorem.specs.Answers.{accepted, isDone}
 use Rattle.table_theorem.specs.History.{History, entryAt, withNodeState, withAdded, advanceLength, historyAfter, noBlossoms, withRound}
-use Rattle.table_claim.specs.Lent.{LentCall, lentOpen, lentDefect, lentBlossom, lentState, lentPrepare, lentLength, lentGrow, lentTable, lentAdvance, lentContacts, lentVertex, lentClear, Returned, opening, returns, returnsList, returnsCount, Exchange, Steps, lentSheet, openingSheet, lentRenew, lentPrepareAll, lentGroup, lentRound, lentRemove, returnsGroup}
+use Rattle.table_claim.specs.Lent.{LentCall, lentOpen, lentDefect, lentBlossom, lentState, lentPrepare, lentLength, lentGrow, lentTable, lentAdvance, lentContacts, lentVertex, lentClear, Returned, opening, returns, returnsList, returnsCount, Exchange, Steps, lentSheet, openingSheet, lentRenew, lentPrepareAll, lentGroup, lentRound, lentRemove, returnsGroup, lentNode, returnsNode, lentGap, returnsGap}
 use Rattle.sheet.specs.declared.SheetOpened.the-variants.{Opened, Refused as SheetRefused}
 use Rattle.sheet.specs.Sheet.{valuesFrom}
 use Rattle.sheet.specs.Called.{sheetRefusal, sheetAnswer, sheetEdges}
@@ -28,6 +28,10 @@ use Rattle.calls.specs.declared.group.GroupMaxUpdateLength.the-variants.{Refuse
 use Rattle.calls.specs.Remove.{removeBlossom}
 use Rattle.calls.specs.Round.{renewActiveList, prepareAll, groupLength, round}
 use Rattle.round.specs.Asked.{listedFrom}
+use Rattle.dual_module_node.specs.declared.NodeRead.the-variants.{Refused as nodeRefused}
+use Rattle.dual_module_node.specs.ReadNode.{readNode}
+use Rattle.dual_module_gap.specs.declared.GapAnswer.the-variants.{Refused as gapRefused}
+use Rattle.dual_module_gap.specs.GapRead.{gapTold}
 
 -- ---- lengths
 
@@ -80,6 +84,10 @@ fedOne z (lentPrepareAll s t) = ifFits (trialFits z s t) PrepareAll
 fedOne z (lentGroup s t entries) = ifFits (groupFits z s t entries) GroupLength
 fedOne z (lentRound s t l) = ifFits (trialFits z s t) (Round l)
 fedOne z (lentRemove t n) = ifFits (scratchFits z t) (RemoveBlossom n)
+-- a node that is read leaves the state: nothing is asked
+fedOne z (lentNode t n) = []
+-- a gap is read from the state, which stays
+fedOne z (lentGap t e) = []
 
 unfoldable pub fed : Sizes → List LentCall → List Call
 fed z [] = []
@@ -123,6 +131,8 @@ returned z c (lentGroup s t entries) =
     (if groupFits z s t entries then listedFrom 0 (groupLength c .listed) entries else entries)
 returned z c (lentRound s t l) = returns (orRefused (trialFits z s t) (round c l .answer))
 returned z c (lentRemove t n) = returns (orRefused (scratchFits z t) (removeBlossom c n .answer))
+returned z c (lentNode t n) = returnsNode (if scratchFits z t then readNode c n else nodeRefused 1)
+returned z c (lentGap t e) = returnsGap (if scratchFits z t then gapTold c e else gapRefused 1)
 
 -- of each call in turn, from state c on
 unfoldable pub returnedFrom : Sizes → State → List LentCall → List Returned
@@ -137,8 +147,10 @@ answerIn (opening k) = if eqb k 0 then Done else Refused k
 answerIn (returns a) = a
 answerIn (returnsList a list) = a
 answerIn (returnsCount a k list) = a
--- the group has answers of its own; the history asks for none of them
+-- the group, a node that is read and a gap have answers of their own; the history asks for none of them
 answerIn (returnsGroup g entries) = Done
+answerIn (returnsNode a) = Done
+answerIn (returnsGap a) = Done
 answerIn (openingSheet (Opened k) edges) = Done
 answerIn (openingSheet (SheetRefused k) edges) = Refused k
 
@@ -161,6 +173,8 @@ recordedBy c h lentRenew a = h
 recordedBy c h (lentPrepareAll s t) a = h
 recordedBy c h (lentGroup s t entries) a = h
 recordedBy c h (lentRemove t n) a = h
+recordedBy c h (lentNode t n) a = h
+recordedBy c h (lentGap t e) a = h
 recordedBy c h (lentRound s t l) a = if isDone a then map (withRound l) h else h
 
 -- line by line, from state c and history h on

@@ -9,6 +9,8 @@ pub mod Tables
 pub mod Carried
 pub mod Lent
 pub mod Hosted
+pub mod Gap
 pub mod FromSheet
 pub mod Program
 pub mod Demand3
+pub mod NodeRecorded

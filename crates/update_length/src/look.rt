@@ -11,6 +11,7 @@ ghost use Rattle.graph.specs.inner.Readable.{Readable};
 use crate::Answer;
 use crate::lengths;
 use crate::lengths::ZERO;
+use gap::Gap;
 use graph::dual_node::UP;
 use graph::edge;
 use graph::node;
@@ -31,8 +32,8 @@ pub fn less(x: usize) -> usize
     if x == 0 { 0 } else { x - 1 }
 }
 
-// What is left of the edge of side s.
-fn gap(b: &[i64], s: usize) -> usize
+// What is left of the edge of side s, less than nothing where it is overgrown.
+fn difference(b: &[i64], s: usize) -> usize
     requires { ⌜ Formed (now b) × Readable (stateOf (now b)) × (s < sideCount (stateOf (now b))) ⌝ }
     ensures { λ r. ⌜ (lengthOf r ≡ gapOf (stateOf (now (b .entry))) s) × (r < lengthEnd) ⌝ }
 {
@@ -41,6 +42,18 @@ fn gap(b: &[i64], s: usize) -> usize
     let g = side::growth(b, s);
     let h = side::growth(b, o);
     ZERO + w - (g + h)
+}
+
+// The same, by the gap of the edge where it is not inner.
+fn gap(b: &[i64], s: usize) -> usize
+    requires { ⌜ Formed (now b) × Readable (stateOf (now b)) × (s < sideCount (stateOf (now b))) ⌝ }
+    ensures { λ r. ⌜ (lengthOf r ≡ gapOf (stateOf (now (b .entry))) s) × (r < lengthEnd) ⌝ }
+{
+    match gap::edge_gap(b, s / 2) {
+        Gap::Inner => difference(b, s),
+        Gap::Over(x) => ZERO - x,
+        Gap::Left(x) => ZERO + x,
+    }
 }
 
 // A length l to the peer p that holds the far side.

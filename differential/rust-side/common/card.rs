@@ -185,6 +185,14 @@ impl Card {
             }
         })
     }
+    /// Of every edge whether one node holds both sides, and its weight less its growths.
+    pub fn gaps(&self) -> Vec<(bool, isize)> {
+        let one_holder = self.module.edges.iter().map(|e| {
+            let e = e.read_recursive_force();
+            self.fresh(e.timestamp) && e.left_dual_node.is_some() && e.left_dual_node == e.right_dual_node
+        });
+        one_holder.zip(self.growths()).map(|(inner, (l, r, w))| (inner, w - l - r)).collect()
+    }
     fn table(&self) -> Answer {
         Edges(self.growths().map(|g| (g.0, g.1)).collect())
     }

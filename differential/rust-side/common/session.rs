@@ -229,6 +229,11 @@ impl Session {
         self.card.as_ref().map_or(vec![], Card::rows)
     }
 
+    /// Of every edge whether one node holds both sides, and its weight less its growths.
+    pub fn gaps(&self) -> Vec<(bool, isize)> {
+        self.card.as_ref().map_or(vec![], Card::gaps)
+    }
+
     /// The representative vertex of every node.
     pub fn representatives(&self) -> Vec<Option<usize>> {
         self.card.as_ref().map_or(vec![], Card::representatives)

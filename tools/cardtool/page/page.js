@@ -102,8 +102,8 @@ function aboutEdge(e) {
   const held = s => standing.holder[s] ? `held by node ${outermost(standing.holder[s])}` : 'not held';
   text(
       pre,
-      `edge ${e}, ${a}-${b}, weight ${w}: growths ${gl} and ${gr}, ${
-          gl + gr > w ? 'past its weight' : 'gap ' + (w - gl - gr)}\nleft ${held(2 * e)}, right ${held(2 * e + 1)}\n`,
+      `edge ${e}, ${a}-${b}, weight ${w}: growths ${gl} and ${gr}, ${standing.gap[e]}\nleft ${held(2 * e)}, right ${
+          held(2 * e + 1)}\n`,
       'span');
   layers.paths.replaceChildren();
   const not = uncovered();

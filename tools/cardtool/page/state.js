@@ -4,12 +4,14 @@
 const run = JSON.parse(document.getElementById('run').textContent);
 const STATES = ['stay', 'grow', 'shrink'];
 
-// growth and holder (a node + 1, or 0) of each side, holder of each vertex, and the nodes as [vertex, first member,
-// state, parent + 1, dual]; an opened blossom has neither vertex nor first member
+// growth and holder (a node + 1, or 0) of each side, the gap of each edge in words, as the library told it, holder of
+// each vertex, and the nodes as [vertex, first member, state, parent + 1, dual]; an opened blossom has neither vertex
+// nor first member
 const standing = {
   at: 0,
   growth: new Array(2 * run.edges.length).fill(0),
   holder: new Array(2 * run.edges.length).fill(0),
+  gap: run.edges.map(([, , w]) => `gap ${w}`),
   spot: new Array(run.vertices.length).fill(0),
   nodes: []
 };
@@ -28,6 +30,7 @@ function turn(step) {
   const nodes = step.nodes.map(([n, row]) => [n, row]);
   step.growth = exchange(standing.growth, step.growth);
   step.holder = exchange(standing.holder, step.holder);
+  step.gap = exchange(standing.gap, step.gap);
   step.spot = exchange(standing.spot, step.spot);
   step.nodes = nodes.map(([n, row]) => {
     const old = standing.nodes[n] || null;

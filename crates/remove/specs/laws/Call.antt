@@ -33,6 +33,7 @@ use Rattle.calls.specs.laws.Refuse.{good-inside}
 use Rattle.calls.specs.laws.Remove.{RemoveAccepted, remove-accepted}
 use Rattle.calls.specs.laws.Replies.{usable-steady, accepted-ready, accepted-able, prepared-grows, replies-refused, replies-accepted}
 use Rattle.remove.specs.inner.Stops.{SidesIn}
+use Rattle.remove.specs.laws.Stops.{not-both}
 
 -- ---- what refuses it
 
@@ -48,10 +49,6 @@ blossom-word v x =
     go : (r : Bool) → isBlossom (if r then removed else blossom (x - v)) ≡ not r
     go true = refl
     go false = refl
-
-nots : (x y : Bool) → not x || not y ≡ not (x && y)
-nots true y = refl
-nots false y = refl
 
 blossom-live : (k : NodeClass) → isBlossom k ≡ true → isRemoved k ≡ false
 unfolding isBlossom isRemoved
@@ -79,15 +76,15 @@ module _ (c : State) (n : ℕ) where
 
     pub removal-class : isBlossom (classOf c n) && eqb (dualOf c n) 0 ≡ false → 15 ≡ removeRefusal c n
     unfolding removeRefusal
-    removal-class h = rw (passes .0, passes .1, nots (isBlossom (classOf c n)) (eqb (dualOf c n) 0), h)
+    removal-class h = rw (passes .0, passes .1, not-both (isBlossom (classOf c n)) (eqb (dualOf c n) 0), h)
 
     pub removal-short : isBlossom (classOf c n) && eqb (dualOf c n) 0 ≡ true → storeShort c (n ∷ []) 1 ≡ true → 9 ≡ removeRefusal c n
     unfolding removeRefusal
-    removal-short h s = rw (passes .0, passes .1, nots (isBlossom (classOf c n)) (eqb (dualOf c n) 0), h, s)
+    removal-short h s = rw (passes .0, passes .1, not-both (isBlossom (classOf c n)) (eqb (dualOf c n) 0), h, s)
 
     pub removal-not : isBlossom (classOf c n) && eqb (dualOf c n) 0 ≡ true → storeShort c (n ∷ []) 1 ≡ false → 0 ≡ removeRefusal c n
     unfolding removeRefusal
-    removal-not h s = rw (passes .0, passes .1, nots (isBlossom (classOf c n)) (eqb (dualOf c n) 0), h, s)
+    removal-not h s = rw (passes .0, passes .1, not-both (isBlossom (classOf c n)) (eqb (dualOf c n) 0), h, s)
 
 -- ---- the call
 

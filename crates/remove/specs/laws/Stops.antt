@@ -26,7 +26,7 @@ use Rattle.calls.specs.Remove.{membersOf, listsOf, unheld, stopsOpening}
 use Rattle.calls.specs.laws.Remove.{of-members, unheld-held}
 use Rattle.remove.specs.inner.Stops.{SidesIn, hasHolder, freeBy, memberLists, isMember, entriesBefore, Met}
 
-not-both : (x y : Bool) → not x || not y ≡ not (x && y)
+pub not-both : (x y : Bool) → not x || not y ≡ not (x && y)
 not-both true y = refl
 not-both false y = refl
 

@@ -67,10 +67,10 @@ module _ {v : ℕ} {edges : List Edge} {virtuals : List ℕ} (r : HostRun v edge
   calls-made : runCalls (lentOf r) ≡ hostCalls r
   calls-made = ap (fed (hostSizes r)) (host-steps (r .steps) .calls-are)
 
-  history-made : lentHistory (lentOf r) ≡ hostHistory r
+  pub history-made : lentHistory (lentOf r) ≡ hostHistory r
   history-made = ap (historyAfter (hostStart r)) calls-made
 
-  refused-made : BlossomsRefused r → WithoutBlossoms (lentOf r)
+  pub refused-made : BlossomsRefused r → WithoutBlossoms (lentOf r)
   refused-made h = ap (noBlossoms (hostStart r)) calls-made ∙ h
 
   reports-made : map (λ (x : HostExchange). x .got) (r .exchanges) ≡ reportedFrom (hostSizes r) (hostStart r) (r .exchanges)

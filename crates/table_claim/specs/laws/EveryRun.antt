@@ -37,7 +37,7 @@ use Rattle.table_theorem.specs.History.{History, dualAt, dualsOf, recorded, his
 use Rattle.table_theorem.specs.Runs.{Run, end, SameNodes}
 use Rattle.table_theorem.specs.laws.Append.{history-append}
 use Rattle.table_theorem.specs.laws.Runs.{end-matches, end-table, end-feasible, tables-tell-duals}
-use Rattle.table_claim.specs.Lent.{LentCall, lentOpen, lentDefect, lentBlossom, lentState, lentPrepare, lentLength, lentGrow, lentTable, lentAdvance, lentContacts, lentVertex, lentClear, lentRenew, lentPrepareAll, lentGroup, lentRound, lentRemove, Returned, Exchange, lentSheet}
+use Rattle.table_claim.specs.Lent.{LentCall, lentOpen, lentDefect, lentBlossom, lentState, lentPrepare, lentLength, lentGrow, lentTable, lentAdvance, lentContacts, lentVertex, lentClear, lentRenew, lentPrepareAll, lentGroup, lentRound, lentRemove, Returned, Exchange, lentSheet, lentNode, lentGap}
 use Rattle.table_claim.specs.Run.{Sizes, scratchFits, listFits, callsOf, fedOne, fed, orRefused, returned, returnedFrom, answerIn, recordedBy, historyBy, LentRun, runSizes, runStart, runCalls, lentHistory, WithoutBlossoms, trialFits, groupFits}
 use Rattle.table_claim.specs.laws.Steps.{Whole, whole-sound, memory-fits, list-fits, Follows, follows-whole, steps-follow, steps-return}
 
@@ -70,6 +70,8 @@ one-recorded z c h (lentBlossom t x circle) = by-test (scratchFits z t) (λ e. r
 one-recorded z c h (lentState t n x) = by-test (scratchFits z t) (λ e. rw e refl) (λ e. rw (recorded-refused e _ .0, e) refl)
 one-recorded z c h (lentPrepare t n d) = by-test (scratchFits z t) (λ e. rw e refl) (λ e. rw e refl)
 one-recorded z c h (lentRemove t n) = by-test (scratchFits z t) (λ e. rw e refl) (λ e. rw e refl)
+one-recorded z c h (lentNode t n) = refl
+one-recorded z c h (lentGap t e) = refl
 one-recorded z c h (lentLength t n d first) = by-test (scratchFits z t) (λ e. rw e refl) (λ e. rw e refl)
 one-recorded z c h (lentGrow t n l) = by-test (scratchFits z t) (λ e. rw e refl) (λ e. rw (recorded-refused e _ .1, e) refl)
 one-recorded z c h (lentTable t list) = by-test (listFits z 2 t list) (λ e. rw e refl) (λ e. rw e refl)

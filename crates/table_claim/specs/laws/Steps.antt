@@ -29,13 +29,19 @@ use Rattle.reachable.specs.laws.past.Calls.{after-past}
 use Rattle.reachable.specs.Opening.{afterLog}
 use Rattle.table_theorem.specs.laws.Kept.{Fixed, fixedOf, call-fixed}
 use Rattle.table_theorem.specs.laws.Append.{after-append}
-use Rattle.table_claim.specs.Lent.{LentCall, lentOpen, Step, open-refused, insert-defect, insert-blossom, set-grow-state, prepare, max-update-length, grow, read-table, advance, contacts, representative-vertex, clear, Returned, opening, returns, Exchange, Steps, none, next, AnySteps, no-call, one-call, one-opening, lentSheet, sheet-refused, openingSheet, one-sheet, renew-active-list, prepare-all, group-length, round, remove-blossom}
+use Rattle.table_claim.specs.Lent.{LentCall, lentOpen, Step, open-refused, insert-defect, insert-blossom, set-grow-state, prepare, max-update-length, grow, read-table, advance, contacts, representative-vertex, clear, Returned, opening, returns, Exchange, Steps, none, next, AnySteps, no-call, one-call, one-opening, lentSheet, sheet-refused, openingSheet, one-sheet, renew-active-list, prepare-all, group-length, round, remove-blossom, read-node, returnsNode, edge-gap, returnsGap}
 use Rattle.table_claim.specs.Run.{Sizes, scratchFits, listFits, callsOf, ifFits, fedOne, fed, orRefused, returned, returnedFrom, SinceOpening, lentRunFrom, Begins, with-open, with-sheet, trialFits, groupFits}
 use Rattle.sheet.specs.declared.SheetOpened.the-variants.{Opened}
 use Rattle.sheet.specs.Theorems.{refused-leaves-all, sheet-opens}
 use Rattle.calls.specs.declared.group.GroupMaxUpdateLength.{GroupMaxUpdateLength as Group}
 use Rattle.calls.specs.Round.{prepareAll, groupLength}
 use Rattle.dual_module_round.specs.Called.{trialRefusal, groupTrialRefusal, GroupOnTrial}
+use Rattle.dual_module_node.specs.declared.NodeRead.{NodeRead}
+use Rattle.dual_module_node.specs.declared.NodeRead.the-variants.{Refused as nodeRefused}
+use Rattle.dual_module_node.specs.ReadNode.{readNode, readUnless}
+use Rattle.dual_module_gap.specs.declared.GapAnswer.{GapAnswer}
+use Rattle.dual_module_gap.specs.declared.GapAnswer.the-variants.{Refused as gapRefused}
+use Rattle.dual_module_gap.specs.GapRead.{gapTold}
 use Rattle.table_claim.specs.laws.Rounds.{Ends, trial-ends, round-ends, group-answers, group-kept}
 
 -- ---- lists of calls
@@ -158,6 +164,8 @@ step-follows {z} w (clear {t} p) = called-follows w (scratchFits z t) (memory-fi
 step-follows {z} w (sheet-refused p) = unchanged-follows w (refused-leaves-all p .1)
 step-follows {z} w (renew-active-list p) = called-follows w true (alone-fits w) p RenewActiveList refl
 step-follows {z} w (remove-blossom {t} {n = n} p) = called-follows w (scratchFits z t) (memory-fits w t) (p .block) (RemoveBlossom n) refl
+step-follows {z} w (read-node p) = unchanged-follows w refl
+step-follows {z} w (edge-gap p) = unchanged-follows w refl
 step-follows {z} w (prepare-all {s} {t} p) = ends-follows w (trialFits z s t) (trial-ends (trialFits z s t) (trial-fits w s t) p) PrepareAll refl
 step-follows {z} w (group-length {s} {t} {entries = entries} p) = group-follows w (groupFits z s t entries) (group-fits w s t entries) p
 step-follows {z} w (round {s} {t} {l = l} p) = ends-follows w (trialFits z s t) (round-ends l (trialFits z s t) (w .formed) (trial-fits w s t) p) (Round l) refl
@@ -170,6 +178,12 @@ unfolding unless says
 read-answered true c r m e = rw m at e
 read-answered false c r m e = rw m at e
 
+pub node-answered : (fits : Bool) (c : State) (n : ℕ) {j : ℕ} {a : NodeRead} → j ≡ (if fits then 0 else 1)
+    → a ≡ readUnless j c n → a ≡ (if fits then readNode c n else nodeRefused 1)
+unfolding readUnless
+node-answered true c n m e = rw m at e
+node-answered false c n m e = rw m at e
+
 list-answered : (fits : Bool) {b list list' filled : List ℤ} {j : ℕ} {a : Answer} → j ≡ (if fits then 0 else 1) → ListRead b list list' filled j a
     → (a ≡ orRefused fits Done) × (list' ≡ (if fits then filled else list))
 unfolding unless says
@@ -179,6 +193,11 @@ list-answered false m p = (rw m at (p .answer), rw m at (p .listed))
 counted-by : (fits : Bool) (n : ℕ) {j k : ℕ} → j ≡ (if fits then 0 else 1) → k ≡ (if eqb j 0 then n else 0) → k ≡ (if fits then n else 0)
 counted-by true n m e = rw m at e
 counted-by false n m e = rw m at e
+
+gap-answered : (fits : Bool) (told : GapAnswer) {j : ℕ} {a : GapAnswer} → j ≡ (if fits then 0 else 1)
+    → a ≡ (if eqb j 0 then told else gapRefused j) → a ≡ (if fits then told else gapRefused 1)
+gap-answered true told m e = rw m at e
+gap-answered false told m e = rw m at e
 
 pub step-returns : {z : Sizes} {b b' : List ℤ} {k : LentCall} {r : Returned} → Whole z b → Step b k r b' → r ≡ returned z (stateOf b) k
 unfolding returned fits
@@ -202,6 +221,10 @@ step-returns {z} w (clear {t} p) = ap returns (called-answered (scratchFits z t)
 step-returns {z} w (sheet-refused p) = rw (p .leaves .answer, p .leaves .edges-are, w .size) refl
 step-returns {z} w (renew-active-list p) = ap returns (called-answered true (alone-fits w) p)
 step-returns {z} w (remove-blossom {t} p) = ap returns (called-answered (scratchFits z t) (memory-fits w t) (p .block))
+step-returns {z} {b} w (read-node {t} {n} p) =
+    ap returnsNode (node-answered (scratchFits z t) (stateOf b) n (memory-fits w t) p)
+step-returns {z} {b} w (edge-gap {t} {e} p) =
+    ap returnsGap (gap-answered (scratchFits z t) (gapTold (stateOf b) e) (memory-fits w t) p)
 step-returns {z} {b} w (prepare-all {s} {t} p) =
     ap returns (read-answered (trialFits z s t) (stateOf b) (prepareAll (stateOf b)) (trial-fits w s t) (p .answer))
 step-returns {z} {b} w (group-length {s} {t} {entries = entries} p) =

@@ -1,70 +1,86 @@
-use lib.IntN.{subℕ}
-use native.Mathlib.Omega.{arith}
-use mathlib.Core.Path.{_≡_, ap, _∙_}
-use Prim.Native.Nat.{_+_, _≤_}
-use Rattle.graph.specs.State.{opposite, grownOver, weightOver}
-use Rattle.graph.specs.Layout.{stateOf}
-use Rattle.update_length.specs.Scan.{gapOf}
 use Rattle.update_length.specs.laws.Length.{length-left}
+use Rattle.update_length.specs.Scan.{gapOf}
+use Rattle.gap.specs.laws.Gap.{left-side, over-side, weight-small}
+use Rattle.graph.specs.Layout.{stateOf}
+use Rattle.graph.specs.State.{opposite, grownOver, weightOver}
+use mathlib.Core.Path.{_≡_, sym, _∙_}
+use Prim.Native.Nat.{_+_, _-_}
+use native.Mathlib.Omega.{arith}
 use borrow.Author.Needs.{needs}
 use Rattle.update_length.proofs.look.gap.Statement.{statement}
 use Rattle.update_length.proofs.look.gap.Tie as tie
 
--- what has grown, as it is read
-grown : (c : tie.After-growth2)
-    → c .before .growth .result + c .growth2 .result
-    ≡ grownOver (stateOf (c .before .before .before .before .args .b .now)) (c .before .before .before .before .args .s)
-grown c = cc
+edge-gap-requires : tie.Need-edge-gap-requires
+edge-gap-requires c κs = search needs
 
-small : (c : tie.After-growth2) → c .before .growth .result + c .growth2 .result ≤ 2200000000000
-small c =
-    let a = c .before .before .before .before in
-    let r = a .pre .1 .growths in
-    let g = grown c in
-    omega (arith, g, r (a .args .s), r (opposite (a .args .s)))
+enum-told : tie.Need-enum-told
+enum-told c = search needs
 
-opposite-requires : tie.Need-opposite-requires
-opposite-requires c κs = search needs
+difference-requires : tie.Need-difference-requires
+difference-requires c κs = search needs
 
-weight-requires : tie.Need-weight-requires
-weight-requires c κs = search needs
-
-growth-requires : tie.Need-growth-requires
-growth-requires c κs = search needs
-
-growth-requires-2 : tie.Need-growth-requires-2
-growth-requires-2 c κs = search needs
-
-add-result : tie.Need-add-result
-add-result c = search needs
-
-add-result-2 : tie.Need-add-result-2
-add-result-2 c = search needs
+enum-known-x : tie.Need-enum-known-x
+enum-known-x c = search needs
 
 sub-result : tie.Need-sub-result
-sub-result c = let h = small c in omega arith
+sub-result c =
+    let s = c .before .before .before .before in
+    let d = stateOf (s .args .b .now) in
+    let g = s .pre .1 .growths in
+    let x = c .before .x .given in
+    let e = over-side d (s .args .s) (x .0 .0) (sym (x .1) ∙ c .before .before .before .edge-gap .ensures) in
+    omega (arith, e .0, g (s .args .s), g (opposite (s .args .s)))
+
+enum-known-x-2 : tie.Need-enum-known-x-2
+enum-known-x-2 c = search needs
+
+add-result : tie.Need-add-result
+add-result c =
+    let s = c .before .before .before .before in
+    let d = stateOf (s .args .b .now) in
+    let x = c .before .x2 .given in
+    let e = left-side d (s .args .s) (x .0 .0) (sym (x .1) ∙ c .before .before .before .edge-gap .ensures) in
+    omega (arith, e, weight-small (s .args .b .now) (s .args .s) (s .pre .0) (s .pre .2))
 
 returns : tie.Need-returns
+returns c = search needs
+
+returns-2 : tie.Need-returns-2
 unfolding gapOf
-returns c =
-    let a = c .before .before .before .before in
-    let h = small c in
-    let w = c .before .before .weight in
-    let x = c .before .growth .result + c .growth2 .result in (
-      length-left (w .result) x (omega arith) ∙ ap (λ z. subℕ z x) (w .ensures .0)
-          ∙ ap (subℕ (weightOver (stateOf (a .args .b .now)) (a .args .s))) (grown c),
-      omega (arith, h, w .ensures .1),
-    )
+returns-2 c =
+    let s = c .before .before .before .before in
+    let d = stateOf (s .args .b .now) in
+    let g = s .pre .1 .growths in
+    let x = c .before .x .given in
+    let e = over-side d (s .args .s) (x .0 .0) (sym (x .1) ∙ c .before .before .before .edge-gap .ensures) in
+    let w = weightOver d (s .args .s) in
+    let h = grownOver d (s .args .s) in
+    let z : 4398046511104 - x .0 .0 ≡ 4398046511104 + w - h = omega (arith, e .0) in
+    (rw z (length-left w h (omega (arith, e .0, g (s .args .s), g (opposite (s .args .s))))), omega arith)
+
+returns-3 : tie.Need-returns-3
+unfolding gapOf
+returns-3 c =
+    let s = c .before .before .before .before in
+    let d = stateOf (s .args .b .now) in
+    let x = c .before .x2 .given in
+    let e = left-side d (s .args .s) (x .0 .0) (sym (x .1) ∙ c .before .before .before .edge-gap .ensures) in
+    let w = weightOver d (s .args .s) in
+    let h = grownOver d (s .args .s) in
+    let z : 4398046511104 + x .0 .0 ≡ 4398046511104 + w - h = omega (arith, e) in
+    (rw z (length-left w h (omega (arith, e))), omega (arith, e, weight-small (s .args .b .now) (s .args .s) (s .pre .0) (s .pre .2)))
 
 pub gap-spec : {M : Type 1} → statement M
 gap-spec =
     tie.close
     (tie.spec
-    opposite-requires
-    weight-requires
-    growth-requires
-    growth-requires-2
-    add-result
-    add-result-2
+    edge-gap-requires
+    enum-told
+    difference-requires
+    enum-known-x
     sub-result
-    returns)
+    enum-known-x-2
+    add-result
+    returns
+    returns-2
+    returns-3)

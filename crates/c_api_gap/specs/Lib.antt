@@ -1,0 +1,2 @@
+-- What the contract of the exported gap cites.
+pub mod Told

@@ -1,0 +1,2 @@
+-- What the public call that reads a gap promises.
+pub mod GapRead

@@ -1,0 +1,2 @@
+-- Laws of reading a node.
+pub mod ReadNode

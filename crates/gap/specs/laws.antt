@@ -1,0 +1,2 @@
+-- Laws about the gap of an edge.
+pub mod Gap
