@@ -74,7 +74,7 @@ enum {
     FB_EXPAND = 4,    /* a blossom of dual variable 0 */
     FB_STOP = 5,      /* a defect of dual variable 0 */
     FB_STOP_PEER = 6, /* the same, the Grow peer that touches it, and that one's defect node */
-    FB_DONE = 7,      /* fb_contacts: how many edges */
+    FB_DONE = 7,      /* fb_contacts: how many contacts */
     FB_NODE = 8,      /* the number of the new node */
     FB_PREPARED = 9,  /* how many passes */
     FB_VERTEX = 10,   /* a vertex */
@@ -204,8 +204,10 @@ size_t fb_gap(const int64_t *block, size_t block_length, const int64_t *scratch,
 size_t fb_read_table(const int64_t *block, size_t block_length, const int64_t *scratch, size_t scratch_length,
                      int64_t *list, size_t list_length, size_t *answer, size_t answer_length);
 
-/* The edges whose two growths sum to their weight go to the front of a list of E words, by rising number: FB_DONE and
- * how many. */
+/* The contacts go to the front of a list of 3 E words, by rising edge: FB_DONE and how many. A contact is an edge whose
+   two growths sum to its weight and whose sides belong to two different outermost nodes, or whose one held side faces a
+   virtual vertex that is free. Three words each: the edge, the outermost node at its left end, that at its right end;
+   -1 for the virtual vertex. The words behind the last one are kept. */
 size_t fb_contacts(const int64_t *block, size_t block_length, const int64_t *scratch, size_t scratch_length,
                    int64_t *list, size_t list_length, size_t *answer, size_t answer_length);
 

@@ -139,7 +139,7 @@ impl Lent {
     fn lists(&mut self, kind: u16, e: usize) -> Vec<String> {
         let (b, bl, t, tl) = (self.block.as_ptr(), self.block.len(), self.scratch.as_ptr(), self.scratch.len());
         let (a, al) = (self.answer.as_mut_ptr(), 5);
-        let mut list = vec![-1; if kind == 10 { 2 * e } else { e }];
+        let mut list = vec![-7; if kind == 10 { 2 * e } else { 3 * e }];
         let (ls, ll) = (list.as_mut_ptr(), list.len());
         unsafe {
             if kind == 10 {
@@ -153,7 +153,8 @@ impl Lent {
         } else if kind == 10 {
             (0..e).map(|i| format!("edge {i} {} {}", list[2 * i], list[2 * i + 1])).collect()
         } else {
-            list[..self.answer[1]].iter().map(|x| format!("contact {x}")).collect()
+            let found = list[..3 * self.answer[1]].chunks(3);
+            found.map(|x| format!("contact {} {} {}", x[0], x[1], x[2])).collect()
         }
     }
 

@@ -89,7 +89,7 @@ class ShrinkStopPeer:
 
 @dataclass(frozen=True)
 class Done:
-    """The call was carried out. `count`: how many edges contacts found."""
+    """The call was carried out. `count`: how many contacts there are."""
 
     count: int = 0
 
@@ -211,6 +211,18 @@ class Left:
 
     def __str__(self) -> str:
         return f'gap {self.gap}'
+
+
+@dataclass(frozen=True)
+class Contact:
+    """A full edge that joins something: the outermost node at its left and at its right end, -1 for a virtual vertex."""
+
+    edge: int
+    left: int
+    right: int
+
+    def __str__(self) -> str:
+        return f'contact {self.edge} {self.left} {self.right}'
 
 
 @dataclass(frozen=True)

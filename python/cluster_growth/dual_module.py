@@ -7,7 +7,7 @@ from enum import IntEnum
 from typing import Any, Iterable, List, NamedTuple, Optional, Sequence, Tuple, Union
 
 from . import answers, library, sizes
-from .answers import Answer, Conflicts, Free, Gap, Group, Length, Moved, Refusal, Unlimited
+from .answers import Answer, Conflicts, Contact, Free, Gap, Group, Length, Moved, Refusal, Unlimited
 from .block import Block, Node
 from .calls import CALLS, SIGNED, WORDS
 from .refusals import Refused
@@ -242,10 +242,11 @@ class DualModule:
         self._made('read_table', growths)
         return Table(growths)
 
-    def contacts(self) -> List[int]:
-        """The edges whose two growths sum to their weight, by rising number."""
-        found = array('q', bytes(WORD * len(self.edges)))
-        return found[: self._made('contacts', found).count].tolist()
+    def contacts(self) -> List[Contact]:
+        """The full edges that join two outermost nodes, or one and a free virtual vertex, by rising number."""
+        found = array('q', bytes(3 * WORD * len(self.edges)))
+        count = self._made('contacts', found).count
+        return [Contact(*found[3 * k : 3 * k + 3]) for k in range(count)]
 
     def read_node(self, node: int) -> Node:
         """A node with its grow state, its parent and its dual variable. One that was opened is refused 3."""

@@ -27,6 +27,7 @@ def items(xs): return '(' + ' ∷ '.join(list(xs) + ['[]']) + ')'
 def nats(xs): return items(str(int(x)) for x in xs)
 def stored(xs): return nats(x + 1 for x in xs)
 def whole(k): return f'(pos {k})' if k >= 0 else f'(negsuc {-k - 1})'
+def contact(e, p, q): return f'record {{ edge = {e}; left = {p + 1}; right = {q + 1} }}'
 def truth(t): return 'true' if t else 'false'
 
 
@@ -79,7 +80,7 @@ def line(st, c):
     """A call made on the model, and the line that says what it gives."""
     kind, f = c[0], c[1:]
     if kind == 'table': return f'ReadTable gives growths {nats(M.table(st))}'
-    if kind == 'contacts': return f'Contacts gives touching {nats(M.contacts(st))}'
+    if kind == 'contacts': return f'Contacts gives touching {items(contact(*x) for x in M.contacts(st))}'
     if kind == 'group': return f'GroupLength gives grouped {grouped(*M.group_length(st))}'
     call, term = {
         'defect': (M.insert_defect, lambda v, x: f'InsertDefect {v} {x}'),

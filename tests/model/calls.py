@@ -222,8 +222,25 @@ def table(st):
     return list(st.growth)
 
 
+def outermost(st, n):
+    while st.nodes[n].parent != NONE:
+        n = st.nodes[n].parent
+    return n
+
+
 def contacts(st):
-    return [e for e in range(st.E) if st.growth[2 * e] + st.growth[2 * e + 1] == st.weight[e]]
+    """Each contact as its edge and what stands at either end: an outermost node, or -1 for a free virtual vertex."""
+    found = []
+    for e in range(st.E):
+        if st.growth[2 * e] + st.growth[2 * e + 1] != st.weight[e]:
+            continue
+        held = [NONE if st.holder[s] == NONE else outermost(st, st.holder[s]) for s in (2 * e, 2 * e + 1)]
+        ends = [st.end[s] for s in (2 * e, 2 * e + 1)]
+        free = [h == NONE and st.virtual[v] and st.vholder[v] == NONE for h, v in zip(held, ends)]
+        two = NONE not in held and held[0] != held[1]
+        if two or held[0] != NONE and free[1] or held[1] != NONE and free[0]:
+            found.append((e, *(-1 if h == NONE else h for h in held)))
+    return found
 
 
 def inner(st, e):

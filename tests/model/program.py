@@ -67,7 +67,7 @@ class Run:
             t = calls.table(self.st)
             return [f'edge {e} {t[2 * e]} {t[2 * e + 1]}' for e in range(self.st.E)]
         if kind == 12:
-            return [f'contact {e}' for e in calls.contacts(self.st)]
+            return [f'contact {e} {p} {q}' for e, p, q in calls.contacts(self.st)]
         said = CALLS[kind](self.st, *f)
         return [' '.join(map(str, said[:3] if said[0] == 'free' else said))]
 

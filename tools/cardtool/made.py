@@ -33,7 +33,7 @@ def table(module, fields):
 
 
 def contacts(module, fields):
-    return [f'contact {e}' for e in module.contacts()]
+    return [str(c) for c in module.contacts()]
 
 
 def blossom(module, fields):

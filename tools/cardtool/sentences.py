@@ -47,7 +47,10 @@ def edge(run, name, x):
     if x[0] >= len(run.graph.edges):
         return ''
     left, right, weight = run.graph.edges[x[0]]
-    return f'{left}-{right}: ' + (f'{x[1]} and {x[2]} of {weight}' if name == 'edge' else 'full')
+    if name == 'contact':
+        at = ['the virtual vertex' if n == -1 else f'node {n}' for n in x[1:]]
+        return f'{left}-{right}: full, joins {at[0]} and {at[1]}'
+    return f'{left}-{right}: {x[1]} and {x[2]} of {weight}'
 
 
 def left(gap):

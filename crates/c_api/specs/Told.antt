@@ -5,8 +5,9 @@ use mathlib.Core.Bool.{Bool}
 use mathlib.Core.List.{List}
 use lib.IntN.{ℤ}
 use Rattle.graph.specs.Opening.{OpenCalled}
-use Rattle.dual_module.specs.declared.Counted.{Counted}
-use Rattle.dual_module.specs.Called.{DefectCalled, BlossomCalled, StateCalled, PrepareCalled, LengthCalled, GrowCalled, AdvanceCalled, ClearCalled, VertexRead, TableRead, ContactsRead, ContactsCounted}
+use Rattle.dual_module_read.specs.declared.Counted.{Counted}
+use Rattle.dual_module.specs.Called.{DefectCalled, BlossomCalled, StateCalled, PrepareCalled, LengthCalled, GrowCalled, AdvanceCalled, ClearCalled}
+use Rattle.dual_module_read.specs.Read.{VertexRead, TableRead, ContactsRead, ContactsCounted}
 use Rattle.c_api.specs.Words.{answerNumbers, openNumbers, countedNumbers, Told, Kept}
 
 -- b and t are block and scratch before, b' and t' after; `list` is lent for the answer and is list' after, with k numbers of it in front

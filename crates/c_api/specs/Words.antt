@@ -10,7 +10,7 @@ use Rattle.update_length.specs.declared.Answer.{Answer}
 use Rattle.update_length.specs.declared.Answer.the-variants.{Done, Refused}
 unfoldable pub use Rattle.answer_numbers.specs.Numbers.{answerNumbers}
 pub use Rattle.answer_numbers.specs.Numbers.{Tells}
-use Rattle.dual_module.specs.declared.Counted.{Counted}
+use Rattle.dual_module_read.specs.declared.Counted.{Counted}
 
 -- an opening: done, or its refusal
 unfoldable pub openAnswer : ℕ → Answer

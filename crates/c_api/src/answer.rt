@@ -7,7 +7,7 @@ ghost use Rattle.answer_numbers.specs.Numbers.{Tells};
 ghost use Rattle.c_api.specs.Words.{openAnswer, openNumbers, countedNumbers, shortList, shortCount};
 use answer_numbers::front;
 use answer_numbers::tell;
-use dual_module::Counted;
+use dual_module_read::Counted;
 use update_length::Answer;
 
 // A list that is too short for an answer: refused 1, if it has room for that; how many numbers are told.

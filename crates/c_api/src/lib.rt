@@ -46,7 +46,7 @@ pub extern "C" fn fb_insert_defect(
     if answer.len() < 5 {
         return answer::refuse_short(answer);
     }
-    let a = dual_module::insert_defect(block, scratch, vertex, state);
+    let a = dual_module_insert::insert_defect(block, scratch, vertex, state);
     answer_numbers::tell(answer, a)
 }
 
@@ -66,7 +66,7 @@ pub extern "C" fn fb_insert_blossom(
     if answer.len() < 5 {
         return answer::refuse_short(answer);
     }
-    let a = dual_module::insert_blossom(block, scratch, state, circle);
+    let a = dual_module_insert::insert_blossom(block, scratch, state, circle);
     answer_numbers::tell(answer, a)
 }
 
@@ -199,7 +199,7 @@ pub extern "C" fn fb_representative_vertex(
     if answer.len() < 5 {
         return answer::refuse_short(answer);
     }
-    let a = dual_module::representative_vertex(block, scratch, node);
+    let a = dual_module_read::get_representative_vertex(block, scratch, node);
     answer_numbers::tell(answer, a)
 }
 
@@ -218,7 +218,7 @@ pub extern "C" fn fb_read_table(
     if answer.len() < 5 {
         return answer::refuse_short(answer);
     }
-    let a = dual_module::read_table(block, scratch, list);
+    let a = dual_module_read::read_table(block, scratch, list);
     answer_numbers::tell(answer, a)
 }
 
@@ -237,6 +237,6 @@ pub extern "C" fn fb_contacts(
     if answer.len() < 5 {
         return answer::refuse_short(answer);
     }
-    let c = dual_module::contacts(block, scratch, list);
+    let c = dual_module_read::contacts(block, scratch, list);
     answer::tell_counted(answer, c)
 }

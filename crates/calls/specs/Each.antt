@@ -1,5 +1,5 @@
 -- The calls on one node, reading, and clear.
-use Prim.Native.Nat.{ℕ, zero, suc, _+_, _*_}
+use Prim.Native.Nat.{ℕ, zero, suc, _+_}
 use mathlib.Core.Bool.{Bool, true, false, _&&_}
 use mathlib.Core.List.{List, [], _∷_}
 use lib.IntN.{ℤ, pos, negsuc, negℤ}
@@ -91,10 +91,6 @@ advance c n =
 -- the growth of every side
 unfoldable pub growthTable : State → List ℕ
 growthTable c = c .sides .growth
-
--- each edge whose two growths sum to its weight, by rising number
-unfoldable pub contacts : State → List ℕ
-contacts c = only (λ e. eqb (growthAt c (2 * e) + growthAt c (2 * e + 1)) (weightAt c e)) (below (edgeCount c))
 
 -- down the first members from node n, at most `fuel` nodes
 unfoldable pub representativeBy : ℕ → State → ℕ → ℕ

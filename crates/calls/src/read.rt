@@ -1,17 +1,15 @@
-// Reading: the growth of every side, the edges that are full, and the representative vertex of a node.
+// Reading: the growth of every side, and the representative vertex of a node.
 
 ghost use mathlib.Core.Path.{_≡_};
 ghost use mathlib.Core.Bool.{true};
-ghost use Prim.Native.Nat.{_+_, _*_, _<_, _≤_};
-ghost use lib.Dec.{eqb};
+ghost use Prim.Native.Nat.{_<_, _≤_};
 ghost use lib.ListN.{length};
-ghost use Rattle.graph.specs.State.{edgeCount, sideCount, nodeCount, growthAt, weightAt};
+ghost use Rattle.graph.specs.State.{sideCount, nodeCount};
 ghost use Rattle.graph.specs.Sound.{sound};
 ghost use Rattle.graph.specs.Layout.{stateOf};
 ghost use Rattle.graph.specs.Form.{Formed};
 ghost use Rattle.calls.specs.Reply.{placed};
-ghost use Rattle.calls.specs.Calls.{growthTable, contacts, representativeVertexOf};
-use graph::edge;
+ghost use Rattle.calls.specs.Calls.{growthTable, representativeVertexOf};
 use graph::node;
 use graph::rows;
 use graph::side;
@@ -29,41 +27,6 @@ pub fn read_table(b: &[i64], table: &mut [i64])
         words::put(table, s, g);
         s += 1;
     }
-}
-
-// Whether the two growths of edge e sum to its weight.
-fn touches(b: &[i64], e: usize) -> bool
-    requires { ⌜ Formed (now b) × (e < edgeCount (stateOf (now b))) ⌝ }
-    ensures { λ r.
-        ⌜ r
-        ≡ eqb (growthAt (stateOf (now (b .entry))) (2 * e) + growthAt (stateOf (now (b .entry))) (2 * e + 1))
-        (weightAt (stateOf (now (b .entry))) e) ⌝ }
-{
-    let g = side::growth(b, 2 * e);
-    let h = side::growth(b, 2 * e + 1);
-    g + h == edge::weight(b, e)
-}
-
-// Each edge whose two growths sum to its weight, by rising number, goes to the front of `list`; how many.
-pub fn contacts(b: &[i64], list: &mut [i64]) -> usize
-    requires { ⌜ Formed (now b) × (edgeCount (stateOf (now b)) ≤ length (now list)) ⌝ }
-    ensures { λ r.
-        ⌜ (now (list .exit) ≡ placed (contacts (stateOf (now (b .entry)))) (now (list .entry)))
-        × (r ≡ length (contacts (stateOf (now (b .entry))))) ⌝ }
-{
-    let m = rows::edge_count(b);
-    let mut e = 0;
-    let mut k = 0;
-    while e < m {
-        if touches(b, e) {
-            words::put(list, k, e);
-            k += 1;
-            e += 1;
-        } else {
-            e += 1;
-        }
-    }
-    k
 }
 
 // The vertex of node n: its own, or that of its first member, which is numbered below n.

@@ -16,9 +16,10 @@ use Rattle.update_length.specs.declared.Answer.{Answer}
 use Rattle.update_length.specs.declared.Answer.the-variants.{Done}
 use Rattle.update_length.specs.Answer.{Reply, says}
 use Rattle.calls.specs.Refuse.{nodeRefusal, storeShort, unless}
-use Rattle.calls.specs.Reply.{placed}
+use Rattle.calls.specs.Reply.{overFront}
 use Rattle.calls.specs.Insert.{defectRefusal, blossomRefusal, insertDefect, insertBlossom}
-use Rattle.calls.specs.Calls.{setGrowState, prepareDualNodeGrowth, maxUpdateLength, growDualNode, advance, growthTable, contacts, representativeVertex, clear}
+use Rattle.calls.specs.Calls.{setGrowState, prepareDualNodeGrowth, maxUpdateLength, growDualNode, advance, growthTable, representativeVertex, clear}
+use Rattle.calls.specs.Contacts.{contacts, contactWords}
 
 -- the call writes: k, the refusal of what is lent, is 0, and the call itself says so
 abbrev pub lentWrites : ℕ → Bool → Bool
@@ -101,25 +102,3 @@ AdvanceCalled b t n b' t' a = CalledWithScratch (memoryRefusal b t) b t b' t' a 
 -- the scratch is only read
 abbrev pub ClearCalled : List ℤ → List ℤ → List ℤ → Answer → Type 0
 ClearCalled b t b' a = Called (memoryRefusal b t) b b' a true (clear (stateOf b))
-
--- ---- the three that only read block and scratch
-
-abbrev pub VertexRead : List ℤ → List ℤ → ℕ → Answer → Type 0
-VertexRead b t n a = a ≡ unless (memoryRefusal b t) (stateOf b) (representativeVertex (stateOf b) n) .answer
-
--- From the lent list to list': done and filled, or refused with the number k and left.
-pub record ListRead (b list list' filled : List ℤ) (k : ℕ) (a : Answer) : Type 0 where
-  pub answer : a ≡ unless k (stateOf b) (says Done (stateOf b)) .answer
-  pub listed : list' ≡ (if eqb k 0 then filled else list)
-
--- the growth of every side, in a list of two words for each edge
-abbrev pub TableRead : List ℤ → List ℤ → List ℤ → List ℤ → Answer → Type 0
-TableRead b t list list' a = ListRead b list list' (map pos (growthTable (stateOf b))) (listRefusal b t (length list) 2) a
-
--- the full edges, at the front of a list of one word for each edge; the rest of it is left
-abbrev pub ContactsRead : List ℤ → List ℤ → List ℤ → List ℤ → Answer → Type 0
-ContactsRead b t list list' a = ListRead b list list' (placed (contacts (stateOf b)) list) (listRefusal b t (length list) 1) a
-
--- how many they are
-abbrev pub ContactsCounted : List ℤ → List ℤ → List ℤ → ℕ → Type 0
-ContactsCounted b t list k = k ≡ (if eqb (listRefusal b t (length list) 1) 0 then length (contacts (stateOf b)) else 0)

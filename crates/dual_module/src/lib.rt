@@ -4,11 +4,9 @@
 ghost use mathlib.Core.Path.{_≡_};
 ghost use lib.ListN.{length};
 ghost use Rattle.pass.specs.Scratch.{zeroScratch};
-ghost use Rattle.dual_module.specs.Called.{DefectCalled, BlossomCalled, StateCalled, PrepareCalled, LengthCalled, GrowCalled, AdvanceCalled, ClearCalled, VertexRead, TableRead, ContactsRead, ContactsCounted};
+ghost use Rattle.dual_module.specs.Called.{StateCalled, PrepareCalled, LengthCalled, GrowCalled, AdvanceCalled, ClearCalled};
 use calls::advance;
 use calls::core;
-use calls::defect;
-use calls::read;
 use calls::refuse;
 use graph::dual_node::UP;
 use graph::node;
@@ -22,38 +20,6 @@ pub fn clear_scratch(t: &mut [i64])
 {
     let n = t.len();
     scratch::wipe(t, 0, n);
-}
-
-// The next node is a defect at vertex v, in grow state x.
-pub fn insert_defect(b: &mut [i64], t: &mut [i64], v: usize, x: usize) -> Answer
-    ensures { λ r. ⌜ DefectCalled (now (b .entry)) (now (t .entry)) v x (now (b .exit)) (now (t .exit)) r ⌝ }
-{
-    let k = memory_tests::refuse::refusal(b, t);
-    if k != 0 {
-        return Answer::Refused(k);
-    }
-    let j = defect::defect_refusal(b, v, x);
-    if j != 0 {
-        return Answer::Refused(j);
-    }
-    clear_scratch(t);
-    defect::insert_defect(b, t, v, x)
-}
-
-// The next node is a blossom of the circle's nodes, in grow state x.
-pub fn insert_blossom(b: &mut [i64], t: &mut [i64], x: usize, circle: &[i64]) -> Answer
-    ensures { λ r. ⌜ BlossomCalled (now (b .entry)) (now (t .entry)) x (now (circle .entry)) (now (b .exit)) (now (t .exit)) r ⌝ }
-{
-    let k = memory_tests::refuse::refusal(b, t);
-    if k != 0 {
-        return Answer::Refused(k);
-    }
-    let j = blossom::blossom_refusal(b, x, circle);
-    if j != 0 {
-        return Answer::Refused(j);
-    }
-    clear_scratch(t);
-    blossom::insert_blossom(b, t, x, circle)
 }
 
 // Node n gets the grow state x.
@@ -159,56 +125,4 @@ pub fn clear(b: &mut [i64], t: &[i64]) -> Answer
         return Answer::Refused(k);
     }
     core::clear_all(b)
-}
-
-// The representative vertex of node n.
-pub fn representative_vertex(b: &[i64], t: &[i64], n: usize) -> Answer
-    ensures { λ r. ⌜ VertexRead (now (b .entry)) (now (t .entry)) n r ⌝ }
-{
-    let k = memory_tests::refuse::refusal(b, t);
-    if k != 0 {
-        return Answer::Refused(k);
-    }
-    if calls::refuse::bad_node(b, n) {
-        return Answer::Refused(3);
-    }
-    Answer::Vertex(read::get_representative_vertex(b, n))
-}
-
-// The growth of every side is written to a list of two words for each edge.
-pub fn read_table(b: &[i64], t: &[i64], list: &mut [i64]) -> Answer
-    ensures { λ r. ⌜ TableRead (now (b .entry)) (now (t .entry)) (now (list .entry)) (now (list .exit)) r ⌝ }
-{
-    let k = memory_tests::refuse::list_refusal(b, t, list.len(), 2);
-    if k != 0 {
-        return Answer::Refused(k);
-    }
-    read::read_table(b, list);
-    Answer::Done
-}
-
-// An answer, and how many numbers were written.
-pub struct Counted {
-    pub answer: Answer,
-    pub count: usize,
-}
-
-// The full edges are written to the front of a list of one word for each edge.
-pub fn contacts(b: &[i64], t: &[i64], list: &mut [i64]) -> Counted
-    ensures { λ r.
-        ⌜ ContactsRead (now (b .entry)) (now (t .entry)) (now (list .entry)) (now (list .exit)) (r .answer)
-        × ContactsCounted (now (b .entry)) (now (t .entry)) (now (list .entry)) (r .count) ⌝ }
-{
-    let k = memory_tests::refuse::list_refusal(b, t, list.len(), 1);
-    if k != 0 {
-        return Counted {
-            answer: Answer::Refused(k),
-            count: 0,
-        };
-    }
-    let n = read::contacts(b, list);
-    Counted {
-        answer: Answer::Done,
-        count: n,
-    }
 }

@@ -43,6 +43,15 @@ module _ {v : ℕ} {edges : List Edge} {virtuals : List ℕ} (r : Run v edges vi
   abbrev pub NoneShrinks : Type 0
   NoneShrinks = (m : ℕ) → m < nodeCount (end r) → growStateOf (end r) m ≢ shrinking
 
+  -- Nodes p and q are two defects, and their constraint is tight.
+  pub record ContactMeans (p q : ℕ) : Type 0 where
+    pub other : q ≢ p
+    pub left-vertex : ℕ
+    pub right-vertex : ℕ
+    pub left-defect : DefectAt p left-vertex
+    pub right-defect : DefectAt q right-vertex
+    pub tight : dualIs p + dualIs q ≡ dist runGraph left-vertex right-vertex
+
   module _ (n x : ℕ) where
     -- a tight constraint on node n, the defect at x: with another node, or with a virtual vertex
     pub data Tight : Type 0 where

@@ -1,5 +1,5 @@
 -- What a growing length, prepared first, says of tight constraints and obstacles: on every run without blossoms and with positive weights.
-use Prim.Native.Nat.{ℕ}
+use Prim.Native.Nat.{ℕ, _+_}
 use mathlib.Core.Path.{_≡_}
 use mathlib.Core.Logic.{_≢_}
 use mathlib.Core.Bool.{Bool}
@@ -8,9 +8,16 @@ use lib.IntN.{ℤ}
 use Rattle.graph.specs.Open.{Edge}
 use Rattle.update_length.specs.declared.Answer.the-variants.{NonZeroGrow, Unlimited, Conflicting, TouchingVirtual, Refused}
 use Rattle.opened_graph.specs.OpenedGraph.{PositiveWeights}
-use Rattle.table_theorem.specs.Runs.{Run}
-use Rattle.length_theorem.specs.Meaning.{Obstacle, growingLength, DefectAt, NoneShrinks, Tight, ConflictMeans, VirtualMeans, Keeps, FreeBy}
+use Rattle.calls.specs.Contacts.{IsContact}
+use Rattle.table_theorem.specs.Runs.{Run, end}
+use Rattle.length_theorem.specs.Meaning.{Obstacle, growingLength, DefectAt, NoneShrinks, Tight, ContactMeans, ConflictMeans, VirtualMeans, Keeps, FreeBy}
+use Rattle.length_theorem.specs.laws.Contact.{contact-means}
 use Rattle.length_theorem.specs.laws.Meaning.{conflict-means, virtual-means, free-keeps, unlimited-keeps, tight-meets}
+
+-- A contact of two nodes means that their dual variables sum to the distance of their defects: their constraint is tight.
+pub contact-is-tight : {v : ℕ} {edges : List Edge} {virtuals : List ℕ} → PositiveWeights edges → (r : Run v edges virtuals) (e p q : ℕ)
+    → IsContact (end r) (record { edge = e; left = p + 1; right = q + 1 }) → ContactMeans r p q
+contact-is-tight positive r e p q = contact-means positive r e p q
 
 module _ {v : ℕ} {edges : List Edge} {virtuals : List ℕ} (positive : PositiveWeights edges) (r : Run v edges virtuals) {n x : ℕ} (at : DefectAt r n x) where
   -- A conflict with a peer means that the constraint of the two is tight, or has 1 left where the peer is Grow.

@@ -3,4 +3,5 @@ pub mod Long
 pub mod Met
 pub mod Prepared
 pub mod Tight
+pub mod Contact
 pub mod Meaning

@@ -23,7 +23,7 @@ fn measured(b: &[i64], t: &[i64]) -> bool
 
 // The same, and whether m words are k for each edge.
 fn measured_list(b: &[i64], t: &[i64], m: usize, k: usize) -> bool
-    requires { ⌜ k ≤ 2 ⌝ }
+    requires { ⌜ k ≤ 3 ⌝ }
     ensures { λ r. ⌜ r ≡ memoryFits (now (b .entry)) (now (t .entry)) && eqb m (k * eOf (now (b .entry))) ⌝ }
 {
     if measured(b, t) {
@@ -64,7 +64,7 @@ pub fn refusal(b: &[i64], t: &[i64]) -> usize
 
 // 0, or the refusal of block and scratch with a list of m words, which must be k for each edge.
 pub fn list_refusal(b: &[i64], t: &[i64], m: usize, k: usize) -> usize
-    requires { ⌜ k ≤ 2 ⌝ }
+    requires { ⌜ k ≤ 3 ⌝ }
     ensures { λ r. ⌜ r ≡ listRefusal (now (b .entry)) (now (t .entry)) m k ⌝ }
 {
     let fits = measured_list(b, t, m, k);

@@ -1,12 +1,13 @@
 -- The lines of an outcome, as bytes. Each has the record's number in front and a line feed behind.
 use Prim.Native.Nat.{ℕ, _+_, _-_}
 use mathlib.Core.List.{List, [], _∷_, _++_, map}
-use lib.Dec.{leb}
+use lib.Dec.{eqb, leb}
 use lib.ListN.{length, drop}
 use Rattle.graph.specs.Basic.{if_then_else_}
 use Rattle.update_length.specs.declared.Answer.{Answer}
 use Rattle.update_length.specs.declared.Answer.the-variants.{NonZeroGrow, Unlimited, Conflicting, TouchingVirtual, BlossomNeedExpand, VertexShrinkStop, VertexShrinkStopPeer, Done, Node, Prepared, Refused, Vertex}
 use Rattle.update_length.specs.Answer.{flag}
+use Rattle.calls.specs.Contacts.{Contact}
 use Rattle.calls.specs.Calls.{Outcome, answered, growths, touching, grouped}
 use Rattle.records.specs.Text.{ascii, decimal, signedText, spaced}
 
@@ -35,14 +36,22 @@ edgeLines k e [] = []
 edgeLines k e (l ∷ []) = []
 edgeLines k e (l ∷ r ∷ gs) = line k (ascii "edge" ++ spaced (e ∷ l ∷ r ∷ [])) ∷ edgeLines k (e + 1) gs
 
-unfoldable pub contactLine : ℕ → ℕ → List ℕ
-contactLine k e = line k (ascii "contact" ++ spaced (e ∷ []))
+-- what stands at an end of a contact: the number of an outermost node, or -1 for the virtual vertex
+unfoldable pub endText : ℕ → List ℕ
+endText p = if eqb p 0 then ascii " -1" else spaced ((p - 1) ∷ [])
+
+unfoldable pub contactText : Contact → List ℕ
+contactText x = ascii "contact" ++ spaced (x .edge ∷ []) ++ endText (x .left) ++ endText (x .right)
+
+-- the line of a contact
+unfoldable pub contactLine : ℕ → Contact → List ℕ
+contactLine k x = line k (contactText x)
 
 -- no record asks for the length of all active nodes, so what that gives has no lines
 unfoldable pub linesFor : ℕ → Outcome → List (List ℕ)
 linesFor k (answered a) = line k (wordsOf a) ∷ []
 linesFor k (growths gs) = edgeLines k 0 gs
-linesFor k (touching es) = map (contactLine k) es
+linesFor k (touching xs) = map (contactLine k) xs
 linesFor k (grouped g xs) = []
 
 -- all lines, one behind the other

@@ -4,5 +4,6 @@ pub mod Decode
 pub mod Write
 pub mod Told
 pub mod Table
+pub mod Contact
 pub mod Setup
 pub mod Opening

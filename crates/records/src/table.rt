@@ -7,13 +7,15 @@ ghost use lib.ListN.{length};
 ghost use Rattle.graph.specs.Form.{Formed};
 ghost use Rattle.graph.specs.Layout.{stateOf};
 ghost use Rattle.graph.specs.State.{edgeCount};
+ghost use Rattle.graph.specs.Sound.{sound};
+ghost use mathlib.Core.Bool.{true};
 ghost use Rattle.calls.specs.Calls.{growths, touching, growthTable, contacts};
 ghost use Rattle.records.specs.Lines.{linesFor};
-ghost use Rattle.records.specs.inner.Table.{edgeLine, touches, linesAt};
+ghost use Rattle.records.specs.inner.Table.{edgeLine, linesAt};
 ghost use Rattle.records.specs.Write.{LinesPut};
+use crate::contact;
 use crate::lines;
 use crate::lines::Out;
-use graph::edge;
 use graph::rows;
 use graph::side;
 
@@ -44,29 +46,23 @@ pub fn table(lines: &mut [u8], o: Out, k: usize, b: &[i64]) -> Out
     out
 }
 
-// Whether the growths of edge e sum to its weight.
-fn touches(b: &[i64], e: usize) -> bool
-    requires { ⌜ Formed (now b) × (e < edgeCount (stateOf (now b))) ⌝ }
-    ensures { λ r. ⌜ r ≡ touches (stateOf (now (b .entry))) e ⌝ }
-{
-    side::growth(b, 2 * e) + side::growth(b, 2 * e + 1) == edge::weight(b, e)
-}
-
-// A line for edge e if its growths sum to its weight.
+// A line for edge e if it is a contact.
 fn contact_line(lines: &mut [u8], o: Out, k: usize, b: &[i64], e: usize) -> Out
-    requires { ⌜ (o .at ≤ length (now lines)) × Formed (now b) × (e < edgeCount (stateOf (now b))) ⌝ }
+    requires { ⌜ (o .at ≤ length (now lines)) × Formed (now b) × (sound (stateOf (now b)) ≡ true) × (e < edgeCount (stateOf (now b))) ⌝ }
     ensures { λ r. ⌜ LinesPut (now (lines .entry)) (o .at) (o .full) (now (lines .exit)) (r .at) (r .full) (linesAt k (stateOf (now (b .entry))) e) ⌝ }
 {
-    if touches(b, e) {
-        lines::tell_one(lines, o, k, b"contact", e)
+    if contacts::is_contact(b, e) {
+        let p = contacts::side_node(b, 2 * e);
+        let q = contacts::side_node(b, 2 * e + 1);
+        contact::tell(lines, o, k, e, p, q)
     } else {
         o
     }
 }
 
-// Each edge whose growths sum to its weight, a line each.
+// Each contact, a line each.
 pub fn contacts(lines: &mut [u8], o: Out, k: usize, b: &[i64]) -> Out
-    requires { ⌜ (o .at ≤ length (now lines)) × Formed (now b) ⌝ }
+    requires { ⌜ (o .at ≤ length (now lines)) × Formed (now b) × (sound (stateOf (now b)) ≡ true) ⌝ }
     ensures { λ r.
         ⌜ LinesPut (now (lines .entry)) (o .at) (o .full) (now (lines .exit)) (r .at) (r .full)
         (linesFor k (touching (contacts (stateOf (now (b .entry)))))) ⌝ }

@@ -30,7 +30,7 @@ use Rattle.graph.specs.Open.{Edge}
 use Rattle.graph.specs.Layout.{stateOf}
 use Rattle.update_length.specs.declared.Answer.{Answer}
 use Rattle.update_length.specs.declared.Answer.the-variants.{Done}
-use Rattle.dual_module.specs.Called.{TableRead}
+use Rattle.dual_module_read.specs.Read.{TableRead}
 use Rattle.c_api.specs.Told.{TableTold}
 use Rattle.records.specs.Lines.{edgeLines, joinedLines}
 use Rattle.records.specs.Run.{LinesCalled}

@@ -7,7 +7,8 @@ use mathlib.Core.List.{List, [], _∷_}
 use lib.IntN.{ℤ}
 use Rattle.graph.specs.Opening.{OpenCalled}
 use Rattle.update_length.specs.declared.Answer.{Answer}
-use Rattle.dual_module.specs.Called.{DefectCalled, BlossomCalled, StateCalled, PrepareCalled, LengthCalled, GrowCalled, AdvanceCalled, ClearCalled, VertexRead, TableRead, ContactsRead, ContactsCounted}
+use Rattle.dual_module.specs.Called.{DefectCalled, BlossomCalled, StateCalled, PrepareCalled, LengthCalled, GrowCalled, AdvanceCalled, ClearCalled}
+use Rattle.dual_module_read.specs.Read.{VertexRead, TableRead, ContactsRead, ContactsCounted}
 use Rattle.sheet.specs.declared.SheetOpened.{SheetOpened}
 use Rattle.sheet.specs.declared.SheetOpened.the-variants.{Opened, Refused}
 use Rattle.sheet.specs.Called.{SheetCalled}

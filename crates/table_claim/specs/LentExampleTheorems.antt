@@ -14,7 +14,8 @@ use Rattle.memory_tests.specs.laws.Block.{block-formed}
 use Rattle.update_length.specs.declared.Answer.the-variants.{Done, Node, Refused}
 use Rattle.calls.specs.Calls.{InsertBlossom, InsertDefect, Grow}
 use Rattle.calls.specs.Examples.{edge}
-use Rattle.dual_module.specs.Called.{DefectCalled, GrowCalled, TableRead}
+use Rattle.dual_module.specs.Called.{DefectCalled, GrowCalled}
+use Rattle.dual_module_read.specs.Read.{TableRead}
 use Rattle.c_api.specs.Words.{answerNumbers, openAnswer, shortList, shortCount}
 use Rattle.c_api.specs.Told.{OpenTold, DefectTold, GrowTold, TableTold}
 use Rattle.table_claim.specs.Opens.{everythingLent}

@@ -11,7 +11,7 @@ use Rattle.memory_tests.specs.laws.Block.{block-formed}
 use Rattle.update_length.specs.declared.Answer.the-variants.{Done, Refused}
 use Rattle.calls.specs.declared.group.GroupMaxUpdateLength.the-variants.{NonZeroGrow}
 use Rattle.calls.specs.Calls.{InsertDefect, RenewActiveList, GroupLength, Round}
-use Rattle.dual_module.specs.Called.{TableRead}
+use Rattle.dual_module_read.specs.Read.{TableRead}
 use Rattle.dual_module_round.specs.Called.{RenewCalled, RoundCalled, GroupCalled}
 use Rattle.table_claim.specs.Opens.{everythingLent}
 use Rattle.table_claim.specs.Lent.{insert-defect, renew-active-list, group-length, round, none, next}

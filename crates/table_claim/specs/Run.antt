@@ -14,9 +14,10 @@ use Rattle.graph.specs.Open.{Edge, opened, openRefusal}
 use Rattle.graph.specs.Opening.{edgesFrom, virtualsFrom, OpenCalled}
 use Rattle.update_length.specs.declared.Answer.{Answer}
 use Rattle.update_length.specs.declared.Answer.the-variants.{Done, Refused}
-use Rattle.calls.specs.Reply.{placed}
+use Rattle.calls.specs.Reply.{overFront}
+use Rattle.calls.specs.Contacts.{contacts, contactWords}
 use Rattle.calls.specs.Insert.{insertDefect, insertBlossom}
-use Rattle.calls.specs.Calls.{setGrowState, prepareDualNodeGrowth, maxUpdateLength, growDualNode, advance, growthTable, contacts, representativeVertex, clear, Call, InsertDefect, InsertBlossom, SetGrowState, Prepare, MaxUpdateLength, Grow, ReadTable, Advance, Contacts, RepresentativeVertex, Clear, RenewActiveList, PrepareAll, GroupLength, Round, RemoveBlossom}
+use Rattle.calls.specs.Calls.{setGrowState, prepareDualNodeGrowth, maxUpdateLength, growDualNode, advance, growthTable, representativeVertex, clear, Call, InsertDefect, InsertBlossom, SetGrowState, Prepare, MaxUpdateLength, Grow, ReadTable, Advance, Contacts, RepresentativeVertex, Clear, RenewActiveList, PrepareAll, GroupLength, Round, RemoveBlossom}
 use Rattle.reachable.specs.Reachable.{after}
 use Rattle.table_theorem.specs.Answers.{accepted, isDone}
 use Rattle.table_theorem.specs.History.{History, entryAt, withNodeState, withAdded, advanceLength, historyAfter, noBlossoms, withRound}
@@ -75,7 +76,7 @@ fedOne z (lentLength t n d first) = ifFits (scratchFits z t) (MaxUpdateLength n 
 fedOne z (lentGrow t n l) = ifFits (scratchFits z t) (Grow n l)
 fedOne z (lentTable t list) = ifFits (listFits z 2 t list) ReadTable
 fedOne z (lentAdvance t n) = ifFits (scratchFits z t) (Advance n)
-fedOne z (lentContacts t list) = ifFits (listFits z 1 t list) Contacts
+fedOne z (lentContacts t list) = ifFits (listFits z 3 t list) Contacts
 fedOne z (lentVertex t n) = ifFits (scratchFits z t) (RepresentativeVertex n)
 fedOne z (lentClear t) = ifFits (scratchFits z t) Clear
 fedOne z (lentSheet t v e n l edges sheet virtuals) = []
@@ -117,8 +118,9 @@ returned z c (lentGrow t n l) = returns (orRefused (scratchFits z t) (growDualNo
 returned z c (lentTable t list) = returnsList (orRefused (listFits z 2 t list) Done) (if listFits z 2 t list then map pos (growthTable c) else list)
 returned z c (lentAdvance t n) = returns (orRefused (scratchFits z t) (advance c n .answer))
 returned z c (lentContacts t list) =
-    returnsCount (orRefused (listFits z 1 t list) Done)
-    (if listFits z 1 t list then length (contacts c) else 0) (if listFits z 1 t list then placed (contacts c) list else list)
+    returnsCount (orRefused (listFits z 3 t list) Done)
+    (if listFits z 3 t list then length (contacts c) else 0)
+    (if listFits z 3 t list then overFront (contactWords (contacts c)) list else list)
 returned z c (lentVertex t n) = returns (orRefused (scratchFits z t) (representativeVertex c n .answer))
 returned z c (lentClear t) = returns (orRefused (scratchFits z t) (clear c .answer))
 returned z c (lentSheet t v e n l edges sheet virtuals) =

@@ -21,7 +21,8 @@ pub enum Answer {
     Prepared(usize),
     Length(MaxUpdateLength),
     Edges(Vec<(isize, isize)>),
-    Contacts(Vec<usize>),
+    /// The edge, and what stands at its left and its right end: an outermost node, or -1.
+    Contacts(Vec<(usize, i64, i64)>),
     Refused(u8),
     /// The Rust stops although no refusal applies: outside the domain.
     Stopped,
@@ -196,8 +197,28 @@ impl Card {
     fn table(&self) -> Answer {
         Edges(self.growths().map(|g| (g.0, g.1)).collect())
     }
+    /// The contacts (SPECIFICATION 22), read from the Rust's edges, vertices and nodes, which has no such call.
     fn contacts(&self) -> Answer {
-        Contacts(self.growths().enumerate().filter(|(_, g)| g.0 + g.1 == g.2).map(|(e, _)| e).collect())
+        let full = self.growths().enumerate().filter(|(_, g)| g.0 + g.1 == g.2).map(|(e, _)| e);
+        Contacts(full.filter_map(|e| self.contact(e)).collect())
+    }
+    /// A full edge with what stands at its ends, if it joins something.
+    fn contact(&self, i: usize) -> Option<(usize, i64, i64)> {
+        let e = self.module.edges[i].read_recursive_force();
+        let fresh = self.fresh(e.timestamp);
+        let [p, q] = [&e.left_dual_node, &e.right_dual_node].map(|n| if fresh { self.outermost(n) } else { -1 });
+        let free = |v: &VertexWeak| {
+            let v = v.upgrade_force();
+            let v = v.read_recursive_force();
+            v.is_virtual && !(self.fresh(v.timestamp) && v.propagated_dual_node.is_some())
+        };
+        let joins = match (p, q) {
+            (-1, -1) => false,
+            (-1, _) => free(&e.left),
+            (_, -1) => free(&e.right),
+            _ => p != q,
+        };
+        joins.then_some((i, p, q))
     }
     /// The representative vertex of every node; none of one that was removed.
     pub fn representatives(&self) -> Vec<Option<usize>> {

@@ -55,7 +55,7 @@ pub fn write_answer(out: &mut Vec<u8>, r: usize, x: &Answer) {
         Answer::Refused(k) => writeln!(out, "{r} refused {k}"),
         Answer::Stopped => Ok(()),
         Answer::Edges(g) => g.iter().enumerate().try_for_each(|(e, g)| writeln!(out, "{r} edge {e} {} {}", g.0, g.1)),
-        Answer::Contacts(c) => c.iter().try_for_each(|e| writeln!(out, "{r} contact {e}")),
+        Answer::Contacts(c) => c.iter().try_for_each(|(e, p, q)| writeln!(out, "{r} contact {e} {p} {q}")),
         Answer::Length(MaxUpdateLength::NonZeroGrow((l, e))) => {
             writeln!(out, "{r} free {} {}", if *l == Weight::MAX { -1 } else { *l }, i32::from(*e))
         }

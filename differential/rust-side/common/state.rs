@@ -19,6 +19,18 @@ impl Card {
         }
     }
 
+    /// The outermost node above the one behind a pointer, or -1.
+    pub(super) fn outermost(&self, p: &Option<DualNodeInternalWeak>) -> i64 {
+        let Some(p) = p else { return -1 };
+        let mut n = self.nodes[self.number_of(p) as usize].clone();
+        loop {
+            let above = n.read_recursive().parent_blossom.as_ref().map(|b| b.upgrade_force());
+            match above {
+                Some(b) => n = b,
+                None => return number(&n),
+            }
+        }
+    }
     /// The node behind a pointer, as its number + 1, or 0.
     fn stored(&self, p: &Option<DualNodeInternalWeak>) -> i64 {
         p.as_ref().map_or(0, |p| self.number_of(p) + 1)

@@ -12,8 +12,8 @@ same-length c = search needs
 returns : tie.Need-returns
 returns c = told-short (c .before .before .before .before .if1 .taken) (c .before .before .refuse-short .ensures) tt
 
-representative-vertex-requires : tie.Need-representative-vertex-requires
-representative-vertex-requires c κs = search needs
+get-representative-vertex-requires : tie.Need-get-representative-vertex-requires
+get-representative-vertex-requires c κs = search needs
 
 tell-requires : tie.Need-tell-requires
 tell-requires c κs = search needs
@@ -22,7 +22,7 @@ same-length-2 : tie.Need-same-length-2
 same-length-2 c = search needs
 
 returns-2 : tie.Need-returns-2
-returns-2 c = told-all (search needs) _ (c .before .before .before .before .representative-vertex .ensures) (c .before .before .tell .ensures)
+returns-2 c = told-all (search needs) _ (c .before .before .before .before .get-representative-vertex .ensures) (c .before .before .tell .ensures)
 
 pub fb-representative-vertex-spec : {M : Type 1} → statement M
 fb-representative-vertex-spec =
@@ -31,7 +31,7 @@ fb-representative-vertex-spec =
     refuse-short-requires
     same-length
     returns
-    representative-vertex-requires
+    get-representative-vertex-requires
     tell-requires
     same-length-2
     returns-2)

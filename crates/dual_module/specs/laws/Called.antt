@@ -1,13 +1,13 @@
 -- What the calls on lent memory leave: a refusal with nothing changed, or what their cores leave.
-use Prim.Native.Nat.{ℕ, zero, suc, _+_, _*_, _≤_}
+use Prim.Native.Nat.{ℕ, zero, suc, _+_, _≤_}
 use native.Mathlib.Omega.{arith}
 use mathlib.Core.Path.{_≡_, refl, sym, ap, _∙_}
 use mathlib.Core.Logic.{_≢_}
 use mathlib.Core.Bool.{Bool, true, false, _||_, not}
-use mathlib.Core.List.{List, [], _∷_, _++_, map, append-nil}
+use mathlib.Core.List.{List, [], _∷_, _++_, map}
 use lib.IntN.{ℤ, pos, negsuc, natAbs}
 use lib.Dec.{ltb, eqb}
-use lib.ListN.{length, replicate, length-replicate, drop-of-length-le}
+use lib.ListN.{length, replicate, length-replicate, length-map}
 use borrow.Author.Tests.{eq-eqb, ne-eqb, eqb-true, eqb-false, not-true}
 use Rattle.graph.specs.Basic.{if_then_else_}
 use Rattle.graph.specs.State.{State, up, down, stay, growing, edgeCount, growStateOf}
@@ -26,17 +26,17 @@ use Rattle.calls.specs.Refuse.{badNode, inBlossom, storeShort, nodeRefusal, unl
 use Rattle.calls.specs.Calls.{maxUpdateLength, growDualNode, growthTable, representativeVertexOf, representativeVertex, follow, advanceBy, toward, advance}
 use Rattle.calls.specs.Reply.{placed}
 use Rattle.calls.specs.inner.Reply.{RepliesInsert, Replies, Usable}
-use Rattle.dual_module.specs.Called.{lentWrites, Called, CalledWithScratch, ListRead, prepareWrites, lengthWrites, growWrites, advanceWrites}
+use Rattle.dual_module.specs.Called.{lentWrites, Called, CalledWithScratch, prepareWrites, lengthWrites, growWrites, advanceWrites}
 use Rattle.calls.specs.laws.Replies.{toward-refused}
 use Rattle.calls.specs.laws.Advance.{advance-refused}
-use Rattle.calls.specs.laws.Read.{placed-none, placed-more}
+use Rattle.calls.specs.laws.Read.{placed-none, placed-more, front-all}
 
 -- ---- lists and scratch
 
 -- as many numbers as there are words
 pub placed-all : (l : List ℕ) (t : List ℤ) → length l ≡ length t → placed l t ≡ map pos l
 unfolding placed
-placed-all l t h = rw (drop-of-length-le t {i = length l} (omega (arith, h))) (append-nil (map pos l))
+placed-all l t h = front-all (map pos l) t (length-map l pos ∙ h)
 
 -- a scratch of the right length, set to zero
 pub lendable-usable : {b t : List ℤ} → Lendable b t → Usable b (zeroScratch (length t))
@@ -228,36 +228,3 @@ module _ {b : List ℤ} (f : Formed b) (n k : ℕ)
       by-test (eqb (nodeRefusal (stateOf b) n false false) 0)
       (λ z. rw (for-store (eqb-true _ _ z)) (record { answer = refl; block = becomes-none b (stateOf b) f refl }))
       (λ z. advance-refused b n k (e ∙ node-anyway (stateOf b) n _ (eqb-false _ _ z)) f h)
-
--- ---- the calls that only read
-
-module _ {j k : ℕ} (e : j ≡ k) (h : j ≡ 0) (c : State) (n : ℕ) where
-  pub vertex-beyond : badNode c n ≡ true → Refused 3 ≡ unless k c (representativeVertex c n) .answer
-  unfolding unless representativeVertex says
-  vertex-beyond q = rw (sym e ∙ h, q)
-
-  pub vertex-told : badNode c n ≡ false → {v : ℕ} → v ≡ representativeVertexOf c n → Vertex v ≡ unless k c (representativeVertex c n) .answer
-  unfolding unless representativeVertex says
-  vertex-told q {v} x = rw (sym e ∙ h, q, x)
-
--- the growth of every side in a list of two words for each edge
-pub table-placed : {b t : List ℤ} (list : List ℤ) {list' : List ℤ} → Lendable b t
-    → length list ≡ 2 * edgeCount (stateOf b) → list' ≡ placed (growthTable (stateOf b)) list
-    → list' ≡ map pos (growthTable (stateOf b))
-unfolding growthTable
-table-placed {b} list l h e = e ∙ placed-all (growthTable (stateOf b)) list (laid-shape b (l .formed .laid) .growth ∙ l .formed .pairs ∙ sym h)
-
-module _ {j k : ℕ} (e : j ≡ k) where
-  pub list-refused : {b list filled : List ℤ} → j ≢ 0 → ListRead b list list filled k (Refused j)
-  unfolding unless says
-  list-refused h = rw (← e) (record { answer = rw (ne-eqb j 0 h); listed = rw (ne-eqb j 0 h) })
-
-  pub list-filled : {b list list' filled : List ℤ} → j ≡ 0 → list' ≡ filled → ListRead b list list' filled k Done
-  unfolding unless says
-  list-filled h x = rw (← e) (record { answer = rw (eq-eqb j 0 h); listed = rw (eq-eqb j 0 h) x })
-
-  pub count-none : (m : ℕ) → j ≢ 0 → 0 ≡ (if eqb k 0 then m else 0)
-  count-none m h = rw (← e, ne-eqb j 0 h)
-
-  pub count-so : {m n : ℕ} → j ≡ 0 → n ≡ m → n ≡ (if eqb k 0 then m else 0)
-  count-so h x = rw (← e, eq-eqb j 0 h) x

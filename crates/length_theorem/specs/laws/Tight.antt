@@ -66,70 +66,75 @@ module _ (g : WeightedGraph) (c : State) (p : DefectsOnly g c) (n x : ℕ) (b : 
   -- ---- obstacles
 
   module _ (s : ℕ) (m : member s (boundaryOf c n) ≡ true) where
-    -- a peer q across, at vertex z, and nothing or 1 left of the edge
-    pub peer-tight : (q z : ℕ) → holderAt c (opposite s) ≡ q + 1 → q ≢ n → classOf c q ≡ defectVertex z → Closed c s q
-        → (dualOf c n + dualOf c q ≡ dist g x z) ⊎ ((growStateOf c q ≡ growing) × (dualOf c n + dualOf c q + 1 ≡ dist g x z))
-    peer-tight q z h ne to closed =
-        ⊎-elim (λ e. inl (omega (arith, reach, most e))) (λ e. by-one (e .0) (e .1)) closed
-      where
-        in-s : s < sideCount c
-        in-s = listed-inside s m
+    -- a peer q across, at vertex z
+    module _ (q z : ℕ) (h : holderAt c (opposite s) ≡ q + 1) (ne : q ≢ n) (to : classOf c q ≡ defectVertex z) where
+      in-s : s < sideCount c
+      in-s = listed-inside s m
 
-        far : vertexHolderAt c (endAt c (opposite s)) ≡ q + 1
-        far = sym (far-holder s in-s) ∙ h
+      far : vertexHolderAt c (endAt c (opposite s)) ≡ q + 1
+      far = sym (far-holder s in-s) ∙ h
 
-        in-q : q < nodeCount c
-        in-q = holder-below g c p (endAt c (opposite s)) q far
+      in-q : q < nodeCount c
+      in-q = holder-below g c p (endAt c (opposite s)) q far
 
-        other : holderAt c (opposite s) ≢ n + 1
-        other e = ne (omega arith)
+      other : holderAt c (opposite s) ≢ n + 1
+      other e = ne (omega arith)
 
-        back : vertexHolderAt c (endAt c (opposite (opposite s))) ≢ q + 1
-        back = rw (opposite-opposite s) (λ e. ne (omega (arith, listed-near s m)))
+      back : vertexHolderAt c (endAt c (opposite (opposite s))) ≢ q + 1
+      back = rw (opposite-opposite s) (λ e. ne (omega (arith, listed-near s m)))
 
-        far-grown : dist g z (across g s) + growthAt c (opposite s) ≡ dualOf c q
-        far-grown =
-            let e : endAt c (opposite s) ≡ across g s = p .graph .across-is s in
-            let d : dist g z (across g s) ≡ p .good .labels .depth (endAt c (opposite s)) =
-            ap (dist g z) (sym e) ∙ depth-is g c p q z in-q to (endAt c (opposite s)) far in
-            omega (arith, border-side c (p .good) (p .outer) q z in-q to (opposite s) (opposite-below s in-s) far back .0)
+      far-grown : dist g z (across g s) + growthAt c (opposite s) ≡ dualOf c q
+      far-grown =
+          let e : endAt c (opposite s) ≡ across g s = p .graph .across-is s in
+          let d : dist g z (across g s) ≡ p .good .labels .depth (endAt c (opposite s)) =
+          ap (dist g z) (sym e) ∙ depth-is g c p q z in-q to (endAt c (opposite s)) far in
+          omega (arith, border-side c (p .good) (p .outer) q z in-q to (opposite s) (opposite-below s in-s) far back .0)
 
-        -- the walk over the edge is at least as long as the distance
-        over : dist g x z ≤ dist g x (near g s) + weight g s + dist g z (across g s)
-        over =
-            let in-g : s < sides g = rw (← p .graph .sides-are) in-s in
-            let in-x = vertex-inside g c p n x b at in
-            let in-z = vertex-inside g c p q z in-q to in
-            let in-a : across g s < g .size = far-placed s in
-            let e₁ = dist-edge g (p .formed) x in-x s in-g in
-            let e₂ = dist-triangle g (p .formed) x (across g s) z in-x in-a in
-            let e₃ = dist-sym g (p .formed) (across g s) z in-a in-z in
-            omega arith
+      -- the walk over the edge is at least as long as the distance
+      over : dist g x z ≤ dist g x (near g s) + weight g s + dist g z (across g s)
+      over =
+          let in-g : s < sides g = rw (← p .graph .sides-are) in-s in
+          let in-x = vertex-inside g c p n x b at in
+          let in-z = vertex-inside g c p q z in-q to in
+          let in-a : across g s < g .size = far-placed s in
+          let e₁ = dist-edge g (p .formed) x in-x s in-g in
+          let e₂ = dist-triangle g (p .formed) x (across g s) z in-x in-a in
+          let e₃ = dist-sym g (p .formed) (across g s) z in-a in-z in
+          omega arith
 
-        far-apart : dist g x z < unreachable
-        far-apart = omega (arith, over, near-grown s m other, far-grown, small)
-          where
-            small : dualOf c n + weight g s + dualOf c q < unreachable
-            small =
-                omega (
-                  arith,
-                  unreachable-is,
-                  invariant-numbers (p .good) .nodes n b .dual,
-                  invariant-numbers (p .good) .nodes q in-q .dual,
-                  p .formed .light s (rw (← p .graph .sides-are) in-s),
-                )
+      far-apart : dist g x z < unreachable
+      far-apart = omega (arith, over, near-grown s m other, far-grown, small)
+        where
+          small : dualOf c n + weight g s + dualOf c q < unreachable
+          small =
+              omega (
+                arith,
+                unreachable-is,
+                invariant-numbers (p .good) .nodes n b .dual,
+                invariant-numbers (p .good) .nodes q in-q .dual,
+                p .formed .light s (rw (← p .graph .sides-are) in-s),
+              )
 
-        reach : dualOf c n + dualOf c q ≤ dist g x z
-        reach = nodes-apart g c p n x q z b at in-q to (λ e. ne (sym e)) far-apart
+      reach : dualOf c n + dualOf c q ≤ dist g x z
+      reach = nodes-apart g c p n x q z b at in-q to (λ e. ne (sym e)) far-apart
 
-        most : grownOver c s ≡ weightOver c s → dist g x z ≤ dualOf c n + dualOf c q
-        most e = omega (arith, over, near-grown s m other, far-grown, p .graph .weight-is s)
+      most : grownOver c s ≡ weightOver c s → dist g x z ≤ dualOf c n + dualOf c q
+      most e = omega (arith, over, near-grown s m other, far-grown, p .graph .weight-is s)
 
-        by-one : growStateOf c q ≡ growing → grownOver c s + 1 ≡ weightOver c s
-            → (dualOf c n + dualOf c q ≡ dist g x z) ⊎ ((growStateOf c q ≡ growing) × (dualOf c n + dualOf c q + 1 ≡ dist g x z))
-        by-one u e =
-            let le : dist g x z ≤ dualOf c n + dualOf c q + 1 = omega (arith, over, near-grown s m other, far-grown, p .graph .weight-is s) in
-            by-cases (decEq (dualOf c n + dualOf c q) (dist g x z)) inl (λ ne. inr (u, omega (arith, reach)))
+      -- nothing is left of the edge
+      pub peer-full : grownOver c s ≡ weightOver c s → dualOf c n + dualOf c q ≡ dist g x z
+      peer-full e = omega (arith, reach, most e)
+
+      by-one : growStateOf c q ≡ growing → grownOver c s + 1 ≡ weightOver c s
+          → (dualOf c n + dualOf c q ≡ dist g x z) ⊎ ((growStateOf c q ≡ growing) × (dualOf c n + dualOf c q + 1 ≡ dist g x z))
+      by-one u e =
+          let le : dist g x z ≤ dualOf c n + dualOf c q + 1 = omega (arith, over, near-grown s m other, far-grown, p .graph .weight-is s) in
+          by-cases (decEq (dualOf c n + dualOf c q) (dist g x z)) inl (λ ne. inr (u, omega (arith, reach)))
+
+      -- nothing or 1 is left of it
+      pub peer-tight : Closed c s q
+          → (dualOf c n + dualOf c q ≡ dist g x z) ⊎ ((growStateOf c q ≡ growing) × (dualOf c n + dualOf c q + 1 ≡ dist g x z))
+      peer-tight closed = ⊎-elim (λ e. inl (peer-full e)) (λ e. by-one (e .0) (e .1)) closed
 
     -- a full edge to a virtual vertex
     pub virtual-tight : holderAt c (opposite s) ≡ 0 → virtualAt c (endAt c (opposite s)) ≢ 0 → grownOver c s ≡ weightOver c s

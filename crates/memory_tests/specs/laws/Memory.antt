@@ -36,12 +36,13 @@ block-accepted : (b : List ℤ) (f : Bool) → blockRefusal f b ≡ 0 → (f ≡
 unfolding blockRefusal
 block-accepted b f h = both-passed f (blockSound b) h
 
--- two words for each edge are few
-pub few-words : (k e : ℕ) → k ≤ 2 → e ≤ 4096 → k * e ≤ 8192
+-- three words for each edge are few
+pub few-words : (k e : ℕ) → k ≤ 3 → e ≤ 4096 → k * e ≤ 12288
 few-words zero e h g = omega arith
 few-words (suc zero) e h g = omega arith
 few-words (suc (suc zero)) e h g = omega arith
-few-words (suc (suc (suc k))) e h g = absurd (omega arith)
+few-words (suc (suc (suc zero))) e h g = omega arith
+few-words (suc (suc (suc (suc k)))) e h g = absurd (omega arith)
 
 edges-of : (b : List ℤ) → Formed b → edgeCount (stateOf b) ≡ eOf b
 unfolding Laid

@@ -16,7 +16,8 @@ use Rattle.graph.specs.Open.{opened}
 use Rattle.graph.specs.Opening.{Cleared}
 use Rattle.graph.specs.Layout.{blockLength, stateOf}
 use Rattle.graph.specs.Form.{Formed}
-use Rattle.graph.specs.laws.State.{if-both, if-cases}
+use Rattle.graph.specs.Sound.{sound, soundRemoved, stateSound}
+use Rattle.graph.specs.laws.State.{if-both, if-cases, and-left}
 use Rattle.graph.specs.laws.Members.{clash}
 use Rattle.pass.specs.Scratch.{zeroScratch}
 use Rattle.update_length.specs.declared.Answer.{Answer}
@@ -25,6 +26,7 @@ use Rattle.calls.specs.inner.Reply.{RepliesInsert, Replies, Usable}
 use Rattle.calls.specs.Insert.{insertDefect, insertBlossom}
 use Rattle.calls.specs.Calls.{Call, InsertDefect, InsertBlossom, SetGrowState, Prepare, MaxUpdateLength, Grow, Advance, setGrowState, prepareDualNodeGrowth, maxUpdateLength, growDualNode, advance, clear, growthTable, contacts, growths, touching, answered, response, respond}
 use Rattle.reachable.specs.Reachable.{after, Reachable}
+use Rattle.reachable.specs.Theorems.{reachable-sound}
 use Rattle.reachable.specs.laws.past.Calls.{reachable-invariant}
 use Rattle.records.specs.Record.{Record, sizes, ask, field, fields, fieldCounts, signed, askLength, recordOf, decoded}
 use Rattle.records.specs.Decode.{isRecord, wellFormed}
@@ -240,6 +242,12 @@ module _ {s : Setup} {block : List ℤ} (r : Runs s block) (room : 4096 ≤ leng
 
   pub part-formed : Formed (take (m - 0) block)
   part-formed = rw part-is (r .formed)
+
+  pub part-sound : sound (stateOf (take (m - 0) block)) ≡ true
+  unfolding stateSound
+  part-sound =
+      let c = stateOf (partOf s block) in
+      rw part-is (and-left (sound c) (soundRemoved c) (reachable-sound c (r .reachable)))
 
   -- with its scratch
   pub part-opened : (scratch : List ℤ) → 768 ≤ length scratch → scratch ≡ zeroScratch (length scratch)

@@ -8,11 +8,12 @@ use lib.IntN.{ℤ}
 use lib.Dec.{eqb}
 use lib.ListN.{length, take, length-map}
 use borrow.Author.Tests.{eqb-true}
-use Rattle.graph.specs.Basic.{below}
-use Rattle.graph.specs.State.{State, edgeCount, growthAt, weightAt}
+use Rattle.graph.specs.Basic.{only, below}
+use Rattle.graph.specs.State.{State, edgeCount}
 use Rattle.graph.specs.Layout.{stateOf}
 use Rattle.graph.specs.laws.Members.{by-test, length-below, length-only}
-use Rattle.calls.specs.Calls.{Call, InsertDefect, InsertBlossom, SetGrowState, Prepare, MaxUpdateLength, Grow, ReadTable, Advance, Contacts, RepresentativeVertex, Clear, RenewActiveList, PrepareAll, GroupLength, Round, RemoveBlossom, growthTable, contacts, response, respond}
+use Rattle.calls.specs.Calls.{Call, InsertDefect, InsertBlossom, SetGrowState, Prepare, MaxUpdateLength, Grow, ReadTable, Advance, Contacts, RepresentativeVertex, Clear, RenewActiveList, PrepareAll, GroupLength, Round, RemoveBlossom, growthTable, response, respond}
+use Rattle.calls.specs.Contacts.{isContact, contactOf, contacts}
 use Rattle.records.specs.Record.{Record, sizes, anEdge, aVirtual, ask, illFormed}
 use Rattle.records.specs.Lines.{edgeLines, contactLine, linesFor, joinedLines}
 use Rattle.records.specs.Run.{Stage, fresh, gathering, running, ended, recordStep, ends, callStep, openStep, runRefusal}
@@ -35,11 +36,8 @@ edge-lines-few k e (l ∷ r ∷ gs) = omega (arith, edge-lines-few k (e + 1) gs)
 contacts-few : (c : State) → length (contacts c) ≤ edgeCount c
 unfolding contacts
 contacts-few c =
-    omega (
-      arith,
-      length-only (λ e. eqb (growthAt c (2 * e) + growthAt c (2 * e + 1)) (weightAt c e)) (below (edgeCount c)),
-      length-below (edgeCount c),
-    )
+    rw (length-map (only (isContact c) (below (edgeCount c))) (contactOf c))
+    (omega (arith, length-only (isContact c) (below (edgeCount c)), length-below (edgeCount c)))
 
 -- of a call on 128 edges or fewer
 outcome-few : (k : ℕ) (c : State) (a : Call) → length (growthTable c) ≤ 256 → edgeCount c ≤ 128 → length (linesFor k (respond c a .outcome)) ≤ 128

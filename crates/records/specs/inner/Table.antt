@@ -1,10 +1,9 @@
 -- The lines of one edge: in a table of growths, and in a list of contacts.
 use Prim.Native.Nat.{ℕ, _+_, _*_}
-use mathlib.Core.Bool.{Bool}
 use mathlib.Core.List.{List, [], _∷_, _++_}
-use lib.Dec.{eqb}
 use Rattle.graph.specs.Basic.{if_then_else_}
-use Rattle.graph.specs.State.{State, growthAt, weightAt}
+use Rattle.graph.specs.State.{State, growthAt}
+use Rattle.calls.specs.Contacts.{isContact, contactOf}
 use Rattle.records.specs.Text.{ascii, spaced}
 use Rattle.records.specs.Lines.{line, contactLine}
 
@@ -12,10 +11,6 @@ use Rattle.records.specs.Lines.{line, contactLine}
 unfoldable pub edgeLine : ℕ → State → ℕ → List ℕ
 edgeLine k c e = line k (ascii "edge" ++ spaced (e ∷ growthAt c (2 * e) ∷ growthAt c (2 * e + 1) ∷ []))
 
--- the growths of edge e sum to its weight
-unfoldable pub touches : State → ℕ → Bool
-touches c e = eqb (growthAt c (2 * e) + growthAt c (2 * e + 1)) (weightAt c e)
-
--- a line for edge e if they do
+-- a line for edge e if it is a contact
 unfoldable pub linesAt : ℕ → State → ℕ → List (List ℕ)
-linesAt k c e = if touches c e then contactLine k e ∷ [] else []
+linesAt k c e = if isContact c e then contactLine k (contactOf c e) ∷ [] else []

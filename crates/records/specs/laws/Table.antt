@@ -17,10 +17,11 @@ use Rattle.graph.specs.laws.Members.{by-test, length-below, all-append}
 use Rattle.graph.specs.laws.Opened.{getD-below}
 use Rattle.graph.specs.laws.Form.{formed-growths}
 use Rattle.graph.specs.laws.State.{fold-append}
-use Rattle.calls.specs.Calls.{growths, touching, growthTable, contacts}
+use Rattle.calls.specs.Contacts.{sideNode, isContact, contactOf, contacts}
+use Rattle.calls.specs.Calls.{growths, touching, growthTable}
 use Rattle.records.specs.Text.{ascii, spaced}
 use Rattle.records.specs.Lines.{line, edgeLines, contactLine, linesFor}
-use Rattle.records.specs.inner.Table.{edgeLine, touches, linesAt}
+use Rattle.records.specs.inner.Table.{edgeLine, linesAt}
 use Rattle.records.specs.Write.{page, putLine, putLines, shortLines, LinesPut}
 
 -- ---- counts
@@ -36,11 +37,12 @@ pub edge-line : (k : ℕ) (c : State) (e x y : ℕ) → x ≡ growthAt c (2 * e)
 unfolding edgeLine
 edge-line k c e x y p q = rw (p, q)
 
-pub lines-touching : (k : ℕ) (c : State) (e : ℕ) → touches c e ≡ true → line k (ascii "contact" ++ spaced (e ∷ [])) ∷ [] ≡ linesAt k c e
-unfolding linesAt contactLine
-lines-touching k c e t = rw t
+pub lines-contact : (k : ℕ) (c : State) (e p q : ℕ) → isContact c e ≡ true → p ≡ sideNode c (2 * e) → q ≡ sideNode c (2 * e + 1)
+    → contactLine k (record { edge = e; left = p; right = q }) ∷ [] ≡ linesAt k c e
+unfolding linesAt contactOf
+lines-contact k c e p q t l r = rw (t, l, r)
 
-pub lines-apart : (k : ℕ) (c : State) (e : ℕ) → touches c e ≡ false → [] ≡ linesAt k c e
+pub lines-apart : (k : ℕ) (c : State) (e : ℕ) → isContact c e ≡ false → [] ≡ linesAt k c e
 unfolding linesAt
 lines-apart k c e t = rw t
 
@@ -51,7 +53,7 @@ unfoldable pub tableFrom : ℕ → State → ℕ → List (List ℕ)
 tableFrom k c e = edgeLines k e (drop (2 * e) (growthTable c))
 
 unfoldable pub contactsFrom : ℕ → State → ℕ → List (List ℕ)
-contactsFrom k c e = map (contactLine k) (only (touches c) (drop e (below (edgeCount c))))
+contactsFrom k c e = map (contactLine k) (map (contactOf c) (only (isContact c) (drop e (below (edgeCount c)))))
 
 pub table-start : (k : ℕ) (c : State) → tableFrom k c 0 ≡ linesFor k (growths (growthTable c))
 unfolding tableFrom linesFor
@@ -69,14 +71,14 @@ unfolding tableFrom edgeLines
 table-end k c e h = rw (drop-of-length-le (growthTable c) h)
 
 pub contacts-start : (k : ℕ) (c : State) → contactsFrom k c 0 ≡ linesFor k (touching (contacts c))
-unfolding contactsFrom linesFor contacts touches
+unfolding contactsFrom linesFor contacts
 contacts-start k c = refl
 
 pub contacts-more : (k : ℕ) (c : State) (e : ℕ) → e < edgeCount c → contactsFrom k c e ≡ linesAt k c e ++ contactsFrom k c (e + 1)
 unfolding contactsFrom linesAt only
 contacts-more k c e h =
     let n : e < length (below (edgeCount c)) = omega (arith, length-below (edgeCount c)) in
-    by-test (touches c e)
+    by-test (isContact c e)
     (λ t. rw (add-one, drop-cons (below (edgeCount c)) e 0 n, getD-below (edgeCount c) e 0 h, t))
     (λ t. rw (add-one, drop-cons (below (edgeCount c)) e 0 n, getD-below (edgeCount c) e 0 h, t))
 

@@ -8,7 +8,7 @@ use lib.ListN.{length}
 use Rattle.graph.specs.Open.{Edge}
 use Rattle.graph.specs.State.{State}
 use Rattle.graph.specs.laws.Shape.{length-ends}
-use Rattle.dual_module.specs.Called.{TableRead}
+use Rattle.dual_module_read.specs.Read.{TableRead}
 use Rattle.distance.specs.Graph.{sides, WellFormed}
 use Rattle.distance.specs.Feasible.{Feasible}
 use Rattle.distance.specs.Theorems.{distance-is-shortest, unreachable-without-walk, unreachable-above-duals, one-defect-covers, growth-where-covered, growth-where-free}

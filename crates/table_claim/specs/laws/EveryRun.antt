@@ -24,7 +24,8 @@ use Rattle.update_length.specs.declared.Answer.the-variants.{Done}
 use Rattle.update_length.specs.Answer.{says}
 use Rattle.calls.specs.Refuse.{unless}
 use Rattle.calls.specs.Calls.{growthTable, maxUpdateLength}
-use Rattle.dual_module.specs.Called.{LengthCalled, ListRead, TableRead}
+use Rattle.dual_module.specs.Called.{LengthCalled}
+use Rattle.dual_module_read.specs.Read.{ListRead, TableRead}
 use Rattle.reachable.specs.Reachable.{after}
 use Rattle.reachable.specs.Past.{PastInvariant}
 use Rattle.reachable.specs.laws.past.Calls.{opened-past}
@@ -76,7 +77,7 @@ one-recorded z c h (lentLength t n d first) = by-test (scratchFits z t) (λ e. r
 one-recorded z c h (lentGrow t n l) = by-test (scratchFits z t) (λ e. rw e refl) (λ e. rw (recorded-refused e _ .1, e) refl)
 one-recorded z c h (lentTable t list) = by-test (listFits z 2 t list) (λ e. rw e refl) (λ e. rw e refl)
 one-recorded z c h (lentAdvance t n) = by-test (scratchFits z t) (λ e. rw e refl) (λ e. rw (recorded-refused e _ .1, e) refl)
-one-recorded z c h (lentContacts t list) = by-test (listFits z 1 t list) (λ e. rw e refl) (λ e. rw e refl)
+one-recorded z c h (lentContacts t list) = by-test (listFits z 3 t list) (λ e. rw e refl) (λ e. rw e refl)
 one-recorded z c h (lentVertex t n) = by-test (scratchFits z t) (λ e. rw e refl) (λ e. rw e refl)
 one-recorded z c h (lentClear t) = by-test (scratchFits z t) (λ e. rw e refl) (λ e. rw (recorded-refused e _ .0, e) refl)
 one-recorded z c h (lentSheet t v e n l edges sheet virtuals) = refl

@@ -8,7 +8,7 @@ use Rattle.graph.specs.Open.{Edge, openRefusal}
 use Rattle.graph.specs.Opening.{fits}
 use Rattle.graph.specs.Layout.{stateOf}
 use Rattle.update_length.specs.declared.Answer.the-variants.{Done}
-use Rattle.dual_module.specs.Called.{TableRead}
+use Rattle.dual_module_read.specs.Read.{TableRead}
 use Rattle.distance.specs.Graph.{WellFormed}
 use Rattle.distance.specs.Table.{tableFromDistances}
 use Rattle.distance.specs.Feasible.{Feasible}

@@ -20,7 +20,8 @@ use Rattle.update_length.specs.declared.Answer.the-variants.{Done}
 use Rattle.update_length.specs.Answer.{Reply, says}
 use Rattle.calls.specs.Refuse.{unless}
 use Rattle.calls.specs.Calls.{Call, InsertDefect, InsertBlossom, SetGrowState, Prepare, MaxUpdateLength, Grow, ReadTable, Advance, Contacts, RepresentativeVertex, Clear, respond, response, contacts as contactsOf, representativeVertex, RenewActiveList, PrepareAll, GroupLength, Round, RemoveBlossom}
-use Rattle.dual_module.specs.Called.{Called, ListRead}
+use Rattle.dual_module.specs.Called.{Called}
+use Rattle.dual_module_read.specs.Read.{ListRead}
 use Rattle.reachable.specs.Reachable.{after}
 use Rattle.graph.specs.Sound.{stateSound}
 use Rattle.reachable.specs.Past.{PastInvariant}
@@ -158,7 +159,7 @@ step-follows {z} w (max-update-length {t} {n = n} {d = d} {first = first} p) =
 step-follows {z} w (grow {t} {n = n} {l = l} p) = called-follows w (scratchFits z t) (memory-fits w t) (p .block) (Grow n l) refl
 step-follows {z} w (read-table {t} {list} p) = reading-follows w (listFits z 2 t list) ReadTable refl
 step-follows {z} w (advance {t} {n = n} p) = called-follows w (scratchFits z t) (memory-fits w t) (p .block) (Advance n) refl
-step-follows {z} w (contacts {t} {list} p q) = reading-follows w (listFits z 1 t list) Contacts refl
+step-follows {z} w (contacts {t} {list} p q) = reading-follows w (listFits z 3 t list) Contacts refl
 step-follows {z} w (representative-vertex {t} {n} p) = reading-follows w (scratchFits z t) (RepresentativeVertex n) refl
 step-follows {z} w (clear {t} p) = called-follows w (scratchFits z t) (memory-fits w t) p Clear refl
 step-follows {z} w (sheet-refused p) = unchanged-follows w (refused-leaves-all p .1)
@@ -213,8 +214,8 @@ step-returns {z} {b} w (read-table {t} {list} p) =
     rw (q .0, q .1) refl
 step-returns {z} w (advance {t} p) = ap returns (called-answered (scratchFits z t) (memory-fits w t) (p .block))
 step-returns {z} {b} w (contacts {t} {list} p k) =
-    let q = list-answered (listFits z 1 t list) (list-fits w t list 1) p in
-    rw (q .0, q .1, counted-by (listFits z 1 t list) (length (contactsOf (stateOf b))) (list-fits w t list 1) k) refl
+    let q = list-answered (listFits z 3 t list) (list-fits w t list 3) p in
+    rw (q .0, q .1, counted-by (listFits z 3 t list) (length (contactsOf (stateOf b))) (list-fits w t list 3) k) refl
 step-returns {z} {b} w (representative-vertex {t} {n} p) =
     ap returns (read-answered (scratchFits z t) (stateOf b) (representativeVertex (stateOf b) n) (memory-fits w t) p)
 step-returns {z} w (clear {t} p) = ap returns (called-answered (scratchFits z t) (memory-fits w t) p)

@@ -2,7 +2,7 @@ use native.Mathlib.Omega.{arith}
 use Prim.Native.Nat.{_-_, _*_}
 use mathlib.Core.Path.{refl}
 use Rattle.records.specs.laws.Write.{told-lines}
-use Rattle.record_step.specs.laws.Asking.{part-room, part-formed, part-opened, asked-table, asked-contacts, asked-block, asked-lines, part-kept}
+use Rattle.record_step.specs.laws.Asking.{part-room, part-formed, part-sound, part-opened, asked-table, asked-contacts, asked-block, asked-lines, part-kept}
 use Rattle.records.specs.laws.Opening.{small-of}
 use borrow.Author.Needs.{needs}
 use Rattle.record_step.proofs.one_record.ask.Statement.{statement}
@@ -64,12 +64,10 @@ part-contacts-end c =
     )
 
 contacts-requires : tie.Need-contacts-requires
-contacts-requires c κs = (
-  c .before .before .before .before .before .before .before .before .pre .0,
-  part-formed (c .before .before .before .before .before .before .before .before .pre .1)
-      (c .before .before .before .before .before .before .before .before .pre .4) _
-      (c .before .before .before .before .before .block-length .ensures),
-)
+contacts-requires c κs =
+    let a = c .before .before .before .before .before .before .before .before in
+    let m = c .before .before .before .before .before .block-length .ensures in
+    (a .pre .0, part-formed (a .pre .1) (a .pre .4) _ m, part-sound (a .pre .1) (a .pre .4) _ m)
 
 same-length-3 : tie.Need-same-length-3
 same-length-3 c = search needs

@@ -29,7 +29,8 @@ loop-holds c = (search needs, telling-none (c .before .before .pre .0) (contacts
 contact-line-requires : tie.Need-contact-line-requires Inv-loop μ-loop
 contact-line-requires c κs =
     let s = c .before .before in
-    (s .loop .inv .1 .room, s .before .before .before .pre .1, omega (arith, s .before .edge-count .ensures .0))
+    let a = s .before .before .before in
+    (s .loop .inv .1 .room, a .pre .1, a .pre .2, omega (arith, s .before .edge-count .ensures .0))
 
 add-e : tie.Need-add-e Inv-loop μ-loop
 add-e c = search needs

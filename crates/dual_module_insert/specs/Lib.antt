@@ -1,0 +1,1 @@
+-- What the contracts cite is in crate `dual_module` (specs/Called).

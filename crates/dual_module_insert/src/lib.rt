@@ -1,0 +1,38 @@
+// The calls that insert a node, on memory that a host lends. Block and scratch are tested first (refusals 1 and 2), then what
+// refuses the call itself (3 to 9); only then the scratch is set to zero and the core runs.
+
+ghost use Rattle.dual_module.specs.Called.{DefectCalled, BlossomCalled};
+use calls::defect;
+use update_length::Answer;
+
+// The next node is a defect at vertex v, in grow state x.
+pub fn insert_defect(b: &mut [i64], t: &mut [i64], v: usize, x: usize) -> Answer
+    ensures { λ r. ⌜ DefectCalled (now (b .entry)) (now (t .entry)) v x (now (b .exit)) (now (t .exit)) r ⌝ }
+{
+    let k = memory_tests::refuse::refusal(b, t);
+    if k != 0 {
+        return Answer::Refused(k);
+    }
+    let j = defect::defect_refusal(b, v, x);
+    if j != 0 {
+        return Answer::Refused(j);
+    }
+    dual_module::clear_scratch(t);
+    defect::insert_defect(b, t, v, x)
+}
+
+// The next node is a blossom of the circle's nodes, in grow state x.
+pub fn insert_blossom(b: &mut [i64], t: &mut [i64], x: usize, circle: &[i64]) -> Answer
+    ensures { λ r. ⌜ BlossomCalled (now (b .entry)) (now (t .entry)) x (now (circle .entry)) (now (b .exit)) (now (t .exit)) r ⌝ }
+{
+    let k = memory_tests::refuse::refusal(b, t);
+    if k != 0 {
+        return Answer::Refused(k);
+    }
+    let j = blossom::blossom_refusal(b, x, circle);
+    if j != 0 {
+        return Answer::Refused(j);
+    }
+    dual_module::clear_scratch(t);
+    blossom::insert_blossom(b, t, x, circle)
+}

@@ -1,0 +1,2 @@
+-- Laws behind the calls that only read.
+pub mod Read
