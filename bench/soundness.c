@@ -7,10 +7,11 @@
 #include <time.h>
 
 enum { V = 1024, E = 4096, N = 1024, L = 65536, LENGTH = 16 + 4 * V + 11 * E + 8 * N + L };
+enum { SCRATCH = 4 * E + (V < 2 * E ? V : 2 * E) };
 
 size_t memory_refusal(const int64_t *block, size_t blocks, const int64_t *scratch, size_t scratches);
 
-static int64_t b[LENGTH], t[6 * E];
+static int64_t b[LENGTH], t[SCRATCH];
 
 static double seconds(void) {
     struct timespec now;
@@ -57,18 +58,18 @@ static void fill(void) {
 
 int main(void) {
     fill();
-    if (memory_refusal(b, LENGTH, t, 6 * E) != 0) return puts("the block is not sound"), 1;
+    if (memory_refusal(b, LENGTH, t, SCRATCH) != 0) return puts("the block is not sound"), 1;
     double best = 1e9, all = seconds();
     int runs = 1000;
     for (int i = 0; i < runs; i++) {
         double s = seconds();
-        if (memory_refusal(b, LENGTH, t, 6 * E) != 0) return 1;
+        if (memory_refusal(b, LENGTH, t, SCRATCH) != 0) return 1;
         s = seconds() - s;
         if (s < best) best = s;
     }
     printf("soundness of %d words, lists full: best %.1f us, mean %.1f us over %d runs\n", LENGTH, best * 1e6,
            (seconds() - all) / runs * 1e6, runs);
     b[LENGTH - 1] = b[LENGTH - 2]; // the last node of the active list again: found only at the end of the block
-    printf("with its last word a repeat: refused %zu\n", memory_refusal(b, LENGTH, t, 6 * E));
+    printf("with its last word a repeat: refused %zu\n", memory_refusal(b, LENGTH, t, SCRATCH));
     return 0;
 }

@@ -24,7 +24,7 @@ enum {
     N = 256,
     L = FB_STORE(V, E)
 };
-enum { BLOCK = FB_BLOCK(V, E, N, L), SCRATCH = FB_SCRATCH(E), WEIGHT = 2 };
+enum { BLOCK = FB_BLOCK(V, E, N, L), SCRATCH = FB_SCRATCH(V, E), WEIGHT = 2 };
 enum { GROWING = -1, SIDE = -2 }; /* what a defect is matched with, if with no node */
 
 static int64_t block[BLOCK], second[BLOCK], scratch[SCRATCH], edges[3 * E], table[2 * E];

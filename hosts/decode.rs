@@ -76,7 +76,7 @@ impl Card {
         let mut c = Card {
             block: vec![0; words],
             second: vec![0; words],
-            scratch: vec![0; 6 * E],
+            scratch: vec![0; 4 * E + V.min(2 * E)],
             answer: [0; 5],
             entries: vec![0; ENTRY * N],
             calls: 0,

@@ -3,7 +3,7 @@
  * tools/build-library.sh builds the archive to link, target/lib/libfusion_blossom.a, and the shared object beside it.
  *
  * Memory is the host's: a block of FB_BLOCK(V, E, N, L) words, which holds the graph and all that is stored of it
- * (docs/LAYOUT.md), and a scratch of FB_SCRATCH(E) words. Both may hold anything before fb_open; the scratch may hold
+ * (docs/LAYOUT.md), and a scratch of FB_SCRATCH(V, E) words. Both may hold anything before fb_open; the scratch may hold
  * anything before any call. Three calls take a second block of the same length, which may hold anything. No two
  * stretches that are lent to one call may overlap.
  *
@@ -41,7 +41,7 @@ extern "C" {
 
 /* Words to lend. */
 #define FB_BLOCK(v, e, n, l) (16 + 4 * (v) + 11 * (e) + 8 * (n) + (l))
-#define FB_SCRATCH(e) (6 * (e))
+#define FB_SCRATCH(v, e) (4 * (e) + ((v) < 2 * (e) ? (v) : 2 * (e)))
 #define FB_ENTRIES(n) (5 * (n)) /* numbers of the list of entries */
 
 /* List store L with which no call is refused 9: FB_STORE for defects alone, FB_STORE_BLOSSOMS for at most so many

@@ -73,7 +73,7 @@ fn given(records: &[Record]) -> ([usize; 4], Vec<i64>, Vec<i64>) {
 }
 
 fn memory([v, e, n, l]: [usize; 4]) -> (Vec<i64>, Vec<i64>) {
-    (vec![0; 16 + 4 * v + 11 * e + 8 * n + l], vec![0; 6 * e])
+    (vec![0; 16 + 4 * v + 11 * e + 8 * n + l], vec![0; 4 * e + v.min(2 * e)])
 }
 
 impl Lent {

@@ -124,7 +124,7 @@ class DualModule:
         """Memory for all that is lent. Sizes are tested first: where they are out of range, a word will do."""
         fit = sizes.fits(vertices, edges, nodes, store)
         self._block = (ctypes.c_int64 * (sizes.block_words(vertices, edges, nodes, store) if fit else 1))()
-        self._scratch = (ctypes.c_int64 * (sizes.scratch_words(edges) if fit else 1))()
+        self._scratch = (ctypes.c_int64 * (sizes.scratch_words(vertices, edges) if fit else 1))()
         self._second = (ctypes.c_int64 * len(self._block))()
         self._answer = (ctypes.c_size_t * ROOM)()
         self._entries = array('Q', bytes(WORD * sizes.entry_numbers(nodes if fit else 0)))

@@ -24,9 +24,9 @@ def block_words(vertices: int, edges: int, nodes: int, store: int) -> int:
     return 16 + 4 * vertices + 11 * edges + 8 * nodes + store
 
 
-def scratch_words(edges: int) -> int:
+def scratch_words(vertices: int, edges: int) -> int:
     """Words of the scratch."""
-    return 6 * edges
+    return 4 * edges + min(vertices, 2 * edges)
 
 
 def entry_numbers(nodes: int) -> int:

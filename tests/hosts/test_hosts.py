@@ -54,7 +54,7 @@ class Header(unittest.TestCase):
             return subprocess.run([out], stdout=subprocess.PIPE, text=True).stdout
 
     def test_numbers_and_sentences_are_those_of_the_package(self):
-        code = 'int main(void) { printf("%d %d %d %d %d %d\\n", FB_BLOCK(5, 7, 9, 11), FB_SCRATCH(7), FB_STORE(5, 7),\n'
+        code = 'int main(void) { printf("%d %d %d %d %d %d\\n", FB_BLOCK(5, 7, 9, 11), FB_SCRATCH(5, 7), FB_STORE(5, 7),\n'
         code += 'FB_STORE_BLOSSOMS(5, 7, 2, 3), FB_STORE_CIRCLE(5, 7), FB_MOST_WEIGHT);\n'
         code += (
             'for (size_t k = 1; k < 18; k++) puts(fb_refusal_sentence(k));\nputs(fb_refusal_sentence(99));\nreturn 0; }'
@@ -62,7 +62,7 @@ class Header(unittest.TestCase):
         said = self.compiled('cc', 'c99', code).splitlines()
         self.assertEqual(
             said[0],
-            f'{sizes.block_words(5, 7, 9, 11)} {sizes.scratch_words(7)} {sizes.enough_store(5, 7)} '
+            f'{sizes.block_words(5, 7, 9, 11)} {sizes.scratch_words(5, 7)} {sizes.enough_store(5, 7)} '
             f'{sizes.enough_store(5, 7, 2, 3)} {sizes.circle_store(5, 7)} {sizes.MOST_WEIGHT}',
         )
         self.assertEqual(said[1:18], [refusals.SENTENCES.get(k, 'no such refusal') for k in range(1, 18)])

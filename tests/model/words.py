@@ -9,6 +9,11 @@ def class_word(st, node):
     return st.V + REMOVED if node.removed else node.vertex if node.vertex != NONE else st.V + node.first
 
 
+def scratch_length(st):
+    """Words of its scratch."""
+    return 4 * st.E + min(st.V, 2 * st.E)
+
+
 def words(st):
     pad = lambda xs: list(xs) + [0] * (st.N - len(st.nodes))
     first, at, store, start = [], [], [], []

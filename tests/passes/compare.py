@@ -15,7 +15,7 @@ TOP = os.path.dirname(os.path.dirname(os.path.dirname(os.path.abspath(__file__))
 sys.path.insert(0, os.path.join(TOP, 'tests'))
 import model as M  # noqa: E402
 from model import passes  # noqa: E402
-from model.words import words  # noqa: E402
+from model.words import scratch_length, words  # noqa: E402
 
 PROGRAM = '''// Lends each block of the input to a preparation.
 fn number(b: &[u8], i: usize) -> usize {
@@ -149,8 +149,8 @@ def main():
     data, lines = b'', b''
     for before, n, d, count, after in chosen:
         ws = words(before)
-        data += struct.pack('<4q', len(ws), 6 * before.E, n, d) + struct.pack(f'<{len(ws)}q', *ws)
-        lines += f'{count} {checksum([0] * (6 * after.E), checksum(words(after)))}\n'.encode()
+        data += struct.pack('<4q', len(ws), scratch_length(before), n, d) + struct.pack(f'<{len(ws)}q', *ws)
+        lines += f'{count} {checksum([0] * scratch_length(after), checksum(words(after)))}\n'.encode()
     top = tempfile.mkdtemp()
     below = crates_below('prepare')
     for c in below: shutil.copytree(os.path.join(TOP, 'crates', c), os.path.join(top, 'crates', c))

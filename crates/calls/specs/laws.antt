@@ -3,6 +3,7 @@ pub mod Accepted
 pub mod CircleStore
 pub mod Advance
 pub mod Defect
+pub mod Front
 pub mod Read
 pub mod Readable
 pub mod Refuse

@@ -1,16 +1,15 @@
 // Insertion of a defect.
 
 ghost use mathlib.Core.Path.{_≡_};
-ghost use mathlib.Core.List.{[]};
 ghost use Prim.Native.Nat.{_+_, _<_};
 ghost use lib.ListN.{length};
 ghost use Rattle.graph.specs.Basic.{fold};
-ghost use Rattle.graph.specs.State.{vertexCount, sideCount, sidesAt, withDefect, heldVertex};
+ghost use Rattle.graph.specs.State.{vertexCount, sidesAt, withDefect, heldVertex};
 ghost use Rattle.graph.specs.Layout.{stateOf};
 ghost use Rattle.graph.specs.Form.{Formed};
 ghost use Rattle.graph.specs.inner.Form.{Becomes};
 ghost use Rattle.pass.specs.Scratch.{scratchOf};
-ghost use Rattle.pass.specs.inner.Scratch.{ScratchHolds};
+ghost use Rattle.calls.specs.inner.Front.{FrontHolds};
 ghost use Rattle.calls.specs.Insert.{defectRefusal, holdStep, insertDefect};
 ghost use Rattle.calls.specs.inner.Reply.{RepliesInsert, Usable};
 use crate::occupied;
@@ -49,7 +48,7 @@ fn hold_sides(b: &mut [i64], t: &mut [i64], v: usize, n: usize) -> usize
     ensures { λ r.
         ⌜ Becomes (now (b .entry)) (now (b .exit))
         (fold (holdStep n) (stateOf (now (b .entry))) (sidesAt (stateOf (now (b .entry))) v))
-        × ScratchHolds (now (t .exit)) (sideCount (stateOf (now (b .entry)))) (sidesAt (stateOf (now (b .entry))) v) [] []
+        × FrontHolds (now (t .exit)) (stateOf (now (b .entry))) (sidesAt (stateOf (now (b .entry))) v)
         × (r ≡ length (sidesAt (stateOf (now (b .entry))) v)) ⌝ }
 {
     let l = sides::sides_len(b, v);
@@ -70,7 +69,7 @@ fn hold_defect(b: &mut [i64], t: &mut [i64], v: usize, n: usize) -> usize
         ⌜ Becomes (now (b .entry)) (now (b .exit))
         (fold (holdStep n) (heldVertex (withDefect (stateOf (now (b .entry))) v 1) v n (n + 1))
         (sidesAt (stateOf (now (b .entry))) v))
-        × ScratchHolds (now (t .exit)) (sideCount (stateOf (now (b .entry)))) (sidesAt (stateOf (now (b .entry))) v) [] []
+        × FrontHolds (now (t .exit)) (stateOf (now (b .entry))) (sidesAt (stateOf (now (b .entry))) v)
         × (r ≡ length (sidesAt (stateOf (now (b .entry))) v)) ⌝ }
 {
     vertex::set_defect(b, v, 1);

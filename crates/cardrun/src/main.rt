@@ -135,7 +135,7 @@ fn main() {
     let mut body = [0u8; 65536];
     let mut lines = [0u8; 16384];
     let mut block = [0i64; 4096];
-    let mut scratch = [0i64; 768];
+    let mut scratch = [0i64; 576];
     let mut edges = [0i64; 384];
     let mut virtuals = [0i64; 65];
     take_records(

@@ -3,14 +3,14 @@
 -- the rest free); over vertices
 -- flags, holder, grandson and first; over sides end, growth, holder, grandson and at; over edges weight; over nodes class, grow state,
 -- parent, dual variable, start, boundary length and overgrown length; the list store; and the active list.
-use Prim.Native.Nat.{ℕ, _+_, _-_, _*_, _/_, _%_}
+use Prim.Native.Nat.{ℕ, _+_, _-_, _*_, _/_, _%_, min}
 use mathlib.Core.Bool.{Bool, true, _&&_}
 use mathlib.Core.List.{List, [], _∷_, map, reverse}
 use lib.IntN.{ℤ}
 use lib.Dec.{ltb, leb, eqb}
 use lib.ListN.{length, getD, take, drop}
 use Rattle.graph.specs.Basic.{if_then_else_}
-use Rattle.graph.specs.State.{State, Overgrown, NodeClass, defectVertex, blossom, removed, removedPlace}
+use Rattle.graph.specs.State.{State, Overgrown, NodeClass, vertexCount, edgeCount, defectVertex, blossom, removed, removedPlace}
 use Rattle.graph.specs.Open.{sizesOk}
 use Rattle.graph.specs.Sound.{stateSound}
 use Rattle.graph.specs.Word.{toNat, wordAt}
@@ -40,12 +40,16 @@ activeCountOf b = wordAt b 5
 abbrev pub sizes : ℕ → ℕ → ℕ → ℕ → List ℕ
 sizes v e n l = 16 ∷ v ∷ v ∷ v ∷ v ∷ 2 * e ∷ 2 * e ∷ 2 * e ∷ 2 * e ∷ 2 * e ∷ e ∷ n ∷ n ∷ n ∷ n ∷ n ∷ n ∷ n ∷ l ∷ n ∷ []
 
--- the words of a block, and of a scratch: 2 E boundary entries, 2 E noted entries, 2 E marks
+-- the words of a block, and of a scratch: 2 E boundary entries, 2 E marks, and an entry for each vertex that is noted
 abbrev pub blockLength : ℕ → ℕ → ℕ → ℕ → ℕ
 blockLength v e n l = 16 + 4 * v + 11 * e + 8 * n + l
 
-abbrev pub scratchLength : ℕ → ℕ
-scratchLength e = 6 * e
+abbrev pub scratchLength : ℕ → ℕ → ℕ
+scratchLength v e = 4 * e + min v (2 * e)
+
+-- the words of the scratch that a block of state c is lent
+abbrev pub scratchSize : State → ℕ
+scratchSize c = scratchLength (vertexCount c) (edgeCount c)
 
 abbrev pub sizesOf : List ℤ → List ℕ
 sizesOf b = sizes (vOf b) (eOf b) (nOf b) (lOf b)
@@ -155,7 +159,7 @@ blockSound b =
 
 -- block and scratch have their exact lengths, and the sizes are in range
 unfoldable pub memoryFits : List ℤ → List ℤ → Bool
-memoryFits b t = sized b && eqb (length t) (scratchLength (eOf b))
+memoryFits b t = sized b && eqb (length t) (scratchLength (vOf b) (eOf b))
 
 -- 0, or the refusal of the block b, where `fits` says that the lengths are right
 unfoldable pub blockRefusal : Bool → List ℤ → ℕ

@@ -21,7 +21,7 @@ abbrev room : List ℤ
 room = replicate 81 (negsuc 6)
 
 abbrev scratch : List ℤ
-scratch = replicate 18 (pos 1)
+scratch = replicate 15 (pos 1)
 
 -- what an opening answers, and the block behind it
 abbrev answers : List ℤ → List ℤ → List ℤ → ℕ

@@ -37,7 +37,7 @@ virtualsFrom words = map toNat words
 
 -- block and scratch have exactly the lengths of the sizes
 unfoldable pub fits : List ℤ → List ℤ → ℕ → ℕ → ℕ → ℕ → Bool
-fits b t v e n l = eqb (length b) (blockLength v e n l) && eqb (length t) (scratchLength e)
+fits b t v e n l = eqb (length b) (blockLength v e n l) && eqb (length t) (scratchLength v e)
 
 -- ---- the opened block
 

@@ -22,12 +22,19 @@ pub fn block_length(v: usize, e: usize, n: usize, l: usize) -> usize
     16 + 4 * v + 11 * e + 8 * n + l
 }
 
-// The words of a scratch.
-pub fn scratch_length(e: usize) -> usize
-    requires { ⌜ e ≤ 4096 ⌝ }
-    ensures { λ r. ⌜ r ≡ scratchLength e ⌝ }
+// The lesser number.
+fn lesser(x: usize, y: usize) -> usize
+    ensures { λ r. ⌜ r ≡ Prim.Native.Nat.min x y ⌝ }
 {
-    6 * e
+    if x <= y { x } else { y }
+}
+
+// The words of a scratch.
+pub fn scratch_length(v: usize, e: usize) -> usize
+    requires { ⌜ e ≤ 4096 ⌝ }
+    ensures { λ r. ⌜ r ≡ scratchLength v e ⌝ }
+{
+    4 * e + lesser(v, 2 * e)
 }
 
 // Whether the sizes are in range and the block has their length.

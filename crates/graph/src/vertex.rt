@@ -42,7 +42,8 @@ pub fn holder(b: &[i64], v: usize) -> usize
     rows::vertex_word(b, rows::VERTEX_HOLDER, v)
 }
 
-fn set_holder(b: &mut [i64], v: usize, x: usize)
+// Vertex v is held by the node stored as x, for the defect node that it has.
+pub fn set_holder(b: &mut [i64], v: usize, x: usize)
     requires { ⌜ Formed (now b) × (v < vertexCount (stateOf (now b))) × (x < wordLimit) ⌝ }
     ensures { λ r. ⌜ Becomes (now (b .entry)) (now (b .exit)) (withVertexHolder (stateOf (now (b .entry))) v x) ⌝ }
 {

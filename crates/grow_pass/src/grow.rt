@@ -11,10 +11,11 @@ ghost use Rattle.graph.specs.Layout.{stateOf};
 ghost use Rattle.graph.specs.Form.{Formed};
 ghost use Rattle.graph.specs.inner.Form.{Becomes, sidesOk};
 ghost use Rattle.pass.specs.Work.{finishPass};
-ghost use Rattle.pass.specs.Grow.{reaches, growStep, growScanned, growPass};
-ghost use Rattle.pass.specs.Scratch.{zeroScratch};
+ghost use Rattle.pass.specs.Grow.{reaches, growPass};
+ghost use Rattle.pass.specs.Scratch.{zeroScratch, scratchOf};
+ghost use Rattle.pass.specs.inner.Once.{noteFar, growStepOnce, growScannedOnce, growPassOnce};
 ghost use Rattle.pass.specs.inner.Ready.{Ready, Growable, AfterPass};
-ghost use Rattle.grow_pass.specs.inner.Growing.{growWorkIn, GrowWorking, GrowWorked};
+ghost use Rattle.grow_pass.specs.inner.Growing.{growWorkIn, GrowWorking, GrowWorked, NotesFit};
 use crate::take;
 use crate::take::GrowProgress;
 use pass::scratch;
@@ -60,7 +61,35 @@ fn hold_far(b: &mut [i64], n: usize, s: usize)
     graph::side::hold(b, o, n, g);
 }
 
-// A boundary side s: the far side is taken and the side noted, or the side is kept.
+// The vertex behind side s, if free, is held by node n, and the side is noted for it.
+fn note_far(
+    b: &mut [i64],
+    t: &mut [i64],
+    n: usize,
+    m: usize,
+    s: usize,
+    p: GrowProgress,
+) -> GrowProgress
+    requires { ⌜ GrowWorking (now b) (now t) n m p × (s < m) × (p .noted < m) × NotesFit (now b) p ⌝ }
+    ensures { λ r. ⌜ GrowWorked (now (b .entry)) (now (b .exit)) (now (t .exit)) n m r (noteFar n (growWorkIn (now (b .entry)) (now (t .entry)) n m p) s) ⌝ }
+{
+    let o = graph::side::opposite(s);
+    let v = graph::side::end(b, o);
+    if graph::vertex::holder(b, v) == 0 {
+        graph::vertex::set_holder(b, v, n + 1);
+        graph::words::put(t, 2 * m + p.noted, s);
+        GrowProgress {
+            kept: p.kept,
+            noted: p.noted + 1,
+            pushed: p.pushed,
+            another: p.another,
+        }
+    } else {
+        p
+    }
+}
+
+// A boundary side s: the far side is taken and the vertex behind noted, the first time, or the side is kept.
 fn grow_step(
     b: &mut [i64],
     t: &mut [i64],
@@ -69,18 +98,12 @@ fn grow_step(
     s: usize,
     p: GrowProgress,
 ) -> GrowProgress
-    requires { ⌜ GrowWorking (now b) (now t) n m p × (s < m) × (p .kept + p .noted < m) ⌝ }
-    ensures { λ r. ⌜ GrowWorked (now (b .entry)) (now (b .exit)) (now (t .exit)) n m r (growStep n (growWorkIn (now (b .entry)) (now (t .entry)) n m p) s) ⌝ }
+    requires { ⌜ GrowWorking (now b) (now t) n m p × (s < m) × (p .kept + p .noted < m) × NotesFit (now b) p ⌝ }
+    ensures { λ r. ⌜ GrowWorked (now (b .entry)) (now (b .exit)) (now (t .exit)) n m r (growStepOnce n (growWorkIn (now (b .entry)) (now (t .entry)) n m p) s) ⌝ }
 {
     if reaches(b, s) {
         hold_far(b, n, s);
-        graph::words::put(t, m + p.noted, s);
-        GrowProgress {
-            kept: p.kept,
-            noted: p.noted + 1,
-            pushed: p.pushed,
-            another: p.another,
-        }
+        note_far(b, t, n, m, s, p)
     } else {
         graph::words::put(t, p.kept, s);
         GrowProgress {
@@ -95,9 +118,9 @@ fn grow_step(
 // The boundary of node n, side by side.
 fn grow_scan(b: &mut [i64], t: &mut [i64], n: usize, m: usize) -> GrowProgress
     requires { ⌜ Formed (now b) × (n < nodeCount (stateOf (now b))) × (sideCount (stateOf (now b)) ≡ m)
-        × (now t ≡ zeroScratch (3 * m)) × (sidesOk (stateOf (now b)) n ≡ true)
+        × (now t ≡ scratchOf (stateOf (now b))) × (sidesOk (stateOf (now b)) n ≡ true)
         × (length (boundaryOf (stateOf (now b)) n) ≤ m) ⌝ }
-    ensures { λ r. ⌜ GrowWorked (now (b .entry)) (now (b .exit)) (now (t .exit)) n m r (growScanned (stateOf (now (b .entry))) n) ⌝ }
+    ensures { λ r. ⌜ GrowWorked (now (b .entry)) (now (b .exit)) (now (t .exit)) n m r (growScannedOnce (stateOf (now (b .entry))) n) ⌝ }
 {
     let l = graph::lists::boundary_len(b, n);
     let mut i = 0;
@@ -118,7 +141,7 @@ fn grow_scan(b: &mut [i64], t: &mut [i64], n: usize, m: usize) -> GrowProgress
 // The pass up to its end: over the boundary, then over what was noted.
 fn grow_work(b: &mut [i64], t: &mut [i64], n: usize, m: usize) -> GrowProgress
     requires { ⌜ Ready (now b) (now t) n × Growable (stateOf (now b)) n × (sideCount (stateOf (now b)) ≡ m) ⌝ }
-    ensures { λ r. ⌜ GrowWorked (now (b .entry)) (now (b .exit)) (now (t .exit)) n m r (growPass (stateOf (now (b .entry))) n) ⌝ }
+    ensures { λ r. ⌜ GrowWorked (now (b .entry)) (now (b .exit)) (now (t .exit)) n m r (growPassOnce (stateOf (now (b .entry))) n) ⌝ }
 {
     let p = grow_scan(b, t, n, m);
     take::take_noted(b, t, n, m, p)
@@ -132,13 +155,13 @@ fn finish(b: &mut [i64], t: &mut [i64], n: usize, m: usize, p: GrowProgress)
         ≤ stateOf (now b) .storeLimit + entriesOf (stateOf (now b)) n) ⌝ }
     ensures { λ r.
         ⌜ Becomes (now (b .entry)) (now (b .exit)) (finishPass (growWorkIn (now (b .entry)) (now (t .entry)) n m p) n)
-        × (now (t .exit) ≡ zeroScratch (3 * m)) ⌝ }
+        × (now (t .exit) ≡ zeroScratch (length (now (t .entry)))) ⌝ }
 {
     let o = graph::lists::overgrown_len(b, n);
-    store::replace::replace_lists(b, n, t, p.kept, o, 2 * m, p.pushed);
+    store::replace::replace_lists(b, n, t, p.kept, o, m, p.pushed);
     scratch::wipe(t, 0, p.kept);
-    scratch::wipe(t, m, p.noted);
-    scratch::wipe(t, 2 * m, p.pushed);
+    scratch::wipe(t, m, p.pushed);
+    scratch::wipe(t, 2 * m, p.noted);
 }
 
 // A growing pass over node n; whether another pass is called for. Where the boundary reaches nothing, nothing is written.

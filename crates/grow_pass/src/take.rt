@@ -1,20 +1,21 @@
-// A growing pass: the free vertices behind the noted sides are taken, each with its free sides.
+// A growing pass: the vertices behind the noted sides are taken, each with its free sides.
 
 ghost use mathlib.Core.Path.{_≡_};
 ghost use mathlib.Core.Bool.{true};
-ghost use Prim.Native.Nat.{_<_};
+ghost use Prim.Native.Nat.{_*_, _<_};
 ghost use lib.Dec.{ltb};
 ghost use Rattle.graph.specs.Basic.{fold, all};
 ghost use Rattle.graph.specs.State.{vertexCount, sidesAt};
 ghost use Rattle.graph.specs.Word.{numbersAt, wordLimit};
 ghost use Rattle.graph.specs.Layout.{stateOf};
-ghost use Rattle.pass.specs.Grow.{takeSide, takeVertex, takeStep};
+ghost use Rattle.pass.specs.Grow.{takeSide, takeVertex};
+ghost use Rattle.pass.specs.inner.Once.{takeOnce};
 ghost use Rattle.grow_pass.specs.inner.Growing.{growWorkIn, GrowWorking, GrowWorked, OwnKept};
 
 // How far a growing pass has come: how many entries each section of its scratch has.
 pub struct GrowProgress {
     pub kept: usize, // sides of the new boundary
-    pub noted: usize, // boundary sides that reach a vertex
+    pub noted: usize, // boundary sides that reach a vertex, one for each
     pub pushed: usize, // vertices that go on the overgrown stack
     pub another: bool, // another pass is called for
 }
@@ -74,7 +75,7 @@ fn take_sides(
     q
 }
 
-// The free vertex v is taken by node n for the defect node stored as g; without free sides it is overgrown.
+// Vertex v is taken by node n for the defect node stored as g; without free sides it is overgrown.
 fn take_vertex(
     b: &mut [i64],
     t: &mut [i64],
@@ -94,7 +95,7 @@ fn take_vertex(
     graph::vertex::hold(b, v, n, g);
     let q = take_sides(b, t, n, g, m, v, p);
     if q.kept == before {
-        graph::words::put(t, 2 * m + q.pushed, v);
+        graph::words::put(t, m + q.pushed, v);
         GrowProgress {
             kept: q.kept,
             noted: q.noted,
@@ -106,7 +107,7 @@ fn take_vertex(
     }
 }
 
-// A noted side s: the vertex behind it is taken, if free.
+// A noted side s: the vertex behind it is taken.
 fn take_step(
     b: &mut [i64],
     t: &mut [i64],
@@ -116,32 +117,28 @@ fn take_step(
     p: GrowProgress,
 ) -> GrowProgress
     requires { ⌜ GrowWorking (now b) (now t) n m p × OwnKept (now b) (now t) n m p × (s < m) × (p .pushed < m) ⌝ }
-    ensures { λ r. ⌜ GrowWorked (now (b .entry)) (now (b .exit)) (now (t .exit)) n m r (takeStep n (growWorkIn (now (b .entry)) (now (t .entry)) n m p) s) ⌝ }
+    ensures { λ r. ⌜ GrowWorked (now (b .entry)) (now (b .exit)) (now (t .exit)) n m r (takeOnce n (growWorkIn (now (b .entry)) (now (t .entry)) n m p) s) ⌝ }
 {
     let o = graph::side::opposite(s);
     let v = graph::side::end(b, o);
-    if graph::vertex::holder(b, v) == 0 {
-        let g = graph::side::grandson(b, s);
-        take_vertex(b, t, n, g, m, v, p)
-    } else {
-        p
-    }
+    let g = graph::side::grandson(b, s);
+    take_vertex(b, t, n, g, m, v, p)
 }
 
 // All noted sides, in order.
 pub fn take_noted(b: &mut [i64], t: &mut [i64], n: usize, m: usize, p: GrowProgress) -> GrowProgress
     requires { ⌜ GrowWorking (now b) (now t) n m p × OwnKept (now b) (now t) n m p
-        × (all (λ s. ltb s m) (numbersAt (now t) m (p .noted)) ≡ true) × (p .pushed ≡ 0) ⌝ }
+        × (all (λ s. ltb s m) (numbersAt (now t) (2 * m) (p .noted)) ≡ true) × (p .pushed ≡ 0) ⌝ }
     ensures { λ r.
         ⌜ GrowWorked (now (b .entry)) (now (b .exit)) (now (t .exit)) n m r
-        (fold (takeStep n) (growWorkIn (now (b .entry)) (now (t .entry)) n m p)
-        (numbersAt (now (t .entry)) m (p .noted))) ⌝ }
+        (fold (takeOnce n) (growWorkIn (now (b .entry)) (now (t .entry)) n m p)
+        (numbersAt (now (t .entry)) (2 * m) (p .noted))) ⌝ }
 {
     let l = p.noted;
     let mut i = 0;
     let mut q = p;
     while i < l {
-        let s = graph::words::word(t, m + i);
+        let s = graph::words::word(t, 2 * m + i);
         q = take_step(b, t, n, m, s, q);
         i += 1;
     }

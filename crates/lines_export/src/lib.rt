@@ -116,7 +116,7 @@ pub extern "C" fn cardrun_lines(records: &[u8], lines: &mut [u8]) -> usize
     ensures { λ r. ⌜ LinesCalled (now (records .entry)) (now (lines .entry)) (now (lines .exit)) r ⌝ }
 {
     let mut block = [0i64; 4096];
-    let mut scratch = [0i64; 768];
+    let mut scratch = [0i64; 576];
     let mut edges = [0i64; 384];
     let mut virtuals = [0i64; 65];
     write_lines(

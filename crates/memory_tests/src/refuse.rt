@@ -14,8 +14,9 @@ fn measured(b: &[i64], t: &[i64]) -> bool
     ensures { λ r. ⌜ r ≡ memoryFits (now (b .entry)) (now (t .entry)) ⌝ }
 {
     if sizes::sized(b) {
+        let v = words::word(b, 0);
         let e = words::word(b, 1);
-        t.len() == sizes::scratch_length(e)
+        t.len() == sizes::scratch_length(v, e)
     } else {
         false
     }

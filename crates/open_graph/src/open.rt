@@ -35,7 +35,7 @@ fn lengths_fit(b: &[i64], t: &[i64], v: usize, e: usize, n: usize, l: usize) -> 
     requires { ⌜ sizesOk v e n l ≡ true ⌝ }
     ensures { λ r. ⌜ r ≡ fits (now (b .entry)) (now (t .entry)) v e n l ⌝ }
 {
-    (b.len() == sizes::block_length(v, e, n, l)) & (t.len() == sizes::scratch_length(e))
+    (b.len() == sizes::block_length(v, e, n, l)) & (t.len() == sizes::scratch_length(v, e))
 }
 
 // The refusal of the lengths, and behind it.

@@ -9,4 +9,6 @@ pub mod Preparing
 pub mod Ready
 pub mod Scratch
 pub mod Idle
+pub mod Noted
+pub mod Once
 pub mod Leaves

@@ -1,4 +1,4 @@
-// The scratch that a pass works in: three sections of 2 E words, all zero before and after.
+// The scratch that a pass works in: two sections of 2 E words and one of the smaller of V and 2 E, all zero before and after.
 
 ghost use mathlib.Core.Path.{_≡_};
 ghost use Prim.Native.Nat.{_+_, _≤_};

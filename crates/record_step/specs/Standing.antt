@@ -5,7 +5,7 @@ use mathlib.Core.Bool.{Bool, true, false}
 use mathlib.Core.List.{List}
 use lib.IntN.{ℤ}
 use lib.ListN.{length, take, drop}
-use Rattle.graph.specs.State.{edgeCount}
+use Rattle.graph.specs.State.{vertexCount, edgeCount}
 use Rattle.graph.specs.Open.{sizesOk}
 use Rattle.graph.specs.Layout.{blockLength, stateOf}
 use Rattle.graph.specs.Form.{Formed}
@@ -54,6 +54,7 @@ pub record Answers (b₀ b : List ℤ) (a : Answer) (k : Call) : Type 0 where
   pub outcome : respond (stateOf b₀) k .outcome ≡ answered a
   pub formed : Formed b
   pub state : stateOf b ≡ respond (stateOf b₀) k .state
+  pub vertices : vertexCount (stateOf b) ≡ vertexCount (stateOf b₀)
   pub edges : edgeCount (stateOf b) ≡ edgeCount (stateOf b₀)
   pub len : length b ≡ length b₀
 
@@ -69,6 +70,7 @@ pub record Runs (s : Setup) (block : List ℤ) : Type 0 where
   pub sizes : sizesOk (s .v) (s .e) (s .n) (s .l) ≡ true
   pub formed : Formed (partOf s block)
   pub reachable : Reachable (stateOf (partOf s block))
+  pub vertices : vertexCount (stateOf (partOf s block)) ≡ s .v
   pub edges : edgeCount (stateOf (partOf s block)) ≡ s .e
 
 -- from the words block₀ to block: a call on the opened graph
@@ -107,7 +109,7 @@ pub record Gathers (s : Setup) (edges virtuals : List ℤ) : Type 0 where
 -- the lent words are many enough for the program's sizes, and the scratch is all zero
 pub record MemorySuffices (block scratch edges virtuals : List ℤ) : Type 0 where
   pub words : 4096 ≤ length block
-  pub scratch-words : 768 ≤ length scratch
+  pub scratch-words : 576 ≤ length scratch
   pub edge-words : 384 ≤ length edges
   pub virtual-words : 65 ≤ length virtuals
   pub zero : scratch ≡ zeroScratch (length scratch)

@@ -158,7 +158,7 @@ fn ask(
     scratch: &mut [i64],
 ) -> Out
     requires { ⌜ (o .at ≤ length (now lines)) × Runs s (now block) × OfKind (now body) kind × (4 ≤ kind)
-        × (4096 ≤ length (now block)) × (768 ≤ length (now scratch))
+        × (4096 ≤ length (now block)) × (576 ≤ length (now scratch))
         × (now scratch ≡ zeroScratch (length (now scratch))) ⌝ }
     ensures { λ r.
         ⌜ LinesPut (now (lines .entry)) (o .at) (o .full) (now (lines .exit)) (r .at) (r .full)
@@ -173,7 +173,7 @@ fn ask(
     if kind == 12 {
         return table::contacts(lines, o, k, &block[0..m]);
     }
-    let q = 6 * s.e;
+    let q = sizes::scratch_length(s.v, s.e);
     let a = call(&mut block[0..m], &mut scratch[0..q], kind, body);
     told::answer(lines, o, k, a)
 }

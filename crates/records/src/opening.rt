@@ -25,14 +25,14 @@ fn complete(s: Setup) -> bool
 
 // The graph is opened at the start of the block; 0, or the refusal of the edges.
 fn open_into(s: Setup, block: &mut [i64], scratch: &[i64], edges: &[i64], virtuals: &[i64]) -> usize
-    requires { ⌜ (4096 ≤ length (now block)) × (768 ≤ length (now scratch)) × (384 ≤ length (now edges))
+    requires { ⌜ (4096 ≤ length (now block)) × (576 ≤ length (now scratch)) × (384 ≤ length (now edges))
         × (s .virtuals ≤ length (now virtuals)) × (largeSizes s ≡ false) × (complete s ≡ true) ⌝ }
     ensures { λ r.
         ⌜ (r ≡ openInto s (now (edges .entry)) (now (virtuals .entry)))
         × (now (block .exit) ≡ blockOpened s (now (edges .entry)) (now (virtuals .entry)) (now (block .entry))) ⌝ }
 {
     let m = sizes::block_length(s.v, s.e, s.n, s.l);
-    let q = 6 * s.e;
+    let q = sizes::scratch_length(s.v, s.e);
     let p = 3 * s.e;
     let k = s.virtuals;
     open::open(
@@ -49,7 +49,7 @@ fn open_into(s: Setup, block: &mut [i64], scratch: &[i64], edges: &[i64], virtua
 
 // The graph is opened at the start of the block; 0, or the refusal of the opening, which leaves the block as it was.
 pub fn open(s: Setup, block: &mut [i64], scratch: &[i64], edges: &[i64], virtuals: &[i64]) -> usize
-    requires { ⌜ (4096 ≤ length (now block)) × (768 ≤ length (now scratch)) × (384 ≤ length (now edges)) × (s .virtuals ≤ length (now virtuals)) ⌝ }
+    requires { ⌜ (4096 ≤ length (now block)) × (576 ≤ length (now scratch)) × (384 ≤ length (now edges)) × (s .virtuals ≤ length (now virtuals)) ⌝ }
     ensures { λ r.
         ⌜ (r ≡ openCode s (now (edges .entry)) (now (virtuals .entry)))
         × (now (block .exit) ≡ openBlock s (now (edges .entry)) (now (virtuals .entry)) (now (block .entry))) ⌝ }

@@ -48,7 +48,7 @@ fn lengths_fit(b: &[i64], t: &[i64], v: usize, e: usize, n: usize, l: usize, she
     ensures { λ r. ⌜ r ≡ fits (now (b .entry)) (now (t .entry)) v e n l && eqb (length (now (sheet .entry))) e ⌝ }
 {
     (b.len() == sizes::block_length(v, e, n, l))
-        & (t.len() == sizes::scratch_length(e))
+        & (t.len() == sizes::scratch_length(v, e))
         & (sheet.len() == e)
 }
 

@@ -1,9 +1,9 @@
-// How far a shrinking pass has come: its kept sides stand in the first section of the scratch, the noted vertices in the second,
-// and a mark for each kept side in the third.
+// How far a shrinking pass has come: its kept sides stand in the first section of the scratch, a mark for each kept side
+// in the second, and the noted vertices in the third.
 
 ghost use mathlib.Core.Path.{_≡_};
 ghost use mathlib.Core.List.{List};
-ghost use Prim.Native.Nat.{ℕ, _*_, _<_, _≤_};
+ghost use Prim.Native.Nat.{ℕ, _+_, _*_, _<_, _≤_};
 ghost use lib.IntN.{ℤ};
 ghost use lib.ListN.{length};
 ghost use Rattle.graph.specs.Layout.{stateOf};
@@ -24,12 +24,12 @@ pub struct ShrinkProgress {
 
 // Side s is kept, once: its mark tells whether it is kept already.
 pub fn keep_once(t: &mut [i64], m: usize, p: ShrinkProgress, s: usize) -> ShrinkProgress
-    requires { ⌜ (s < m) × (m ≤ 8192) × (p .kept ≤ m) × (length (now t) ≡ 3 * m) ⌝ }
+    requires { ⌜ (s < m) × (m ≤ 8192) × (p .kept ≤ m) × (2 * m ≤ length (now t)) ⌝ }
     ensures { λ r. ⌜ ((b : List ℤ) → ShrinkWorking b (now (t .entry)) m p → ShrinkWorked b (now (t .entry)) b (now (t .exit)) m p r (λ w. keepOnce w s)) ⌝ }
 {
-    if words::word(t, 2 * m + s) == 0 {
+    if words::word(t, m + s) == 0 {
         words::put(t, p.kept, s);
-        words::put(t, 2 * m + s, 1);
+        words::put(t, m + s, 1);
         ShrinkProgress {
             kept: p.kept + 1,
             noted: p.noted,
@@ -42,13 +42,13 @@ pub fn keep_once(t: &mut [i64], m: usize, p: ShrinkProgress, s: usize) -> Shrink
 
 // Vertex v is noted.
 pub fn note(t: &mut [i64], m: usize, p: ShrinkProgress, v: usize) -> ShrinkProgress
-    requires { ⌜ (m ≤ 8192) × (p .noted < m) × (length (now t) ≡ 3 * m) × (v < 1024) ⌝ }
+    requires { ⌜ (m ≤ 8192) × (2 * m + p .noted < length (now t)) × (v < 1024) ⌝ }
     ensures { λ r.
         ⌜
         ((b : List ℤ) → v < vertexCount (stateOf b) → ShrinkWorking b (now (t .entry)) m p
         → ShrinkWorked b (now (t .entry)) b (now (t .exit)) m p r (λ w. note w v)) ⌝ }
 {
-    words::put(t, m + p.noted, v);
+    words::put(t, 2 * m + p.noted, v);
     ShrinkProgress {
         kept: p.kept,
         noted: p.noted + 1,
@@ -58,13 +58,13 @@ pub fn note(t: &mut [i64], m: usize, p: ShrinkProgress, v: usize) -> ShrinkProgr
 
 // The marks of the first k kept sides are set to zero.
 fn unmark(t: &mut [i64], m: usize, k: usize)
-    requires { ⌜ (k ≤ m) × (m ≤ 8192) × (length (now t) ≡ 3 * m) × ((i : ℕ) → i < k → wordAt (now t) i < m) ⌝ }
+    requires { ⌜ (k ≤ m) × (m ≤ 8192) × (2 * m ≤ length (now t)) × ((i : ℕ) → i < k → wordAt (now t) i < m) ⌝ }
     ensures { λ r. ⌜ now (t .exit) ≡ unmarked (now (t .entry)) m k ⌝ }
 {
     let mut i = 0;
     while i < k {
         let s = words::word(t, i);
-        words::put(t, 2 * m + s, 0);
+        words::put(t, m + s, 0);
         i += 1;
     }
 }
@@ -72,9 +72,9 @@ fn unmark(t: &mut [i64], m: usize, k: usize)
 // The scratch is all zero again.
 pub fn clear(t: &mut [i64], m: usize, p: ShrinkProgress)
     requires { ⌜ KeptMarked (now t) m p 0 × (m ≤ 8192) ⌝ }
-    ensures { λ r. ⌜ now (t .exit) ≡ zeroScratch (3 * m) ⌝ }
+    ensures { λ r. ⌜ now (t .exit) ≡ zeroScratch (length (now (t .entry))) ⌝ }
 {
     unmark(t, m, p.kept);
     scratch::wipe(t, 0, p.kept);
-    scratch::wipe(t, m, p.noted);
+    scratch::wipe(t, 2 * m, p.noted);
 }

@@ -6,7 +6,8 @@ ghost use Rattle.graph.specs.Basic.{fold};
 ghost use Rattle.graph.specs.State.{vertexCount, sideCount, nodeCount, sidesAt};
 ghost use Rattle.graph.specs.Layout.{stateOf};
 ghost use Rattle.graph.specs.Form.{Formed};
-ghost use Rattle.pass.specs.Shrink.{closed, dropSide, dropStep, releaseStep};
+ghost use Rattle.pass.specs.Shrink.{closed, dropSide, dropStep};
+ghost use Rattle.pass.specs.inner.Once.{releaseOnce};
 ghost use Rattle.shrink_pass.specs.inner.Shrinking.{ShrinkWorking, ShrinkWorked, partSide, partVertex};
 use crate::keep;
 use crate::keep::ShrinkProgress;
@@ -126,7 +127,7 @@ pub fn drop_vertex(
     }
 }
 
-// A noted vertex v is released, if held.
+// A noted vertex v is released.
 pub fn release_vertex(
     b: &mut [i64],
     t: &mut [i64],
@@ -136,11 +137,7 @@ pub fn release_vertex(
     v: usize,
 ) -> ShrinkProgress
     requires { ⌜ ShrinkWorking (now b) (now t) m p × (n < nodeCount (stateOf (now b))) × (v < vertexCount (stateOf (now b))) ⌝ }
-    ensures { λ r. ⌜ ShrinkWorked (now (b .entry)) (now (t .entry)) (now (b .exit)) (now (t .exit)) m p r (λ w. releaseStep n w v) ⌝ }
+    ensures { λ r. ⌜ ShrinkWorked (now (b .entry)) (now (t .entry)) (now (b .exit)) (now (t .exit)) m p r (λ w. releaseOnce n w v) ⌝ }
 {
-    if vertex::holder(b, v) == 0 {
-        p
-    } else {
-        part_vertex(b, t, n, v, m, p, false)
-    }
+    part_vertex(b, t, n, v, m, p, false)
 }

@@ -1,7 +1,7 @@
 // The shrinking pass over a node: overgrown vertices of amount 0 go, then the vertices behind boundary sides of growth 0.
 
 ghost use mathlib.Core.Path.{_≡_};
-ghost use Prim.Native.Nat.{_<_};
+ghost use Prim.Native.Nat.{_<_, _≤_};
 ghost use lib.ListN.{length};
 ghost use Rattle.graph.specs.Basic.{fold, any};
 ghost use Rattle.graph.specs.State.{sideCount, nodeCount, boundaryOf, overgrownOf};
@@ -9,7 +9,9 @@ ghost use Rattle.graph.specs.Layout.{stateOf};
 ghost use Rattle.graph.specs.Form.{Formed};
 ghost use Rattle.graph.specs.inner.Form.{Becomes, sidesOk};
 ghost use mathlib.Core.Bool.{true};
-ghost use Rattle.pass.specs.Shrink.{emptyTops, shrinkStep, releaseStep, shrinkPass};
+ghost use Rattle.pass.specs.Shrink.{emptyTops, shrinkPass};
+ghost use Rattle.pass.specs.inner.Free.{freeCount};
+ghost use Rattle.pass.specs.inner.Once.{noteEnd, shrinkStepOnce, releaseOnce, shrinkPassOnce};
 ghost use Rattle.pass.specs.inner.Ready.{Ready, Shrinkable, AfterPass};
 ghost use Rattle.shrink_pass.specs.inner.Shrinking.{HasShrinkWork, ShrinkWorking, ShrinkWorked, vertexLeft};
 use crate::keep;
@@ -51,25 +53,50 @@ fn any_emptied(b: &[i64], n: usize) -> bool
     false
 }
 
-// Boundary side s: its vertex is noted, or the side is kept once.
-fn shrink_side(b: &[i64], t: &mut [i64], m: usize, p: ShrinkProgress, s: usize) -> ShrinkProgress
-    requires { ⌜ ShrinkWorking (now b) (now t) m p × (s < m) × (p .noted < m) ⌝ }
-    ensures { λ r. ⌜ ShrinkWorked (now (b .entry)) (now (t .entry)) (now (b .entry)) (now (t .exit)) m p r (λ w. shrinkStep w s) ⌝ }
+// The vertex of side s, if held, has no holder any more and is noted.
+fn note_end(b: &mut [i64], t: &mut [i64], m: usize, p: ShrinkProgress, s: usize) -> ShrinkProgress
+    requires { ⌜ ShrinkWorking (now b) (now t) m p × (s < m) × (p .noted < m) × (p .noted ≤ freeCount (stateOf (now b))) ⌝ }
+    ensures { λ r. ⌜ ShrinkWorked (now (b .entry)) (now (t .entry)) (now (b .exit)) (now (t .exit)) m p r (λ w. noteEnd w s) ⌝ }
+{
+    let v = side::end(b, s);
+    if vertex::holder(b, v) == 0 {
+        p
+    } else {
+        vertex::set_holder(b, v, 0);
+        keep::note(t, m, p, v)
+    }
+}
+
+// Boundary side s: its vertex is noted, the first time, or the side is kept once.
+fn shrink_side(
+    b: &mut [i64],
+    t: &mut [i64],
+    m: usize,
+    p: ShrinkProgress,
+    s: usize,
+) -> ShrinkProgress
+    requires { ⌜ ShrinkWorking (now b) (now t) m p × (s < m) × (p .noted < m) × (p .noted ≤ freeCount (stateOf (now b))) ⌝ }
+    ensures { λ r. ⌜ ShrinkWorked (now (b .entry)) (now (t .entry)) (now (b .exit)) (now (t .exit)) m p r (λ w. shrinkStepOnce w s) ⌝ }
 {
     if emptied(b, s) {
-        let v = side::end(b, s);
-        keep::note(t, m, p, v)
+        note_end(b, t, m, p, s)
     } else {
         keep::keep_once(t, m, p, s)
     }
 }
 
 // The boundary of node n.
-fn shrink_scan(b: &[i64], t: &mut [i64], n: usize, m: usize, p: ShrinkProgress) -> ShrinkProgress
+fn shrink_scan(
+    b: &mut [i64],
+    t: &mut [i64],
+    n: usize,
+    m: usize,
+    p: ShrinkProgress,
+) -> ShrinkProgress
     requires { ⌜ ShrinkWorking (now b) (now t) m p × (n < nodeCount (stateOf (now b))) × Shrinkable (stateOf (now b)) n × (p .noted ≡ 0) ⌝ }
     ensures { λ r.
-        ⌜ ShrinkWorked (now (b .entry)) (now (t .entry)) (now (b .entry)) (now (t .exit)) m p r
-        (λ w. fold shrinkStep w (boundaryOf (stateOf (now (b .entry))) n)) ⌝ }
+        ⌜ ShrinkWorked (now (b .entry)) (now (t .entry)) (now (b .exit)) (now (t .exit)) m p r
+        (λ w. fold shrinkStepOnce w (boundaryOf (stateOf (now (b .entry))) n)) ⌝ }
 {
     let l = lists::boundary_len(b, n);
     let mut i = 0;
@@ -91,13 +118,13 @@ fn release_noted(
     p: ShrinkProgress,
 ) -> ShrinkProgress
     requires { ⌜ ShrinkWorking (now b) (now t) m p × (n < nodeCount (stateOf (now b))) ⌝ }
-    ensures { λ r. ⌜ ShrinkWorked (now (b .entry)) (now (t .entry)) (now (b .exit)) (now (t .exit)) m p r (λ w. fold (releaseStep n) w (w .noted)) ⌝ }
+    ensures { λ r. ⌜ ShrinkWorked (now (b .entry)) (now (t .entry)) (now (b .exit)) (now (t .exit)) m p r (λ w. fold (releaseOnce n) w (w .noted)) ⌝ }
 {
     let l = p.noted;
     let mut i = 0;
     let mut q = p;
     while i < l {
-        let v = words::word(t, m + i);
+        let v = words::word(t, 2 * m + i);
         q = release::release_vertex(b, t, n, m, q, v);
         i += 1;
     }
@@ -110,7 +137,7 @@ fn shrink_work(b: &mut [i64], t: &mut [i64], n: usize, m: usize, z: usize) -> Sh
         × (z ≡ length (emptyTops (overgrownOf (stateOf (now b)) n))) ⌝ }
     ensures { λ r.
         ⌜ Becomes (now (b .entry)) (now (b .exit)) (stateOf (now (b .exit)))
-        × HasShrinkWork (now (b .exit)) (now (t .exit)) m r (shrinkPass (stateOf (now (b .entry))) n) ⌝ }
+        × HasShrinkWork (now (b .exit)) (now (t .exit)) m r (shrinkPassOnce (stateOf (now (b .entry))) n) ⌝ }
 {
     let p = ShrinkProgress {
         kept: 0,

@@ -45,7 +45,7 @@ abbrev pub edgeWordsP : List ℤ
 edgeWordsP = words (0 ∷ 1 ∷ 4 ∷ 1 ∷ 2 ∷ 4 ∷ 2 ∷ 3 ∷ 4 ∷ [])
 
 abbrev pub scratch : List ℤ
-scratch = words (zeros 18)
+scratch = words (zeros 16)
 
 abbrev pub block : List ℤ
 block = words (zeros 137)

@@ -45,7 +45,7 @@ pub record Sizes : Type 0 where
 
 -- a scratch for these sizes; both a scratch and a list of m words for each edge
 abbrev pub scratchFits : Sizes → List ℤ → Bool
-scratchFits z t = eqb (length t) (scratchLength (z .edges))
+scratchFits z t = eqb (length t) (scratchLength (z .vertices) (z .edges))
 
 abbrev pub listFits : Sizes → ℕ → List ℤ → List ℤ → Bool
 listFits z m t list = scratchFits z t && eqb (length list) (m * z .edges)
@@ -103,7 +103,7 @@ orRefused fits a = if fits then a else Refused 1
 -- block and scratch have the lengths that an opening of V, E, N, L asks for
 abbrev pub openFits : Sizes → List ℤ → ℕ → ℕ → ℕ → ℕ → Bool
 openFits z t v e n l =
-    eqb (blockLength (z .vertices) (z .edges) (z .nodes) (z .store)) (blockLength v e n l) && eqb (length t) (scratchLength e)
+    eqb (blockLength (z .vertices) (z .edges) (z .nodes) (z .store)) (blockLength v e n l) && eqb (length t) (scratchLength v e)
 
 -- of a call in state c
 unfoldable pub returned : Sizes → State → LentCall → Returned

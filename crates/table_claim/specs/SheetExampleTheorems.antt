@@ -32,12 +32,12 @@ sheet = words (2 ∷ 1 ∷ 4 ∷ [])
 abbrev openBlock : List ℤ
 openBlock = words (openedWords 4 3 4 40 (edgesFrom weighedWords) (virtualsFrom virtuals))
 
-from-sheet : SheetCalled (words (zeros 137)) (words (zeros 18)) 4 3 4 40 bare sheet virtuals weighedWords openBlock (Opened 0)
+from-sheet : SheetCalled (words (zeros 137)) (words (zeros 16)) 4 3 4 40 bare sheet virtuals weighedWords openBlock (Opened 0)
 unfolding everythingLent Sheet.everything
 from-sheet = record { leaves = record { answer = refl; edges-are = refl; block = refl } }
 
 -- a value below 0: the edges stay as they were, and so does the block
-not-from-sheet : SheetCalled openBlock (words (zeros 18)) 4 3 4 40 bare (negsuc 0 ∷ pos 1 ∷ pos 4 ∷ []) virtuals bare openBlock (Refused 17)
+not-from-sheet : SheetCalled openBlock (words (zeros 16)) 4 3 4 40 bare (negsuc 0 ∷ pos 1 ∷ pos 4 ∷ []) virtuals bare openBlock (Refused 17)
 unfolding everythingLent Sheet.everything
 not-from-sheet = record { leaves = record { answer = refl; edges-are = refl; block = refl } }
 

@@ -1,6 +1,7 @@
 use mathlib.Core.Path.{sym, _∙_}
 use mathlib.Core.List.{map}
 use Rattle.graph.specs.Word.{toNat}
+use Rattle.pass.specs.laws.Scratch.{scratch-same}
 use Rattle.blossom.specs.laws.Blossom.{circle-joined}
 use borrow.Author.Needs.{needs}
 use Rattle.blossom.proofs.join_circle.Statement.{statement}
@@ -12,7 +13,7 @@ prepare-members-requires c κs = search needs
 join-members-requires : tie.Need-join-members-requires
 join-members-requires c κs = let s = c .before .before .before .before .before .before .before in
     let p = c .before .before .before .before .prepare-members .ensures in
-    (p .0 .formed, p .1 ∙ rw (p .0 .sides) (s .pre .1), p .2, s .pre .3 ∙ sym (p .0 .nodes))
+    (p .0 .formed, p .1 ∙ s .pre .1 ∙ scratch-same (p .0), p .2, s .pre .3 ∙ sym (p .0 .nodes))
 
 same-length : tie.Need-same-length
 same-length c = search needs

@@ -4,10 +4,8 @@ use Prim.Native.Nat.{_-_, _<_}
 use mathlib.Core.Path.{sym, _∙_}
 use mathlib.Core.List.{map}
 use lib.ListN.{length, length-map}
-use Rattle.graph.specs.State.{sideCount}
 use Rattle.graph.specs.Word.{toNat}
-use Rattle.graph.specs.Layout.{stateOf}
-use Rattle.pass.specs.laws.Scratch.{holding-zero}
+use Rattle.calls.specs.laws.Front.{front-none}
 use Rattle.graph.specs.laws.Form.{laid-nodes}
 use Rattle.graph.specs.laws.Number.{word-entry}
 use Rattle.blossom.specs.laws.Blossom.{MembersJoined, joined-here, members-none, members-node, members-sides, members-apart, members-more, members-all}
@@ -61,7 +59,7 @@ same-length-2 : tie.Need-same-length-2 Inv-loop μ-loop
 same-length-2 c =
     let s = c .before .before in
     c .before .loop .inv .joined .holding .size
-    ∙ sym (holding-zero (s .args .t .now) (sideCount (stateOf (s .args .b .now))) (s .pre .1) .size)
+    ∙ sym (front-none (s .pre .0) (s .pre .1) .size)
 
 returns : tie.Need-returns Inv-loop μ-loop
 returns c = let q = c .before .loop .inv in (members-all q (rw (length-map (c .before .before .args .circle .now) toNat) (omega arith)), q .joinable)

@@ -2,7 +2,7 @@
 use Prim.Native.Nat.{ℕ, _+_, _*_, _≤_, _<_}
 use mathlib.Core.Path.{_≡_}
 use mathlib.Core.Bool.{true}
-use mathlib.Core.List.{List, []}
+use mathlib.Core.List.{List}
 use lib.IntN.{ℤ}
 use lib.Dec.{ltb}
 use lib.ListN.{length}
@@ -11,9 +11,9 @@ use Rattle.graph.specs.State.{State, vertexCount, sideCount, nodeCount, holderA
 use Rattle.graph.specs.Word.{numbersAt}
 use Rattle.graph.specs.Layout.{stateOf}
 use Rattle.graph.specs.inner.Form.{Becomes}
-use Rattle.pass.specs.inner.Scratch.{ScratchHolds}
 use Rattle.pass.specs.inner.Ready.{Shrinkable}
 use Rattle.calls.specs.Refuse.{entriesBut}
+use Rattle.calls.specs.inner.Front.{FrontHolds}
 use Rattle.calls.specs.Insert.{Joining}
 
 -- the circle's members are nodes, none twice, that may be shrunk; one more node is allowed, and the store has room for its lists and theirs
@@ -31,7 +31,7 @@ joinedIn b t k = record { state = stateOf b; sides = numbersAt t 0 k }
 -- after b₀: block and scratch hold what is joined to blossom n, k sides, none twice and each held by n
 pub record JoinedIn (b₀ b t : List ℤ) (n k : ℕ) (j : Joining) : Type 0 where
   pub block : Becomes b₀ b (j .state)
-  pub holding : ScratchHolds t (sideCount (stateOf b₀)) (j .sides) [] []
+  pub holding : FrontHolds t (stateOf b₀) (j .sides)
   pub count : k ≡ length (j .sides)
   pub once : distinct (j .sides) ≡ true
   pub inside : all (λ s. ltb s (sideCount (stateOf b₀))) (j .sides) ≡ true

@@ -1,5 +1,5 @@
 -- Laws of the insertion of a blossom: preparing and joining its members.
-use Prim.Native.Nat.{ℕ, _+_, _-_, _*_, _≤_, _<_}
+use Prim.Native.Nat.{ℕ, _+_, _-_, _≤_, _<_}
 use native.Mathlib.Omega.{arith}
 use native.Mathlib.Decide.{ℕ-discrete as decEq}
 use mathlib.Core.Path.{_≡_, refl, sym, ap, subst, _∙_}
@@ -24,17 +24,18 @@ use Rattle.graph.specs.laws.Members.{by-test, all-snoc, member-at, member-appen
 use Rattle.graph.specs.Shape.{Shape}
 use Rattle.graph.specs.laws.Form.{laid-shape}
 use Rattle.graph.specs.laws.Row.{becomes-none, becomes-then}
-use Rattle.pass.specs.Scratch.{zeroScratch}
+use Rattle.pass.specs.Scratch.{scratchOf}
 use Rattle.pass.specs.inner.Scratch.{wiped}
 use Rattle.pass.specs.Prepare.{prepareNode}
 use Rattle.pass.specs.inner.Ready.{Ready, Shrinkable, Preparable, AfterPreparation}
-use Rattle.pass.specs.laws.Scratch.{holding-zero, zero-holding, hold-first, first-numbers, wipe-first}
+use Rattle.pass.specs.laws.Scratch.{scratch-same, hold-first, first-numbers, wipe-first}
 use Rattle.pass.specs.laws.Passes.{Passed}
 use Rattle.pass.specs.laws.Prepare.{prepare-passed}
 use Rattle.update_length.specs.declared.Answer.the-variants.{Node, Refused}
 use Rattle.update_length.specs.Answer.{says}
 use Rattle.calls.specs.Refuse.{entriesUnless, entriesBut, unless}
 use Rattle.calls.specs.Insert.{Joining, blossomRefusal, prepareStep, joinSide, memberStays, joinStep, joinCircle, blossomPut, insertBlossom}
+use Rattle.calls.specs.laws.Front.{front-none, none-front, front-before, front-after}
 use Rattle.blossom.specs.inner.Circle.{Joinable, JoinedIn, joinedIn}
 use Rattle.calls.specs.inner.Reply.{RepliesInsert, Usable}
 use Rattle.calls.specs.laws.Accepted.{BlossomAccepted, blossom-accepted, entries-passed}
@@ -69,10 +70,10 @@ joinable-passed {c} {d} {circle} m j h p s = record {
 pub record Preparing (b₀ b t : List ℤ) (circle : List ℕ) (i : ℕ) : Type 0 where
   pub below : i ≤ length circle
   pub block : Becomes b₀ b (fold prepareStep (stateOf b₀) (take i circle))
-  pub scratch : t ≡ zeroScratch (3 * sideCount (stateOf b₀))
+  pub scratch : t ≡ scratchOf (stateOf b₀)
   pub joinable : Joinable (stateOf b) circle
 
-pub preparing-none : {b t : List ℤ} {circle : List ℕ} → Formed b → t ≡ zeroScratch (3 * sideCount (stateOf b))
+pub preparing-none : {b t : List ℤ} {circle : List ℕ} → Formed b → t ≡ scratchOf (stateOf b)
     → Joinable (stateOf b) circle → Preparing b b t circle 0
 unfolding fold
 preparing-none {b} {t} {circle} f e j = record { below = omega arith; block = becomes-none b (stateOf b) f refl; scratch = e; joinable = j }
@@ -89,7 +90,7 @@ module _ {b₀ b t : List ℤ} {circle : List ℕ} {i : ℕ} (q : Preparing b₀
     preparing-ready = record {
       formed = q .block .formed;
       node = q .joinable .inside m here;
-      scratch = rw (q .block .sides) (q .scratch);
+      scratch = q .scratch ∙ scratch-same (q .block);
       room = omega (arith, joinable-room (q .joinable));
     }
 
@@ -322,18 +323,18 @@ module _ {b₀ b t : List ℤ} {n k : ℕ} {j : Joining} (p : JoinedIn b₀ b t 
   pub joined-here : JoinedIn b b t n k (joinedIn b t k)
   joined-here = rw joined-is (record {
     block = becomes-none b (j .state) (p .block .formed) (p .block .state);
-    holding = rw (p .block .sides) (p .holding);
+    holding = front-after (p .block) (p .holding);
     count = p .count;
     once = p .once;
     inside = rw (p .block .sides) (p .inside);
     held = p .held;
   })
 
-pub joined-none : {b t : List ℤ} (n : ℕ) → Formed b → t ≡ zeroScratch (3 * sideCount (stateOf b)) → JoinedIn b b t n 0 (joinedIn b t 0)
+pub joined-none : {b t : List ℤ} (n : ℕ) → Formed b → t ≡ scratchOf (stateOf b) → JoinedIn b b t n 0 (joinedIn b t 0)
 unfolding numbersAt distinct all
 joined-none {b} {t} n f e = record {
   block = becomes-none b (stateOf b) f refl;
-  holding = holding-zero t (sideCount (stateOf b)) e;
+  holding = front-none f e;
   count = refl;
   once = refl;
   inside = refl;
@@ -344,7 +345,7 @@ joined-none {b} {t} n f e = record {
 pub joined-after : {b₀ b b' t' : List ℤ} {c : State} {n k : ℕ} {j : Joining} → Becomes b₀ b c → JoinedIn b b' t' n k j → JoinedIn b₀ b' t' n k j
 joined-after q p = record {
   block = becomes-then q (p .block);
-  holding = rw (← q .sides) (p .holding);
+  holding = front-before q (p .holding);
   count = p .count;
   once = p .once;
   inside = rw (← q .sides) (p .inside);
@@ -357,7 +358,7 @@ pub record MembersJoined (b₀ b t₀ t : List ℤ) (circle : List ℕ) (n i k :
   pub joined : JoinedIn b₀ b t n k (fold (joinStep n) (joinedIn b₀ t₀ 0) (take i circle))
   pub joinable : Joinable (stateOf b) circle
 
-pub members-none : {b t : List ℤ} {circle : List ℕ} (n : ℕ) → Formed b → t ≡ zeroScratch (3 * sideCount (stateOf b))
+pub members-none : {b t : List ℤ} {circle : List ℕ} (n : ℕ) → Formed b → t ≡ scratchOf (stateOf b)
     → Joinable (stateOf b) circle → MembersJoined b b t t circle n 0 0
 unfolding fold
 members-none n f e j = record { below = omega arith; joined = joined-none n f e; joinable = j }
@@ -454,4 +455,4 @@ module _ {b t : List ℤ} (u : Usable b t) (x k : ℕ) (circle : List ℕ) (e : 
           rw (← e, eq-eqb k 0 h) (inserted-joined (p .block) r a en z)
 
       pub blossom-wiped : {t₅ : List ℤ} → t₅ ≡ wiped t₃ 0 l → t₅ ≡ t
-      blossom-wiped {t₅} i = i ∙ rw (p .count) (zero-holding _ (sideCount (stateOf b)) (wipe-first (p .holding))) ∙ sym (u .scratch)
+      blossom-wiped {t₅} i = i ∙ rw (p .count) (none-front (u .formed) (wipe-first (p .holding))) ∙ sym (u .scratch)

@@ -1,5 +1,5 @@
 -- Laws of the insertion of a defect.
-use Prim.Native.Nat.{ℕ, _+_, _*_, _≤_, _<_}
+use Prim.Native.Nat.{ℕ, _+_, _≤_, _<_}
 use native.Mathlib.Numerals.{add-one}
 use native.Mathlib.Omega.{arith}
 use mathlib.Core.Path.{_≡_, refl, sym, ap, subst, _∙_}
@@ -27,11 +27,13 @@ use Rattle.graph.specs.laws.State.{kept-refl, kept-trans, kept-held-side, fold-
 use Rattle.graph.specs.inner.Kept.{SameButHolders}
 use Rattle.graph.specs.laws.Row.{becomes-none, becomes-then}
 use Rattle.graph.specs.laws.SidesAt.{around-of, rising-of}
-use Rattle.pass.specs.Scratch.{zeroScratch}
-use Rattle.pass.specs.inner.Scratch.{ScratchHolds, wiped}
-use Rattle.pass.specs.laws.Scratch.{holding-zero, zero-holding, hold-first, first-numbers, wipe-first}
+use Rattle.pass.specs.Scratch.{scratchOf}
+use Rattle.pass.specs.inner.Scratch.{wiped}
+use Rattle.pass.specs.laws.Scratch.{hold-first, first-numbers, wipe-first}
 use Rattle.update_length.specs.declared.Answer.the-variants.{Node, Refused}
 use Rattle.update_length.specs.Answer.{says}
+use Rattle.calls.specs.inner.Front.{FrontHolds}
+use Rattle.calls.specs.laws.Front.{front-none, none-front, front-before}
 use Rattle.calls.specs.Refuse.{storeShort, unless}
 use Rattle.calls.specs.Insert.{occupied, defectRefusal, holdStep, defectPut, insertDefect}
 use Rattle.calls.specs.inner.Reply.{RepliesInsert, Usable}
@@ -78,13 +80,13 @@ pub record HeldSides (b₀ b t : List ℤ) (n v i : ℕ) : Type 0 where
   pub room : length (sidesAt (stateOf b₀) v) ≤ sideCount (stateOf b₀)
   pub kept : SameButHolders (stateOf b₀) (stateOf b)
   pub block : Becomes b₀ b (fold (holdStep n) (stateOf b₀) (take i (sidesAt (stateOf b₀) v)))
-  pub holding : ScratchHolds t (sideCount (stateOf b₀)) (take i (sidesAt (stateOf b₀) v)) [] []
+  pub holding : FrontHolds t (stateOf b₀) (take i (sidesAt (stateOf b₀) v))
 
 -- no vertex has more sides than there are
 pub sides-room : (b : List ℤ) (v : ℕ) → Formed b → v < vertexCount (stateOf b) → length (sidesAt (stateOf b) v) ≤ sideCount (stateOf b)
 sides-room b v f h = let r = around-of b v (f .laid) (rising-of b (f .wired)) h in omega (arith, r .size, r .within)
 
-pub held-none : {b t : List ℤ} (n v : ℕ) → Formed b → v < vertexCount (stateOf b) → t ≡ zeroScratch (3 * sideCount (stateOf b)) → HeldSides b b t n v 0
+pub held-none : {b t : List ℤ} (n v : ℕ) → Formed b → v < vertexCount (stateOf b) → t ≡ scratchOf (stateOf b) → HeldSides b b t n v 0
 unfolding fold
 held-none {b} {t} n v f h e = record {
   inside = h;
@@ -92,7 +94,7 @@ held-none {b} {t} n v f h e = record {
   room = sides-room b v f h;
   kept = kept-refl (stateOf b);
   block = becomes-none b (stateOf b) f refl;
-  holding = holding-zero t (sideCount (stateOf b)) e;
+  holding = front-none f e;
 }
 
 module _ {b₀ b t : List ℤ} {n v i : ℕ} (q : HeldSides b₀ b t n v i) where
@@ -111,7 +113,7 @@ module _ {b₀ b t : List ℤ} {n v i : ℕ} (q : HeldSides b₀ b t n v i) wher
       let z : heldSide (stateOf b) s n (n + 1) ≡ fold (holdStep n) (stateOf b₀) (take (i + 1) l) =
       rw (q .block .state, e) (sym (fold-more (holdStep n) (stateOf b₀) l i 0 h)) in
       let y : take (i + 1) l ≡ take i l ++ (s ∷ []) = rw (add-one, e) (take-suc l i 0 h) in
-      let w : ScratchHolds (set t i (pos s)) m (take i l ++ (s ∷ [])) [] [] = rw k at (hold-first (q .holding) s (omega (arith, k, h, r))) in
+      let w : FrontHolds (set t i (pos s)) (stateOf b₀) (take i l ++ (s ∷ [])) = rw k at (hold-first (q .holding) s (omega (arith, k, h, r))) in
       record {
         inside = q .inside;
         below = omega (arith, h);
@@ -122,13 +124,13 @@ module _ {b₀ b t : List ℤ} {n v i : ℕ} (q : HeldSides b₀ b t n v i) wher
       }
 
   -- the scratch is as long as it was
-  pub held-size : {t₀ : List ℤ} → t₀ ≡ zeroScratch (3 * sideCount (stateOf b₀)) → length t ≡ length t₀
-  held-size {t₀} e = q .holding .size ∙ sym (holding-zero t₀ (sideCount (stateOf b₀)) e .size)
+  pub held-size : {t₀ : List ℤ} → Formed b₀ → t₀ ≡ scratchOf (stateOf b₀) → length t ≡ length t₀
+  held-size f e = q .holding .size ∙ sym (front-none f e .size)
 
   pub held-all-block : length (sidesAt (stateOf b₀) v) ≤ i → Becomes b₀ b (fold (holdStep n) (stateOf b₀) (sidesAt (stateOf b₀) v))
   held-all-block h = rw (← fold-done (holdStep n) (stateOf b₀) (sidesAt (stateOf b₀) v) i h) (q .block)
 
-  pub held-all-scratch : length (sidesAt (stateOf b₀) v) ≤ i → ScratchHolds t (sideCount (stateOf b₀)) (sidesAt (stateOf b₀) v) [] []
+  pub held-all-scratch : length (sidesAt (stateOf b₀) v) ≤ i → FrontHolds t (stateOf b₀) (sidesAt (stateOf b₀) v)
   held-all-scratch h = rw (take-all i (sidesAt (stateOf b₀) v) h) at (q .holding)
 
 -- ---- the vertex with its sides
@@ -150,9 +152,8 @@ module _ {b₀ b₁ b₂ : List ℤ} (v n : ℕ) (p : Becomes b₀ b₁ (withDef
       let z : fold (holdStep n) (stateOf b₂) (sidesAt (stateOf b₂) v) ≡ heldDefect (stateOf b₀) v n = rw (vertex-sides, vertex-state) in
       subst (Becomes b₀ b₃) z (becomes-then (becomes-then p q) r)
 
-  pub defect-scratch : {t : List ℤ} → ScratchHolds t (sideCount (stateOf b₂)) (sidesAt (stateOf b₂) v) [] []
-      → ScratchHolds t (sideCount (stateOf b₀)) (sidesAt (stateOf b₀) v) [] []
-  defect-scratch h = rw (vertex-sides, q .sides, p .sides) at h
+  pub defect-scratch : {t : List ℤ} → FrontHolds t (stateOf b₂) (sidesAt (stateOf b₂) v) → FrontHolds t (stateOf b₀) (sidesAt (stateOf b₀) v)
+  defect-scratch h = front-before p (front-before q (rw vertex-sides at h))
 
   pub defect-count : {l : ℕ} → l ≡ length (sidesAt (stateOf b₂) v) → l ≡ length (sidesAt (stateOf b₀) v)
   defect-count e = e ∙ ap (λ (l : List ℕ). length l) vertex-sides
@@ -254,7 +255,7 @@ module _ {b t : List ℤ} (u : Usable b t) (v x k : ℕ) (e : k ≡ defectRefusa
     defect-state-small = omega (arith, taken .growState)
 
     module _ (n l : ℕ) {b₃ t₃ : List ℤ} (en : n ≡ nodeCount (stateOf b)) (p : Becomes b b₃ (heldDefect (stateOf b) v n))
-        (g : ScratchHolds t₃ (sideCount (stateOf b)) (sidesAt (stateOf b) v) [] [])
+        (g : FrontHolds t₃ (stateOf b) (sidesAt (stateOf b) v))
         (el : l ≡ length (sidesAt (stateOf b) v)) where
       still : SameLists (stateOf b) (stateOf b₃)
       still = rw (p .state) (same-defect n (stateOf b) v)
@@ -285,4 +286,4 @@ module _ {b t : List ℤ} (u : Usable b t) (v x k : ℕ) (e : k ≡ defectRefusa
           rw (← e, eq-eqb k 0 h) (inserted-joined p r a en z)
 
       pub defect-wiped : {t₅ : List ℤ} → t₅ ≡ wiped t₃ 0 l → t₅ ≡ t
-      defect-wiped {t₅} i = i ∙ rw el (zero-holding _ (sideCount (stateOf b)) (wipe-first g)) ∙ sym (u .scratch)
+      defect-wiped {t₅} i = i ∙ rw el (none-front (u .formed) (wipe-first g)) ∙ sym (u .scratch)

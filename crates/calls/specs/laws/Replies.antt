@@ -1,5 +1,5 @@
 -- What the calls on a node leave: a refusal with nothing changed, or the state that is defined.
-use Prim.Native.Nat.{ℕ, zero, suc, _*_, _≤_, _<_}
+use Prim.Native.Nat.{ℕ, zero, suc, _≤_, _<_}
 use native.Mathlib.Omega.{arith}
 use native.Mathlib.Decide.{ℕ-discrete as decEq}
 use mathlib.Core.Path.{_≡_, refl, sym, ap, _∙_}
@@ -22,7 +22,7 @@ use Rattle.pass.specs.inner.Ready.{Ready, Preparable, AfterPreparation}
 use Rattle.pass.specs.laws.Preparing.{sound-preparable}
 use Rattle.graph.specs.laws.Form.{laid-shape}
 use Rattle.graph.specs.laws.Members.{by-test}
-use Rattle.pass.specs.Scratch.{zeroScratch}
+use Rattle.pass.specs.laws.Scratch.{scratch-same}
 use Rattle.update_length.specs.declared.Answer.{Answer}
 use Rattle.update_length.specs.declared.Answer.the-variants.{Done, Refused}
 use Rattle.update_length.specs.declared.Answer.the-variants as Says
@@ -106,7 +106,7 @@ module _ {b t : List ℤ} {n d : ℕ} (u : MemoryPreparable b t n d) (wrong : Bo
     pub prepared-steady : Preparable (stateOf b') n d → MemoryPreparable b' t' n d
     prepared-steady g = record {
       formed = p .block .formed;
-      scratch = p .scratch ∙ u .scratch ∙ ap (λ m. zeroScratch (3 * m)) (sym (p .block .sides));
+      scratch = p .scratch ∙ u .scratch ∙ scratch-same (p .block);
       readable = prepared-read;
       able = λ h o e q.
           elim (decEq d up) [

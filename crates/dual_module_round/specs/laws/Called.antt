@@ -16,7 +16,7 @@ use Rattle.graph.specs.Basic.{if_then_else_}
 use Rattle.graph.specs.State.{State}
 use Rattle.graph.specs.Sound.{sound}
 use Rattle.graph.specs.Active.{renewed}
-use Rattle.graph.specs.Layout.{nOf, eOf, scratchLength, stateOf, sized, memoryFits, blockSound, blockRefusal, memoryRefusal}
+use Rattle.graph.specs.Layout.{vOf, eOf, nOf, scratchLength, stateOf, sized, memoryFits, blockSound, blockRefusal, memoryRefusal}
 use Rattle.graph.specs.Form.{Formed, Laid}
 use Rattle.graph.specs.inner.Form.{Becomes}
 use Rattle.graph.specs.laws.Members.{by-test, clash}
@@ -328,19 +328,19 @@ group-lent b s t m h =
 
 -- a block that is lent alone and not refused is in form and sound
 pub alone-accepted : (b : List ℤ) → blockRefusal (sized b) b ≡ 0 → Formed b × (sound (stateOf b) ≡ true)
-alone-accepted b h = let l = memory-accepted b (zeroScratch (scratchLength (eOf b))) (alike ∙ h) in (l .formed, l .sounds)
+alone-accepted b h = let l = memory-accepted b (zeroScratch (scratchLength (vOf b) (eOf b))) (alike ∙ h) in (l .formed, l .sounds)
   where
     long : (n : ℕ) → length (zeroScratch n) ≡ n
     long n = unfold zeroScratch in (length-replicate n (pos 0))
 
-    fits : memoryFits b (zeroScratch (scratchLength (eOf b))) ≡ sized b
-    fits = unfold memoryFits in (rw (long (scratchLength (eOf b)), eq-eqb (scratchLength (eOf b)) (scratchLength (eOf b)) refl) (last (sized b)))
+    fits : memoryFits b (zeroScratch (scratchLength (vOf b) (eOf b))) ≡ sized b
+    fits = unfold memoryFits in (rw (long (scratchLength (vOf b) (eOf b)), eq-eqb (scratchLength (vOf b) (eOf b)) (scratchLength (vOf b) (eOf b)) refl) (last (sized b)))
       where
         last : (x : Bool) → x && true ≡ x
         last true = refl
         last false = refl
 
-    alike : memoryRefusal b (zeroScratch (scratchLength (eOf b))) ≡ blockRefusal (sized b) b
+    alike : memoryRefusal b (zeroScratch (scratchLength (vOf b) (eOf b))) ≡ blockRefusal (sized b) b
     alike = unfold memoryRefusal in (ap (λ f. blockRefusal f b) fits)
 
 pub renew-replies : {b b' : List ℤ} → Becomes b b' (renewed (stateOf b)) → Replies b b' Done (renewActiveList (stateOf b))

@@ -245,4 +245,4 @@ module _ (b : List ℤ) (f : Formed b) (k i p : ℕ) (s : InRow b k i p) (free :
   -- with any word z at a free place the block is refused as before, and holds the same state
   pub free-word-unread : (t : List ℤ) → (memoryRefusal (set b p z) t ≡ memoryRefusal b t) × (stateOf (set b p z) ≡ stateOf b)
   unfolding memoryRefusal blockRefusal memoryFits
-  free-word-unread t = (rw (free-word-sized, free-word-sound, word-same 1 (omega arith)) refl, free-word-state)
+  free-word-unread t = (rw (free-word-sized, free-word-sound, word-same 0 (omega arith), word-same 1 (omega arith)) refl, free-word-state)

@@ -3,13 +3,14 @@ use Prim.Native.Nat.{ℕ, _+_, _*_, _≤_, _<_}
 use mathlib.Core.Path.{_≡_}
 use mathlib.Core.List.{List, _++_}
 use lib.IntN.{ℤ}
-use Rattle.graph.specs.State.{sideCount, nodeCount, overgrownOf}
+use Rattle.graph.specs.State.{vertexCount, sideCount, nodeCount, overgrownOf}
 use Rattle.graph.specs.Word.{numbersAt}
 use Rattle.graph.specs.Layout.{stackFrom, stateOf}
 use Rattle.graph.specs.Form.{Formed}
 use Rattle.graph.specs.inner.Form.{Becomes}
 use Rattle.pass.specs.Work.{Work}
-use Rattle.pass.specs.inner.Scratch.{ScratchHolds}
+use Rattle.pass.specs.inner.Scratch.{noteLimit, ScratchHolds}
+use Rattle.pass.specs.inner.Free.{freeCount}
 use Rattle.pass.specs.inner.Own.{OwnSides}
 use Rattle.grow_pass.specs.declared.take.GrowProgress.{GrowProgress}
 
@@ -18,8 +19,8 @@ unfoldable pub growWorkIn : List ℤ → List ℤ → ℕ → ℕ → GrowProgre
 growWorkIn b t n m p = record {
   state = stateOf b;
   kept = numbersAt t 0 (p .kept);
-  noted = numbersAt t m (p .noted);
-  over = stackFrom (numbersAt t (2 * m) (p .pushed)) ++ overgrownOf (stateOf b) n;
+  noted = numbersAt t (2 * m) (p .noted);
+  over = stackFrom (numbersAt t m (p .pushed)) ++ overgrownOf (stateOf b) n;
   another = p .another;
 }
 
@@ -29,9 +30,13 @@ pub record GrowWorking (b t : List ℤ) (n m : ℕ) (p : GrowProgress) : Type 0 
   pub node : n < nodeCount (stateOf b)
   pub sides : sideCount (stateOf b) ≡ m
   pub kept : p .kept ≤ m
-  pub noted : p .noted ≤ m
+  pub noted : p .noted ≤ noteLimit (stateOf b)
   pub pushed : p .pushed ≤ m
-  pub holding : ScratchHolds t m (numbersAt t 0 (p .kept)) (numbersAt t m (p .noted)) (numbersAt t (2 * m) (p .pushed))
+  pub holding : ScratchHolds t m (noteLimit (stateOf b)) (numbersAt t 0 (p .kept)) (numbersAt t m (p .pushed)) (numbersAt t (2 * m) (p .noted))
+
+-- no more vertices are noted than are held
+abbrev pub NotesFit : List ℤ → GrowProgress → Type 0
+NotesFit b p = p .noted + freeCount (stateOf b) ≤ vertexCount (stateOf b)
 
 -- after b₀, block and scratch have the work w
 pub record GrowWorked (b₀ b t : List ℤ) (n m : ℕ) (p : GrowProgress) (w : Work) : Type 0 where

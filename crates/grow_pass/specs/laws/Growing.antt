@@ -17,7 +17,7 @@ use Rattle.graph.specs.Basic.{fold}
 use Rattle.graph.specs.laws.State.{kept-refl, kept-trans, fold-more, fold-done}
 use Rattle.graph.specs.inner.Kept.{SameButHolders}
 use Rattle.pass.specs.Work.{Work, onState, keep, note, push, callAnother}
-use Rattle.pass.specs.inner.Scratch.{ScratchHolds}
+use Rattle.pass.specs.inner.Scratch.{noteLimit, ScratchHolds}
 use Rattle.pass.specs.laws.Scratch.{hold-first, hold-second, hold-third}
 use Rattle.pass.specs.laws.Passes.{Keeps}
 use Rattle.grow_pass.specs.inner.Growing.{growWorkIn, GrowWorking, GrowWorked}
@@ -44,18 +44,18 @@ module _ {b t : List ℤ} {n m : ℕ} {p : GrowProgress} (q : GrowWorking b t n 
   pub kept-length : length (numbersAt t 0 (p .kept)) ≡ p .kept
   kept-length = numbers-length t 0 (p .kept) (omega (arith, q .kept, q .holding .size))
 
-  pub noted-length : length (numbersAt t m (p .noted)) ≡ p .noted
-  noted-length = numbers-length t m (p .noted) (omega (arith, q .noted, q .holding .size))
+  pub noted-length : length (numbersAt t (2 * m) (p .noted)) ≡ p .noted
+  noted-length = numbers-length t (2 * m) (p .noted) (omega (arith, q .noted, q .holding .size))
 
-  pub pushed-length : length (numbersAt t (2 * m) (p .pushed)) ≡ p .pushed
-  pushed-length = numbers-length t (2 * m) (p .pushed) (omega (arith, q .pushed, q .holding .size))
+  pub pushed-length : length (numbersAt t m (p .pushed)) ≡ p .pushed
+  pushed-length = numbers-length t m (p .pushed) (omega (arith, q .pushed, q .holding .size))
 
   -- how long the stack is
   pub over-length : length (growWorkIn b t n m p .over) ≡ p .pushed + length (overgrownOf (stateOf b) n)
   unfolding growWorkIn
   over-length =
-      length-append (stackFrom (numbersAt t (2 * m) (p .pushed))) (overgrownOf (stateOf b) n)
-      ∙ omega (arith, length-stack (numbersAt t (2 * m) (p .pushed)), pushed-length)
+      length-append (stackFrom (numbersAt t m (p .pushed))) (overgrownOf (stateOf b) n)
+      ∙ omega (arith, length-stack (numbersAt t m (p .pushed)), pushed-length)
 
   -- side s is kept
   pub work-keep : (s : ℕ) → p .kept < m
@@ -68,11 +68,11 @@ module _ {b t : List ℤ} {n m : ℕ} {p : GrowProgress} (q : GrowWorking b t n 
       let z : 0 + p .kept ≡ p .kept = omega arith in
       let x : numbersAt (set t (p .kept) (pos s)) 0 (p .kept + 1) ≡ numbersAt t 0 (p .kept) ++ (s ∷ []) =
       rw z at (numbers-push t 0 (p .kept) s (omega arith)) in
-      let y : numbersAt (set t (p .kept) (pos s)) m (p .noted) ≡ numbersAt t m (p .noted) = numbers-still-below t m (p .noted) (p .kept) (pos s) h in
-      let o : numbersAt (set t (p .kept) (pos s)) (2 * m) (p .pushed) ≡ numbersAt t (2 * m) (p .pushed) =
-      numbers-still-below t (2 * m) (p .pushed) (p .kept) (pos s) (omega arith) in
-      let r : ScratchHolds (set t (p .kept) (pos s)) m (numbersAt t 0 (p .kept) ++ (s ∷ [])) (numbersAt t m (p .noted))
-      (numbersAt t (2 * m) (p .pushed)) =
+      let y : numbersAt (set t (p .kept) (pos s)) m (p .pushed) ≡ numbersAt t m (p .pushed) = numbers-still-below t m (p .pushed) (p .kept) (pos s) h in
+      let o : numbersAt (set t (p .kept) (pos s)) (2 * m) (p .noted) ≡ numbersAt t (2 * m) (p .noted) =
+      numbers-still-below t (2 * m) (p .noted) (p .kept) (pos s) (omega arith) in
+      let r : ScratchHolds (set t (p .kept) (pos s)) m (noteLimit (stateOf b)) (numbersAt t 0 (p .kept) ++ (s ∷ [])) (numbersAt t m (p .pushed))
+      (numbersAt t (2 * m) (p .noted)) =
       rw kept-length at (hold-first (q .holding) s (rw kept-length h)) in
       record {
         block = becomes-none b (stateOf b) (q .formed) refl;
@@ -90,22 +90,22 @@ module _ {b t : List ℤ} {n m : ℕ} {p : GrowProgress} (q : GrowWorking b t n 
       }
 
   -- x is noted
-  pub work-note : (s : ℕ) → p .noted < m
-      → GrowWorked b b (set t (m + p .noted) (pos s)) n m
+  pub work-note : (s : ℕ) → p .noted < noteLimit (stateOf b)
+      → GrowWorked b b (set t (2 * m + p .noted) (pos s)) n m
       (record { kept = p .kept; noted = p .noted + 1; pushed = p .pushed; another = p .another })
       (note (growWorkIn b t n m p) s)
   unfolding growWorkIn note
   work-note s h =
       let l = q .holding .size in
       let k = q .kept in
-      let t' : List ℤ = set t (m + p .noted) (pos s) in
-      let x : numbersAt t' 0 (p .kept) ≡ numbersAt t 0 (p .kept) = numbers-still-above t 0 (p .kept) (m + p .noted) (pos s) (omega arith) in
-      let y : numbersAt t' m (p .noted + 1) ≡ numbersAt t m (p .noted) ++ (s ∷ []) = numbers-push t m (p .noted) s (omega arith) in
-      let o : numbersAt t' (2 * m) (p .pushed) ≡ numbersAt t (2 * m) (p .pushed) =
-      numbers-still-below t (2 * m) (p .pushed) (m + p .noted) (pos s) (omega arith) in
-      let r : ScratchHolds t' m (numbersAt t 0 (p .kept)) (numbersAt t m (p .noted) ++ (s ∷ []))
-      (numbersAt t (2 * m) (p .pushed)) =
-      rw noted-length at (hold-second (q .holding) s (rw noted-length h)) in
+      let j = q .pushed in
+      let t' : List ℤ = set t (2 * m + p .noted) (pos s) in
+      let x : numbersAt t' 0 (p .kept) ≡ numbersAt t 0 (p .kept) = numbers-still-above t 0 (p .kept) (2 * m + p .noted) (pos s) (omega arith) in
+      let y : numbersAt t' m (p .pushed) ≡ numbersAt t m (p .pushed) = numbers-still-above t m (p .pushed) (2 * m + p .noted) (pos s) (omega arith) in
+      let o : numbersAt t' (2 * m) (p .noted + 1) ≡ numbersAt t (2 * m) (p .noted) ++ (s ∷ []) = numbers-push t (2 * m) (p .noted) s (omega arith) in
+      let r : ScratchHolds t' m (noteLimit (stateOf b)) (numbersAt t 0 (p .kept)) (numbersAt t m (p .pushed))
+      (numbersAt t (2 * m) (p .noted) ++ (s ∷ [])) =
+      rw noted-length at (hold-third (q .holding) s (rw noted-length h)) in
       record {
         block = becomes-none b (stateOf b) (q .formed) refl;
         working =
@@ -123,21 +123,21 @@ module _ {b t : List ℤ} {n m : ℕ} {p : GrowProgress} (q : GrowWorking b t n 
 
   -- vertex v is pushed
   pub work-push : (v : ℕ) → v < 1024 → p .pushed < m
-      → GrowWorked b b (set t (2 * m + p .pushed) (pos v)) n m
+      → GrowWorked b b (set t (m + p .pushed) (pos v)) n m
       (record { kept = p .kept; noted = p .noted; pushed = p .pushed + 1; another = p .another })
       (push (growWorkIn b t n m p) v)
   unfolding growWorkIn push
   work-push v h₀ h =
       let l = q .holding .size in
       let k = q .kept in
-      let j = q .noted in
-      let t' : List ℤ = set t (2 * m + p .pushed) (pos v) in
-      let x : numbersAt t' 0 (p .kept) ≡ numbersAt t 0 (p .kept) = numbers-still-above t 0 (p .kept) (2 * m + p .pushed) (pos v) (omega arith) in
-      let y : numbersAt t' m (p .noted) ≡ numbersAt t m (p .noted) = numbers-still-above t m (p .noted) (2 * m + p .pushed) (pos v) (omega arith) in
-      let o : numbersAt t' (2 * m) (p .pushed + 1) ≡ numbersAt t (2 * m) (p .pushed) ++ (v ∷ []) = numbers-push t (2 * m) (p .pushed) v (omega arith) in
-      let r : ScratchHolds t' m (numbersAt t 0 (p .kept)) (numbersAt t m (p .noted))
-      (numbersAt t (2 * m) (p .pushed) ++ (v ∷ [])) =
-      rw pushed-length at (hold-third (q .holding) v (rw pushed-length h)) in
+      let t' : List ℤ = set t (m + p .pushed) (pos v) in
+      let x : numbersAt t' 0 (p .kept) ≡ numbersAt t 0 (p .kept) = numbers-still-above t 0 (p .kept) (m + p .pushed) (pos v) (omega arith) in
+      let y : numbersAt t' m (p .pushed + 1) ≡ numbersAt t m (p .pushed) ++ (v ∷ []) = numbers-push t m (p .pushed) v (omega arith) in
+      let o : numbersAt t' (2 * m) (p .noted) ≡ numbersAt t (2 * m) (p .noted) =
+      numbers-still-below t (2 * m) (p .noted) (m + p .pushed) (pos v) (omega arith) in
+      let r : ScratchHolds t' m (noteLimit (stateOf b)) (numbersAt t 0 (p .kept)) (numbersAt t m (p .pushed) ++ (v ∷ []))
+      (numbersAt t (2 * m) (p .noted)) =
+      rw pushed-length at (hold-second (q .holding) v (rw pushed-length h)) in
       record {
         block = becomes-none b (stateOf b) (q .formed) refl;
         working =
@@ -150,7 +150,7 @@ module _ {b t : List ℤ} {n m : ℕ} {p : GrowProgress} (q : GrowWorking b t n 
               pushed = omega arith;
               holding = rw (x, y, o) r;
             };
-        work = rw (x, y, o, stack-push (numbersAt t (2 * m) (p .pushed)) v h₀);
+        work = rw (x, y, o, stack-push (numbersAt t m (p .pushed)) v h₀);
       }
 
   -- another pass is called for, if y says so
@@ -178,9 +178,9 @@ module _ {b t : List ℤ} {n m : ℕ} {p : GrowProgress} (q : GrowWorking b t n 
               node = rw (x .nodes) (q .node);
               sides = x .sides ∙ q .sides;
               kept = q .kept;
-              noted = q .noted;
+              noted = rw (x .vertices, x .sides) (q .noted);
               pushed = q .pushed;
-              holding = q .holding;
+              holding = rw (x .vertices, x .sides) (q .holding);
             };
         work = rw e
             (ap
@@ -188,8 +188,8 @@ module _ {b t : List ℤ} {n m : ℕ} {p : GrowProgress} (q : GrowWorking b t n 
             record {
               state = d;
               kept = numbersAt t 0 (p .kept);
-              noted = numbersAt t m (p .noted);
-              over = stackFrom (numbersAt t (2 * m) (p .pushed)) ++ overgrownOf (stateOf b) n;
+              noted = numbersAt t (2 * m) (p .noted);
+              over = stackFrom (numbersAt t m (p .pushed)) ++ overgrownOf (stateOf b) n;
               another = p .another;
             })
             (x .state));

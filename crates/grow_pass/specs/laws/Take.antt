@@ -10,7 +10,7 @@ use lib.Dec.{eqb, ltb}
 use lib.ListN.{length, set, getD, length-append}
 use borrow.Author.Tests.{eq-eqb, ne-eqb, lt-ltb, ltb-true}
 use Rattle.graph.specs.Basic.{fold, all}
-use Rattle.graph.specs.State.{State, Overgrown, opposite, endAt, holderAt, grandsonAt, sidesAt, vertexHolderAt, overgrownOf, weightOver, heldSide, heldVertex, withVertices, withVertexHolder, withVertexGrandson}
+use Rattle.graph.specs.State.{State, Overgrown, opposite, endAt, holderAt, grandsonAt, sidesAt, overgrownOf, weightOver, heldSide, heldVertex, withVertices, withVertexHolder, withVertexGrandson}
 use Rattle.graph.specs.Word.{wordAt, numbersAt}
 use Rattle.graph.specs.Layout.{stateOf}
 use Rattle.graph.specs.inner.Form.{Becomes}
@@ -18,8 +18,9 @@ use Rattle.graph.specs.laws.State.{if-both, fold-keeps, fold-keeps-on, kept-ref
 use Rattle.graph.specs.laws.Members.{both, all-at}
 use Rattle.graph.specs.laws.Number.{numbers-entry}
 use Rattle.pass.specs.Work.{Work, onState, keep, push, callAnother}
-use Rattle.pass.specs.Grow.{takeSide, takeVertex, takeStep}
-use Rattle.pass.specs.laws.Passes.{Keeps, keeps-take-side, keeps-take-step, keeps-on}
+use Rattle.pass.specs.Grow.{takeSide, takeVertex}
+use Rattle.pass.specs.inner.Once.{takeOnce}
+use Rattle.pass.specs.laws.Passes.{Keeps, keeps-take-side, keeps-take-vertex, keeps-on}
 use Rattle.pass.specs.laws.Fits.{own-length, own-snoc, side-holds, side-held, own-take-side, Siding, siding-step, Still, still-take-side}
 use Rattle.pass.specs.inner.Own.{OwnSides}
 use Rattle.graph.specs.laws.Form.{formed-shape, formed-sides}
@@ -142,7 +143,7 @@ module _ {b t : List ℤ} {n m : ℕ} {p : GrowProgress} (q : GrowWorking b t n 
     start-kept = unfold growWorkIn in kept-length q
 
     pub vertex-push : r .kept ≡ p .kept → v < 1024 → p .pushed < m
-        → GrowWorked b b₂ (set t₂ (2 * m + r .pushed) (pos v)) n m
+        → GrowWorked b b₂ (set t₂ (m + r .pushed) (pos v)) n m
         (record { kept = r .kept; noted = r .noted; pushed = r .pushed + 1; another = r .another })
         (takeVertex n g (growWorkIn b t n m p) v)
     vertex-push e l k =
@@ -163,29 +164,13 @@ module _ {b t : List ℤ} {n m : ℕ} {p : GrowProgress} (q : GrowWorking b t n 
 
 -- ---- a noted side
 
-step-free : (n : ℕ) (w : Work) (s : ℕ) → vertexHolderAt (w .state) (endAt (w .state) (opposite s)) ≡ 0
-    → takeStep n w s ≡ takeVertex n (grandsonAt (w .state) s) w (endAt (w .state) (opposite s))
-unfolding takeStep
-step-free n w s h = rw (eq-eqb (vertexHolderAt (w .state) (endAt (w .state) (opposite s))) 0 h)
-
-step-none : (n : ℕ) (w : Work) (s : ℕ) → vertexHolderAt (w .state) (endAt (w .state) (opposite s)) ≢ 0 → takeStep n w s ≡ w
-unfolding takeStep
-step-none n w s h = rw (ne-eqb (vertexHolderAt (w .state) (endAt (w .state) (opposite s))) 0 h)
-
-module _ {b t : List ℤ} {n m : ℕ} {p : GrowProgress} (q : GrowWorking b t n m p) (s o v : ℕ) (e : o ≡ opposite s) (f : v ≡ endAt (stateOf b) o) where
-  -- the vertex behind it is taken
-  pub step-taken : {b' t' : List ℤ} {r : GrowProgress} (g : ℕ) → g ≡ grandsonAt (stateOf b) s
-      → vertexHolderAt (stateOf b) v ≡ 0 → GrowWorked b b' t' n m r (takeVertex n g (growWorkIn b t n m p) v)
-      → GrowWorked b b' t' n m r (takeStep n (growWorkIn b t n m p) s)
-  unfolding growWorkIn
-  step-taken {b'} {t'} {r} g k z x =
-      let y : vertexHolderAt (stateOf b) (endAt (stateOf b) (opposite s)) ≡ 0 = rw (← e, ← f) z in
-      rw (step-free n (growWorkIn b t n m p) s y, ← e, ← f, ← k) x
-
-  -- or it is held already
-  pub step-held : vertexHolderAt (stateOf b) v ≢ 0 → GrowWorked b b t n m p (takeStep n (growWorkIn b t n m p) s)
-  unfolding growWorkIn
-  step-held z = rw (step-none n (growWorkIn b t n m p) s (λ y. z (rw (f, e) y))) (work-none q)
+-- the vertex behind it is taken
+pub step-taken : {b t : List ℤ} {n m : ℕ} {p : GrowProgress} → GrowWorking b t n m p → (s o v : ℕ) → o ≡ opposite s → v ≡ endAt (stateOf b) o
+    → {b' t' : List ℤ} {r : GrowProgress} (g : ℕ) → g ≡ grandsonAt (stateOf b) s
+    → GrowWorked b b' t' n m r (takeVertex n g (growWorkIn b t n m p) v)
+    → GrowWorked b b' t' n m r (takeOnce n (growWorkIn b t n m p) s)
+unfolding growWorkIn takeOnce
+step-taken q s o v e f g k x = rw (← e, ← f, ← k) x
 
 -- what a step with a noted side leaves
 own-take-vertex : (n m g : ℕ) (w : Work) (v : ℕ) → length (w .state .sides .holder) ≡ m
@@ -202,14 +187,12 @@ own-take-vertex n m g w v len b o =
     (sidesAt (w .state) v) b start in
     if-both (λ (x : Work). OwnSides n m (x .state) (x .kept)) (eqb (length (sided n g w v .kept)) (length (w .kept))) (r .own) (r .own)
 
-own-take-step : (n m : ℕ) (w : Work) (s : ℕ) → length (w .state .sides .holder) ≡ m
+own-take-once : (n m : ℕ) (w : Work) (s : ℕ) → length (w .state .sides .holder) ≡ m
     → ((v : ℕ) → all (λ t. ltb t m) (sidesAt (w .state) v) ≡ true) → OwnSides n m (w .state) (w .kept)
-    → OwnSides n m (takeStep n w s .state) (takeStep n w s .kept)
-unfolding takeStep
-own-take-step n m w s len b o =
-    if-both (λ (x : Work). OwnSides n m (x .state) (x .kept)) (eqb (vertexHolderAt (w .state) (endAt (w .state) (opposite s))) 0)
-    (own-take-vertex n m (grandsonAt (w .state) s) w (endAt (w .state) (opposite s)) len (b (endAt (w .state) (opposite s))) o)
-    o
+    → OwnSides n m (takeOnce n w s .state) (takeOnce n w s .kept)
+unfolding takeOnce
+own-take-once n m w s len b o =
+    own-take-vertex n m (grandsonAt (w .state) s) w (endAt (w .state) (opposite s)) len (b (endAt (w .state) (opposite s))) o
 
 noted-take-side : (l : List ℕ) (n g : ℕ) (w : Work) (t : ℕ) → w .noted ≡ l → takeSide n g w t .noted ≡ l
 unfolding takeSide callAnother keep onState
@@ -223,11 +206,9 @@ noted-take-vertex n g w v =
     (onState w (heldVertex (w .state) v n g)) (sidesAt (w .state) v) (unfold onState in refl) in
     if-both (λ (x : Work). x .noted ≡ w .noted) (eqb (length (sided n g w v .kept)) (length (w .kept))) e e
 
-noted-take-step : (n : ℕ) (w : Work) (s : ℕ) → takeStep n w s .noted ≡ w .noted
-unfolding takeStep
-noted-take-step n w s =
-    if-both (λ (x : Work). x .noted ≡ w .noted) (eqb (vertexHolderAt (w .state) (endAt (w .state) (opposite s))) 0)
-    (noted-take-vertex n (grandsonAt (w .state) s) w (endAt (w .state) (opposite s))) refl
+noted-take-once : (n : ℕ) (w : Work) (s : ℕ) → takeOnce n w s .noted ≡ w .noted
+unfolding takeOnce
+noted-take-once n w s = noted-take-vertex n (grandsonAt (w .state) s) w (endAt (w .state) (opposite s))
 
 over-take-vertex : (n g : ℕ) (w : Work) (v : ℕ) → length (takeVertex n g w v .over) ≤ length (w .over) + 1
 unfolding takeVertex push
@@ -235,22 +216,20 @@ over-take-vertex n g w v =
     let e : length (sided n g w v .over) ≡ length (w .over) = ap (λ (l : List Overgrown). length l) (sided-over n g w v) in
     if-both (λ (x : Work). length (x .over) ≤ length (w .over) + 1) (eqb (length (sided n g w v .kept)) (length (w .kept))) (omega arith) (omega arith)
 
-over-take-step : (n : ℕ) (w : Work) (s : ℕ) → length (takeStep n w s .over) ≤ length (w .over) + 1
-unfolding takeStep
-over-take-step n w s =
-    if-both (λ (x : Work). length (x .over) ≤ length (w .over) + 1)
-    (eqb (vertexHolderAt (w .state) (endAt (w .state) (opposite s))) 0)
-    (over-take-vertex n (grandsonAt (w .state) s) w (endAt (w .state) (opposite s))) (omega arith)
+over-take-once : (n : ℕ) (w : Work) (s : ℕ) → length (takeOnce n w s .over) ≤ length (w .over) + 1
+unfolding takeOnce
+over-take-once n w s = over-take-vertex n (grandsonAt (w .state) s) w (endAt (w .state) (opposite s))
 
-pub keeping-take-step : (n : ℕ) → Keeping (takeStep n)
-keeping-take-step n w s = keeps-take-step (w .state) n w s (kept-refl (w .state))
+pub keeping-take-once : (n : ℕ) → Keeping (takeOnce n)
+unfolding takeOnce
+keeping-take-once n w s = keeps-take-vertex (w .state) n (grandsonAt (w .state) s) w (endAt (w .state) (opposite s)) (kept-refl (w .state))
 
 -- ---- the noted sides, of which i are done
 
 pub record Noting (b t₀ t : List ℤ) (n m : ℕ) (p₀ p : GrowProgress) (i : ℕ) : Type 0 where
   pub own : OwnKept b t n m p
   pub noted : p .noted ≡ p₀ .noted
-  pub same : numbersAt t m (p .noted) ≡ numbersAt t₀ m (p₀ .noted)
+  pub same : numbersAt t (2 * m) (p .noted) ≡ numbersAt t₀ (2 * m) (p₀ .noted)
   pub pushed : p .pushed ≤ i
 
 pub noting-none : {b t : List ℤ} {n m : ℕ} {p : GrowProgress} → OwnKept b t n m p → p .pushed ≡ 0 → Noting b t t n m p p 0
@@ -258,23 +237,23 @@ noting-none o e = record { own = o; noted = refl; same = refl; pushed = omega ar
 
 module _ {b t₀ t : List ℤ} {n m : ℕ} {p₀ p : GrowProgress} {i : ℕ} (q : GrowWorking b t n m p) (k : Noting b t₀ t n m p₀ p i) where
   -- the next one
-  pub noting-side : (s : ℕ) → s ≡ wordAt t (m + i) → i < p₀ .noted → s ≡ getD (numbersAt t₀ m (p₀ .noted)) i 0
-  noting-side s e h = e ∙ sym (numbers-entry t m (p .noted) i (rw (k .noted) h)) ∙ ap (λ (l : List ℕ). getD l i 0) (k .same)
+  pub noting-side : (s : ℕ) → s ≡ wordAt t (2 * m + i) → i < p₀ .noted → s ≡ getD (numbersAt t₀ (2 * m) (p₀ .noted)) i 0
+  noting-side s e h = e ∙ sym (numbers-entry t (2 * m) (p .noted) i (rw (k .noted) h)) ∙ ap (λ (l : List ℕ). getD l i 0) (k .same)
 
   pub noting-more : {b' t' : List ℤ} {r : GrowProgress} (s : ℕ)
-      → GrowWorked b b' t' n m r (takeStep n (growWorkIn b t n m p) s) → Noting b' t₀ t' n m p₀ r (i + 1)
+      → GrowWorked b b' t' n m r (takeOnce n (growWorkIn b t n m p) s) → Noting b' t₀ t' n m p₀ r (i + 1)
   noting-more {b'} {t'} {r} s x =
-      let same : numbersAt t' m (r .noted) ≡ numbersAt t m (p .noted) = unfold growWorkIn in
-      (ap (λ (w : Work). w .noted) (x .work) ∙ noted-take-step n (growWorkIn b t n m p) s) in
-      let keeps : Keeps (stateOf b) (takeStep n (growWorkIn b t n m p) s) = unfold growWorkIn in keeping-take-step n (growWorkIn b t n m p) s in
+      let same : numbersAt t' (2 * m) (r .noted) ≡ numbersAt t (2 * m) (p .noted) = unfold growWorkIn in
+      (ap (λ (w : Work). w .noted) (x .work) ∙ noted-take-once n (growWorkIn b t n m p) s) in
+      let keeps : Keeps (stateOf b) (takeOnce n (growWorkIn b t n m p) s) = unfold growWorkIn in keeping-take-once n (growWorkIn b t n m p) s in
       record {
         own = own-worked x
             (unfold growWorkIn in
-            own-take-step n m (growWorkIn b t n m p) s (holders q) (rw (q .sides) at (formed-sides b (q .formed)))
+            own-take-once n m (growWorkIn b t n m p) s (holders q) (rw (q .sides) at (formed-sides b (q .formed)))
             (k .own));
         noted = sym (noted-length (x .working)) ∙ ap (λ (l : List ℕ). length l) same ∙ noted-length q ∙ k .noted;
         same = same ∙ k .same;
-        pushed = omega (arith, k .pushed, pushed-by q x keeps, over-take-step n (growWorkIn b t n m p) s);
+        pushed = omega (arith, k .pushed, pushed-by q x keeps, over-take-once n (growWorkIn b t n m p) s);
       }
 
 -- a noted side is a side

@@ -9,22 +9,22 @@ use lib.Dec.{eqb}
 use lib.ListN.{length}
 use borrow.Author.Tests.{eqb-true}
 use Rattle.graph.specs.Basic.{if_then_else_}
-use Rattle.graph.specs.State.{edgeCount, sideCount}
+use Rattle.graph.specs.State.{vertexCount, edgeCount}
 use Rattle.graph.specs.Sound.{sound}
-use Rattle.graph.specs.Layout.{eOf, scratchLength, stateOf, sized, blockSound, memoryFits, blockRefusal, memoryRefusal, listRefusal}
+use Rattle.graph.specs.Layout.{vOf, eOf, scratchLength, scratchSize, stateOf, sized, blockSound, memoryFits, blockRefusal, memoryRefusal, listRefusal}
 use Rattle.graph.specs.Form.{Formed, Laid}
 use Rattle.graph.specs.laws.State.{and-left, and-right}
 use Rattle.memory_tests.specs.laws.Block.{block-sound, block-formed}
 
--- a block in form that holds a sound state, and a scratch of 3 words for each side
+-- a block in form that holds a sound state, and a scratch of its length
 pub record Lendable (b t : List ℤ) : Type 0 where
   pub formed : Formed b
   pub sounds : sound (stateOf b) ≡ true
-  pub size : length t ≡ 3 * sideCount (stateOf b)
+  pub size : length t ≡ scratchSize (stateOf b)
 
 pub fits-sized : (b t : List ℤ) → memoryFits b t ≡ true → sized b ≡ true
 unfolding memoryFits
-fits-sized b t h = and-left (sized b) (eqb (length t) (scratchLength (eOf b))) h
+fits-sized b t h = and-left (sized b) (eqb (length t) (scratchLength (vOf b) (eOf b))) h
 
 -- a block that is not refused has the right lengths and is sound
 both-passed : (f s : Bool) → _≡_ {A = ℕ} (if f then (if s then 0 else 2) else 1) 0 → (f ≡ true) × (s ≡ true)
@@ -48,6 +48,10 @@ edges-of : (b : List ℤ) → Formed b → edgeCount (stateOf b) ≡ eOf b
 unfolding Laid
 edges-of b f = f .laid .counted .edges
 
+vertices-of : (b : List ℤ) → Formed b → vertexCount (stateOf b) ≡ vOf b
+unfolding Laid
+vertices-of b f = f .laid .counted .vertices
+
 module _ (b t : List ℤ) where
   fitting : memoryFits b t ≡ true → blockSound b ≡ true → Lendable b t
   unfolding memoryFits
@@ -59,9 +63,9 @@ module _ (b t : List ℤ) where
         sounds = block-sound b z s;
         size = omega (
           arith,
-          eqb-true (length t) (6 * eOf b) (and-right (sized b) (eqb (length t) (6 * eOf b)) h),
+          eqb-true (length t) (scratchLength (vOf b) (eOf b)) (and-right (sized b) (eqb (length t) (scratchLength (vOf b) (eOf b))) h),
+          vertices-of b f,
           edges-of b f,
-          f .pairs,
         );
       }
 

@@ -10,10 +10,10 @@ use lib.Dec.{leb, eqb}
 use lib.ListN.{length, getD}
 use borrow.Author.Tests.{le-leb, eq-eqb}
 use Rattle.graph.specs.Basic.{if_then_else_}
-use Rattle.graph.specs.State.{edgeCount}
+use Rattle.graph.specs.State.{vertexCount, edgeCount}
 use Rattle.graph.specs.Open.{sizesOk}
 use Rattle.graph.specs.Sound.{stateSound}
-use Rattle.graph.specs.Layout.{vOf, eOf, nOf, lOf, countOf, activeCountOf, blockLength, scratchLength, rowsOf, row, stateOf, sized, risingTo, fitsAt, packedFrom, packed, blockSound, memoryFits, blockRefusal, memoryRefusal, listRefusal}
+use Rattle.graph.specs.Layout.{vOf, eOf, nOf, lOf, countOf, activeCountOf, blockLength, scratchSize, rowsOf, row, stateOf, sized, risingTo, fitsAt, packedFrom, packed, blockSound, memoryFits, blockRefusal, memoryRefusal, listRefusal}
 use Rattle.graph.specs.Form.{startsFrom, totalFrom, Laid, Listed, Wired, Formed}
 use Rattle.graph.specs.laws.Row.{header-get}
 use Rattle.graph.specs.laws.List.{total-from}
@@ -74,14 +74,18 @@ edges-are : (b : List ℤ) → Formed b → eOf b ≡ edgeCount (stateOf b)
 unfolding Laid
 edges-are b f = sym (f .laid .counted .edges)
 
+vertices-are : (b : List ℤ) → Formed b → vOf b ≡ vertexCount (stateOf b)
+unfolding Laid
+vertices-are b f = sym (f .laid .counted .vertices)
+
 -- refused 1 for a scratch or a list that has not its length, and else not at all
 pub memory-by-length : (b t : List ℤ) → Formed b → stateSound (stateOf b) ≡ true
-    → memoryRefusal b t ≡ (if eqb (length t) (scratchLength (edgeCount (stateOf b))) then 0 else 1)
+    → memoryRefusal b t ≡ (if eqb (length t) (scratchSize (stateOf b)) then 0 else 1)
 unfolding memoryRefusal blockRefusal memoryFits
-memory-by-length b t f s = rw (formed-sized b f, formed-sound b f s, edges-are b f)
+memory-by-length b t f s = rw (formed-sized b f, formed-sound b f s, vertices-are b f, edges-are b f)
 
 pub list-by-length : (b t : List ℤ) (m k : ℕ) → Formed b → stateSound (stateOf b) ≡ true
     → listRefusal b t m k
-    ≡ (if eqb (length t) (scratchLength (edgeCount (stateOf b))) && eqb m (k * edgeCount (stateOf b)) then 0 else 1)
+    ≡ (if eqb (length t) (scratchSize (stateOf b)) && eqb m (k * edgeCount (stateOf b)) then 0 else 1)
 unfolding listRefusal blockRefusal memoryFits
-list-by-length b t m k f s = rw (formed-sized b f, formed-sound b f s, edges-are b f)
+list-by-length b t m k f s = rw (formed-sized b f, formed-sound b f s, vertices-are b f, edges-are b f)

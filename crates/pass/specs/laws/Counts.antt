@@ -18,13 +18,9 @@ use Rattle.pass.specs.Grow.{reaches, growStep, takeSide, takeVertex, tak
 use Rattle.pass.specs.Shrink.{emptyTops, dropSide, dropStep, shrinkStep, closed, releaseSide, releaseStep, dropped, shrinkScanned, shrinkPass}
 use Rattle.pass.specs.laws.Passes.{Keeps, keeps-take-step, grow-scanned-keeps}
 use Rattle.pass.specs.inner.Ends.{EndsIn}
+use Rattle.pass.specs.inner.Free.{zeros, freeCount}
 
 -- ---- counting
-
--- how many entries are 0
-unfoldable pub zeros : List ℕ → ℕ
-zeros [] = 0
-zeros (x ∷ xs) = if eqb x 0 then suc (zeros xs) else zeros xs
 
 pub zeros-le : (l : List ℕ) → zeros l ≤ length l
 unfolding zeros
@@ -58,13 +54,9 @@ unfolding one
 one-le true = omega arith
 one-le false = omega arith
 
--- how many vertices are free
-abbrev pub freeCount : State → ℕ
-freeCount c = zeros (c .vertices .vertexHolder)
-
 -- ---- what does not touch the vertices
 
-abbrev Same : Vertices → Work → Type 0
+abbrev pub Same : Vertices → Work → Type 0
 Same x w = w .state .vertices ≡ x
 
 module _ (x : Vertices) where
@@ -72,7 +64,7 @@ module _ (x : Vertices) where
   unfolding keepOnce keep
   same-keep-once w s p = if-both (Same x) (member s (w .kept)) p p
 
-  same-take-side : (n g : ℕ) (w : Work) (t : ℕ) → Same x w → Same x (takeSide n g w t)
+  pub same-take-side : (n g : ℕ) (w : Work) (t : ℕ) → Same x w → Same x (takeSide n g w t)
   unfolding takeSide callAnother keep onState heldSide withGrandson withHolder withSides
   same-take-side n g w t p = if-both (Same x) (eqb (holderAt (w .state) t) 0) p p
 
@@ -84,7 +76,7 @@ module _ (x : Vertices) where
   unfolding dropSide callAnother
   same-drop-side w t p = same-keep-once _ (opposite t) (same-free-side w t p)
 
-  same-release-side : (n : ℕ) (w : Work) (t : ℕ) → Same x w → Same x (releaseSide n w t)
+  pub same-release-side : (n : ℕ) (w : Work) (t : ℕ) → Same x w → Same x (releaseSide n w t)
   unfolding releaseSide callAnother
   same-release-side n w t p = if-both (Same x) (closed n (w .state) t) (same-keep-once _ (opposite t) (same-free-side w t p)) (same-free-side w t p)
 

@@ -13,7 +13,8 @@ use Rattle.pass.specs.Work.{Work, finishPass}
 use Rattle.pass.specs.Grow.{growPass}
 use Rattle.pass.specs.Shrink.{shrinkPass}
 use Rattle.pass.specs.laws.Passes.{Passed, passed-refl, passed-trans, grow-passed, shrink-passed}
-use Rattle.pass.specs.laws.Counts.{zeros, zeros-le, one, freeCount, grow-pass-fewer, shrink-pass-more}
+use Rattle.pass.specs.inner.Free.{zeros, freeCount}
+use Rattle.pass.specs.laws.Counts.{zeros-le, one, grow-pass-fewer, shrink-pass-more}
 use Rattle.pass.specs.inner.Ends.{EndsIn}
 use Rattle.pass.specs.Prepare.{onePass, Prepared, prepareFrom, prepareNode}
 

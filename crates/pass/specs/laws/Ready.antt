@@ -28,6 +28,7 @@ use Rattle.pass.specs.laws.Fits.{Listed, own-length, sound-own-over, shr
 use Rattle.pass.specs.laws.GrowSound.{finish-boundary, finish-overgrown, grow-pass-sound, grow-pass-entries}
 use Rattle.graph.specs.laws.Form.{laid-shape, formed-sides}
 use Rattle.pass.specs.inner.Ready.{Ready, Growable, Shrinkable, AfterPass}
+use Rattle.pass.specs.laws.Scratch.{scratch-same}
 
 -- ---- the store
 
@@ -53,7 +54,7 @@ ready-again {b} {b'} {t} {t'} {n} {w} q p a =
     record {
       formed = a .block .formed;
       node = omega (arith, a .block .nodes, q .node);
-      scratch = a .scratch ∙ rw (k .1) (q .scratch);
+      scratch = a .scratch ∙ q .scratch ∙ scratch-same (a .block);
       room = omega (arith, q .room, m, k .0, k .1, p' .storeLimit);
     }
 

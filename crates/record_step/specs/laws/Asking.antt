@@ -11,10 +11,10 @@ use lib.ListN.{length, getD, take, drop, set, take-append-drop}
 use lib.Seq.{take-suc-set, take-at, length-take-le}
 use borrow.Author.Tests.{eqb-true}
 use Rattle.graph.specs.Word.{toNat}
-use Rattle.graph.specs.State.{State, sideCount}
+use Rattle.graph.specs.State.{State}
 use Rattle.graph.specs.Open.{opened}
 use Rattle.graph.specs.Opening.{Cleared}
-use Rattle.graph.specs.Layout.{blockLength, stateOf}
+use Rattle.graph.specs.Layout.{blockLength, scratchLength, scratchSize, stateOf}
 use Rattle.graph.specs.Form.{Formed}
 use Rattle.graph.specs.Sound.{sound, soundRemoved, stateSound}
 use Rattle.graph.specs.laws.State.{if-both, if-cases, and-left}
@@ -90,6 +90,7 @@ module _ {b₀ b : List ℤ} {a : Answer} {r : Reply} (k : Call) (e : respond (s
     outcome = ap (λ x. x .outcome) e ∙ ap answered (sym (p .answer));
     formed = p .block .formed;
     state = p .block .state ∙ sym (ap (λ x. x .state) e);
+    vertices = p .block .vertices;
     edges = p .block .edges;
     len = p .block .len;
   }
@@ -100,6 +101,7 @@ module _ {b₀ b : List ℤ} {a : Answer} {r : Reply} (k : Call) (e : respond (s
     outcome = ap (λ x. x .outcome) e ∙ ap answered (sym (p .answer));
     formed = p .formed;
     state = p .state ∙ sym (ap (λ x. x .state) e);
+    vertices = p .vertices;
     edges = p .edges;
     len = p .len;
   }
@@ -146,7 +148,7 @@ module _ {body : List ℕ} {kind : ℕ} (p : OfKind body kind) {b₀ b : List �
   answers-clear e q =
       rw (call-kind 13 p e)
       (record
-      { outcome = ap answered (sym (q .0)); formed = q .2 .formed; state = q .1; edges = q .2 .edges; len = q .2 .len })
+      { outcome = ap answered (sym (q .0)); formed = q .2 .formed; state = q .1; vertices = q .2 .vertices; edges = q .2 .edges; len = q .2 .len })
 
 -- the kind that is none of the others
 above : (k n : ℕ) → n ≤ k → (k ≡ n → ⊥) → n + 1 ≤ k
@@ -250,16 +252,16 @@ module _ {s : Setup} {block : List ℤ} (r : Runs s block) (room : 4096 ≤ leng
       rw part-is (and-left (sound c) (soundRemoved c) (reachable-sound c (r .reachable)))
 
   -- with its scratch
-  pub part-opened : (scratch : List ℤ) → 768 ≤ length scratch → scratch ≡ zeroScratch (length scratch)
-      → Opened (take (m - 0) block) (take (6 * s .e - 0) scratch)
-  part-opened scratch long blank =
+  pub part-opened : (scratch : List ℤ) (q : ℕ) → q ≡ scratchLength (s .v) (s .e) → 576 ≤ length scratch → scratch ≡ zeroScratch (length scratch)
+      → Opened (take (m - 0) block) (take (q - 0) scratch)
+  part-opened scratch q eq long blank =
       let z = small-of s (r .small) in
-      let w : 3 * sideCount (stateOf (partOf s block)) ≡ 6 * s .e - 0 = omega (arith, r .edges, r .formed .pairs) in
+      let w : scratchSize (stateOf (partOf s block)) ≡ q - 0 = omega (arith, eq, r .vertices, r .edges) in
       rw part-is
       (record {
         formed = r .formed;
         reachable = r .reachable;
-        scratch = rw w (ap (take (6 * s .e - 0)) blank ∙ take-zeros (6 * s .e - 0) (length scratch) (omega arith));
+        scratch = rw w (ap (take (q - 0)) blank ∙ take-zeros (q - 0) (length scratch) (omega (arith, eq)));
       })
 
   module _ {body : List ℕ} {kind : ℕ} (p : OfKind body kind) (k : ℕ) {b c : List ℕ} {n i : ℕ} {full stopped : Bool} where
@@ -288,6 +290,7 @@ module _ {s : Setup} {block : List ℤ} (r : Runs s block) (room : 4096 ≤ leng
             sizes = r .sizes;
             formed = rw e (p .formed);
             reachable = rw (e, f) (reachable-next (r .reachable) call);
+            vertices = rw e (p .vertices ∙ rw part-is (r .vertices));
             edges = rw e (p .edges ∙ rw part-is (r .edges));
           };
           state = ap stateOf e ∙ f;

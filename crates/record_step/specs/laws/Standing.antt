@@ -9,11 +9,12 @@ use lib.IntN.{ℤ, pos}
 use lib.Dec.{eqb}
 use lib.ListN.{length, take, replicate, length-map, length-take, length-replicate}
 use borrow.Author.Tests.{eq-eqb, ne-eqb, eqb-true, eqb-false}
-use Rattle.graph.specs.State.{edgeCount}
-use Rattle.graph.specs.Open.{Edge, opened, graphOf, blankState, openRefusal}
+use Rattle.graph.specs.Basic.{below}
+use Rattle.graph.specs.State.{vertexCount, edgeCount}
+use Rattle.graph.specs.Open.{Edge, flagIn, opened, graphOf, blankState, openRefusal}
 use Rattle.graph.specs.Layout.{stateOf}
 use Rattle.graph.specs.laws.Opened.{accepted}
-use Rattle.graph.specs.laws.Members.{by-test}
+use Rattle.graph.specs.laws.Members.{by-test, length-below}
 use Rattle.pass.specs.Scratch.{zeroScratch}
 use Rattle.update_length.specs.declared.Answer.the-variants.{Refused}
 use Rattle.calls.specs.Calls.{Call, respond}
@@ -266,6 +267,10 @@ opened-edges : (v n l : ℕ) (edges : List Edge) (virtuals : List ℕ) → edgeC
 unfolding opened blankState graphOf
 opened-edges v n l edges virtuals = length-map edges (λ (e : Edge). e .weight)
 
+opened-vertices : (v n l : ℕ) (edges : List Edge) (virtuals : List ℕ) → vertexCount (opened v n l edges virtuals) ≡ v
+unfolding opened blankState graphOf
+opened-vertices v n l edges virtuals = length-map (below v) (flagIn virtuals) ∙ length-below v
+
 module _ {s : Setup} {edges virtuals : List ℤ} {g : Gathered} (p : SetupHolds s edges virtuals g)
     (size : 384 ≤ length edges) (code : openCode s edges virtuals ≡ 0) (b : List ℤ) where
   none : openRefusal (g .v) (g .e) (g .n) (g .l) (g .edges) (g .virtuals) true ≡ 0
@@ -292,6 +297,7 @@ module _ {s : Setup} {edges virtuals : List ℤ} {g : Gathered} (p : SetupHolds 
       calls = [];
       is = opened-is;
     };
+    vertices = ap (λ c. vertexCount c) opened-is ∙ opened-vertices (g .v) (g .n) (g .l) (g .edges) (g .virtuals) ∙ sym (p .vertices);
     edges = ap (λ c. edgeCount c) opened-is ∙ opened-edges (g .v) (g .n) (g .l) (g .edges) (g .virtuals)
         ∙ accepted (g .v) (g .e) (g .n) (g .l) (g .edges) (g .virtuals) true none .count ∙ sym (p .edge-size);
   }
@@ -366,11 +372,11 @@ zeros-are : (n : ℕ) → replicate n (pos 0) ≡ zeroScratch (length (replicate
 unfolding zeroScratch
 zeros-are n = rw (length-replicate {A = ℤ} n (pos 0))
 
-pub roomy-start : MemorySuffices (replicate 4096 (pos 0)) (replicate 768 (pos 0)) (replicate 384 (pos 0)) (replicate 65 (pos 0))
+pub roomy-start : MemorySuffices (replicate 4096 (pos 0)) (replicate 576 (pos 0)) (replicate 384 (pos 0)) (replicate 65 (pos 0))
 roomy-start = record {
   words = zeros-long 4096 4096 (omega arith);
-  scratch-words = zeros-long 768 768 (omega arith);
+  scratch-words = zeros-long 576 576 (omega arith);
   edge-words = zeros-long 384 384 (omega arith);
   virtual-words = zeros-long 65 65 (omega arith);
-  zero = zeros-are 768;
+  zero = zeros-are 576;
 }

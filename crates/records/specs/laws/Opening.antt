@@ -54,11 +54,11 @@ unfolding complete
 complete-count s h = eqb-true (s .edges) (s .e) (and-right (sizesOk (s .v) (s .e) (s .n) (s .l)) (eqb (s .edges) (s .e)) h)
 
 -- parts of the right lengths fit
-pub parts-fit : (b t : List ℤ) (v e n l : ℕ) → length b ≡ blockLength v e n l → length t ≡ scratchLength e → fits b t v e n l ≡ true
+pub parts-fit : (b t : List ℤ) (v e n l : ℕ) → length b ≡ blockLength v e n l → length t ≡ scratchLength v e → fits b t v e n l ≡ true
 unfolding fits
 parts-fit b t v e n l p q =
-    both (eqb (length b) (blockLength v e n l)) (eqb (length t) (scratchLength e))
-    (eq-eqb (length b) (blockLength v e n l) p) (eq-eqb (length t) (scratchLength e) q)
+    both (eqb (length b) (blockLength v e n l)) (eqb (length t) (scratchLength v e))
+    (eq-eqb (length b) (blockLength v e n l) p) (eq-eqb (length t) (scratchLength v e) q)
 
 -- ---- the refusals, link by link
 
@@ -84,7 +84,7 @@ module _ (s : Setup) (edges virtuals b : List ℤ) where
 -- ---- the opening of parts that have their lengths
 
 module _ (s : Setup) (edges virtuals block scratch : List ℤ) (m q p k : ℕ)
-    (em : m ≡ blockLength (s .v) (s .e) (s .n) (s .l)) (eq : q ≡ 6 * s .e) (ep : p ≡ 3 * s .e) (ek : k ≡ s .virtuals)
+    (em : m ≡ blockLength (s .v) (s .e) (s .n) (s .l)) (eq : q ≡ scratchLength (s .v) (s .e)) (ep : p ≡ 3 * s .e) (ek : k ≡ s .virtuals)
     (hm : m ≤ length block) (hq : q ≤ length scratch) where
   parts : fits (take m block) (take q scratch) (s .v) (s .e) (s .n) (s .l) ≡ true
   parts = parts-fit (take m block) (take q scratch) (s .v) (s .e) (s .n) (s .l) (length-take-le m block hm ∙ em) (length-take-le q scratch hq ∙ eq)

@@ -1,5 +1,5 @@
 -- The two parts of the trial together.
-use Prim.Native.Nat.{ℕ, suc, _*_}
+use Prim.Native.Nat.{ℕ, suc}
 use native.Mathlib.Omega.{arith}
 use mathlib.Core.Path.{_≡_, refl, sym, ap, _∙_}
 use mathlib.Core.Logic.{_≢_}
@@ -23,7 +23,7 @@ use Rattle.graph.specs.laws.Row.{becomes-none, becomes-then}
 use Rattle.graph.specs.laws.Shape.{sound-active}
 use Rattle.memory_tests.specs.laws.Block.{block-state-sound}
 use Rattle.memory_tests.specs.laws.Whole.{formed-sized, formed-sound}
-use Rattle.pass.specs.Scratch.{zeroScratch}
+use Rattle.pass.specs.laws.Scratch.{scratch-same}
 use Rattle.calls.specs.Calls.{toward}
 use Rattle.calls.specs.inner.Reply.{Usable}
 use Rattle.calls.specs.Round.{Tried, begun, tryAll, noneOf, soundAgain, inTurn, preparedAll, movedAll}
@@ -140,7 +140,7 @@ module _ (b b₁ t : List ℤ) (u : Usable b t) (p : Becomes b b₁ (renewed (st
   pub renewed-going : CallsPossible shrinking b₁ t
   renewed-going = record {
     formed = p .formed;
-    scratch = u .scratch ∙ ap (λ m. zeroScratch (3 * m)) (sym (p .sides));
+    scratch = u .scratch ∙ scratch-same p;
     active = rw (p .state) (renewed-sound (stateOf b) (sound-active (stateOf b) (u .sounds)));
     known = λ e. refl;
     shrinks = λ e. rw (p .state) (renewed-phase (stateOf b) (laid-shape b (u .formed .laid)) (formed-vertices b (u .formed)) (u .sounds));
@@ -173,7 +173,7 @@ module _ (b b₁ t : List ℤ) (u : Usable b t) (p : Becomes b b₁ (renewed (st
       pub shrunk-part : Shrunk b₂ t₂
       shrunk-part = record {
         formed = q .block .formed;
-        scratch = e ∙ renewed-going .scratch ∙ ap (λ m. zeroScratch (3 * m)) (sym (q .block .sides));
+        scratch = e ∙ renewed-going .scratch ∙ scratch-same (q .block);
         active = active-kept (renewed (stateOf b)) (stateOf b₂) (same-then .active) (omega (arith, counts))
             (renewed-sound (stateOf b) (sound-active (stateOf b) (u .sounds)));
         still = λ h. rw (← nothing h) (renewed-ok (stateOf b) (u .sounds));

@@ -1,5 +1,5 @@
 -- The trial node by node: what a call leaves alone, that the memory stays fit for the next one, and the loop over the active list.
-use Prim.Native.Nat.{ℕ, zero, suc, _*_, _≤_}
+use Prim.Native.Nat.{ℕ, zero, suc, _≤_}
 use native.Mathlib.Omega.{arith}
 use native.Mathlib.Decide.{ℕ-discrete as decEq}
 use mathlib.Core.Path.{_≡_, refl, sym, ap, _∙_}
@@ -18,7 +18,7 @@ use Rattle.graph.specs.laws.Form.{laid-shape, formed-vertices}
 use Rattle.graph.specs.laws.Active.{active-kept}
 use Rattle.graph.specs.laws.Row.{becomes-none}
 use Rattle.pass.specs.Prepare.{prepareNode}
-use Rattle.pass.specs.Scratch.{zeroScratch}
+use Rattle.pass.specs.laws.Scratch.{scratch-same}
 use Rattle.pass.specs.laws.Prepare.{prepare-passed}
 use Rattle.growth.specs.Growth.{growCheck}
 use Rattle.update_length.specs.declared.Answer.{Answer}
@@ -133,7 +133,7 @@ going-on x l i r b b' t t' g p e =
     let s = at-same l x (stateOf b) i in
     record {
       formed = q .formed;
-      scratch = e ∙ g .scratch ∙ ap (λ m. zeroScratch (3 * m)) (sym (q .sides));
+      scratch = e ∙ g .scratch ∙ scratch-same q;
       active = rw (q .state) (active-kept (stateOf b) (nodeCallAt l x (stateOf b) i .state) (s .active) (count l x (stateOf b) i) (g .active));
       known = g .known;
       shrinks = λ z. rw (q .state, z) (at-phase l (stateOf b) i (g .shrinks z));

@@ -1,4 +1,4 @@
--- A shrinking pass in memory: the block has its state, the scratch its kept sides, noted vertices and marks.
+-- A shrinking pass in memory: the block has its state, the scratch its kept sides, marks and noted vertices.
 use Prim.Native.Nat.{ℕ, zero, suc, _+_, _*_, _≤_}
 use mathlib.Core.Path.{_≡_}
 use mathlib.Core.Bool.{Bool, true, _&&_, _||_}
@@ -16,7 +16,7 @@ use Rattle.graph.specs.inner.Form.{Becomes}
 use Rattle.graph.specs.inner.Kept.{SameButHolders}
 use Rattle.pass.specs.Work.{Work, onState}
 use Rattle.pass.specs.Shrink.{closed, dropSide}
-use Rattle.pass.specs.inner.Scratch.{ScratchHolds}
+use Rattle.pass.specs.inner.Scratch.{noteLimit, ScratchHolds}
 use Rattle.shrink_pass.specs.declared.keep.ShrinkProgress.{ShrinkProgress}
 
 -- of each side below m, 1 if it is kept, 0 else
@@ -26,7 +26,7 @@ marks m kept = map (flagIn kept) (below m)
 -- the block b and the scratch t have the work w of a shrinking pass over m sides, as far as p counts
 pub record HasShrinkWork (b t : List ℤ) (m : ℕ) (p : ShrinkProgress) (w : Work) : Type 0 where
   pub state : stateOf b ≡ w .state
-  pub scratch : ScratchHolds t m (w .kept) (w .noted) (marks m (w .kept))
+  pub scratch : ScratchHolds t m (noteLimit (stateOf b)) (w .kept) (marks m (w .kept)) (w .noted)
   pub kept : p .kept ≡ length (w .kept)
   pub noted : p .noted ≡ length (w .noted)
   pub another : p .another ≡ w .another
@@ -38,9 +38,9 @@ pub record HasShrinkWork (b t : List ℤ) (m : ℕ) (p : ShrinkProgress) (w : Wo
 pub record ShrinkWorking (b t : List ℤ) (m : ℕ) (p : ShrinkProgress) : Type 0 where
   pub formed : Formed b
   pub sides : m ≡ sideCount (stateOf b)
-  pub size : length t ≡ 3 * m
+  pub size : length t ≡ 2 * m + noteLimit (stateOf b)
   pub room : p .kept ≤ m
-  pub notes : p .noted ≤ m
+  pub notes : p .noted ≤ noteLimit (stateOf b)
   pub work : Work
   pub has : HasShrinkWork b t m p work
 
@@ -70,17 +70,18 @@ vertexLeft c s = eqb (growthAt c s) 0 && eqb (defectAt c (endAt c s)) 0
 -- the scratch t without the marks of its first i kept sides
 unfoldable pub unmarked : List ℤ → ℕ → ℕ → List ℤ
 unmarked t m zero = t
-unmarked t m (suc i) = set (unmarked t m i) (2 * m + wordAt t i) (pos 0)
+unmarked t m (suc i) = set (unmarked t m i) (m + wordAt t i) (pos 0)
 
 -- the scratch has kept sides and noted vertices; the kept ones but for the first i are marked
 pub record KeptMarked (t : List ℤ) (m : ℕ) (p : ShrinkProgress) (i : ℕ) : Type 0 where
+  pub limit : ℕ
   pub kept : List ℕ
   pub noted : List ℕ
-  pub scratch : ScratchHolds t m kept noted (marks m (drop i kept))
+  pub scratch : ScratchHolds t m limit kept (marks m (drop i kept)) noted
   pub keeps : p .kept ≡ length kept
   pub notes : p .noted ≡ length noted
   pub inside : all (λ s. ltb s m) kept ≡ true
   pub once : distinct kept ≡ true
-  pub size : length t ≡ 3 * m
+  pub size : length t ≡ 2 * m + limit
   pub room : p .kept ≤ m
-  pub space : p .noted ≤ m
+  pub space : p .noted ≤ limit

@@ -2,19 +2,19 @@
 use Prim.Native.Nat.{ℕ, zero, suc, _+_, _-_, _*_, _≤_, _<_}
 use native.Mathlib.Numerals.{add-one}
 use native.Mathlib.Omega.{arith}
-use mathlib.Core.Path.{_≡_, refl, sym, ap, _∙_}
+use mathlib.Core.Path.{_≡_, refl, sym, ap, subst₂, _∙_}
 use mathlib.Core.Bool.{true}
 use mathlib.Core.List.{List, [], _∷_}
 use lib.IntN.{ℤ, pos}
 use lib.Dec.{ltb}
-use lib.ListN.{length, getD, set, drop, replicate}
+use lib.ListN.{length, getD, set, drop, replicate, length-set}
 use lib.Seq.{drop-cons, drop-length}
 use borrow.Author.Tests.{ltb-true}
 use Rattle.graph.specs.Basic.{distinct, sumBelow}
 use Rattle.graph.specs.State.{State, Nodes, vertexCount, sideCount, overgrownOf}
 use Rattle.graph.specs.Word.{wordAt, numbersAt}
 use Rattle.graph.specs.Sound.{entries, entriesOf}
-use Rattle.graph.specs.Layout.{stateOf, stackFrom}
+use Rattle.graph.specs.Layout.{stateOf, stackFrom, scratchSize}
 use Rattle.graph.specs.inner.Form.{Becomes}
 use Rattle.graph.specs.inner.Replace.{withLists}
 use Rattle.graph.specs.laws.Row.{word-other, becomes-then}
@@ -22,9 +22,11 @@ use Rattle.graph.specs.inner.Kept.{SameButHolders}
 use Rattle.graph.specs.laws.Members.{all-member, member-at, distinct-tail}
 use Rattle.pass.specs.Work.{Work, finishPass}
 use Rattle.pass.specs.Shrink.{emptyTops, shrinkPass}
+use Rattle.pass.specs.inner.Once.{shrinkPassOnce, Alike}
+use Rattle.pass.specs.laws.Once.{shrink-alike}
 use Rattle.pass.specs.Scratch.{zeroScratch}
-use Rattle.pass.specs.inner.Scratch.{ScratchHolds, wiped}
-use Rattle.pass.specs.laws.Scratch.{first-entry, first-numbers, change-third, drop-third, wipe-first, wipe-second, zero-holding}
+use Rattle.pass.specs.inner.Scratch.{noteLimit, ScratchHolds, wiped}
+use Rattle.pass.specs.laws.Scratch.{first-entry, first-numbers, change-second, drop-second, wipe-first, wipe-third, zero-holding}
 use Rattle.pass.specs.inner.Ready.{Ready, Shrinkable, AfterPass}
 use Rattle.pass.specs.laws.Fits.{shrink-over}
 use Rattle.pass.specs.laws.Passes.{shrink-pass-keeps}
@@ -36,8 +38,9 @@ use Rattle.shrink_pass.specs.declared.keep.ShrinkProgress.{ShrinkProgres
 -- ---- the marks
 
 pub marked-of : {b t : List ℤ} {m : ℕ} {p : ShrinkProgress} {w : Work} → HasShrinkWork b t m p w → KeptMarked t m p 0
-marked-of {w = w} h =
+marked-of {b} {w = w} h =
     record {
+      limit = noteLimit (stateOf b);
       kept = w .kept;
       noted = w .noted;
       scratch = h .scratch;
@@ -60,14 +63,19 @@ pub unmark-none : (t : List ℤ) (m : ℕ) → t ≡ unmarked t m 0
 unfolding unmarked
 unmark-none t m = refl
 
-pub unmark-word : (t : List ℤ) (m i j : ℕ) → j < 2 * m → wordAt (unmarked t m i) j ≡ wordAt t j
+pub unmark-word : (t : List ℤ) (m i j : ℕ) → j < m → wordAt (unmarked t m i) j ≡ wordAt t j
 unfolding unmarked
 unmark-word t m zero j h = refl
-unmark-word t m (suc i) j h = word-other (unmarked t m i) (2 * m + wordAt t i) j (pos 0) (omega arith) ∙ unmark-word t m i j h
+unmark-word t m (suc i) j h = word-other (unmarked t m i) (m + wordAt t i) j (pos 0) (omega arith) ∙ unmark-word t m i j h
 
-pub unmark-more : (t : List ℤ) (m i : ℕ) → i < 2 * m → set (unmarked t m i) (2 * m + wordAt (unmarked t m i) i) (pos 0) ≡ unmarked t m (i + 1)
+pub unmark-more : (t : List ℤ) (m i : ℕ) → i < m → set (unmarked t m i) (m + wordAt (unmarked t m i) i) (pos 0) ≡ unmarked t m (i + 1)
 unfolding unmarked
 unmark-more t m i h = rw (add-one, unmark-word t m i i h)
+
+unmark-length : (t : List ℤ) (m i : ℕ) → length (unmarked t m i) ≡ length t
+unfolding unmarked
+unmark-length t m zero = refl
+unmark-length t m (suc i) = length-set (unmarked t m i) (m + wordAt t i) (pos 0) ∙ unmark-length t m i
 
 -- kept side i is a side
 pub kept-below : {t : List ℤ} {m : ℕ} {p : ShrinkProgress} → KeptMarked t m p 0 → (i : ℕ) → i < p .kept → wordAt t i < m
@@ -77,16 +85,17 @@ kept-below {m = m} q i h =
 
 -- the marks go with their sides
 marked-less : {t : List ℤ} {m : ℕ} {p : ShrinkProgress} (i s : ℕ) (q : KeptMarked t m p i) → i < p .kept
-    → s ≡ getD (q .kept) i 0 → KeptMarked (set t (2 * m + s) (pos 0)) m p (i + 1)
+    → s ≡ getD (q .kept) i 0 → KeptMarked (set t (m + s) (pos 0)) m p (i + 1)
 marked-less {t} {m} {p} i s q h e =
     let l : i < length (q .kept) = omega (arith, h, q .keeps) in
     let k : drop i (q .kept) ≡ s ∷ drop (i + 1) (q .kept) = rw (add-one, e) (drop-cons (q .kept) i 0 l) in
     let b : s < m = rw e (ltb-true (getD (q .kept) i 0) m (all-member (λ x. ltb x m) (q .kept) (getD (q .kept) i 0) (q .inside) (member-at (q .kept) i 0 l))) in
     let r : set (marks m (drop i (q .kept))) s 0 ≡ marks m (drop (i + 1) (q .kept)) =
     rw k (marks-take m s (drop (i + 1) (q .kept)) b (rw k at (distinct-drop (q .kept) i (q .once)))) in
-    let held : ScratchHolds (set t (2 * m + s) (pos 0)) m (q .kept) (q .noted) (marks m (drop (i + 1) (q .kept))) =
-    rw (← r) (change-third (q .scratch) s 0 (rw (marks-length m (drop i (q .kept))) b)) in
+    let held : ScratchHolds (set t (m + s) (pos 0)) m (q .limit) (q .kept) (marks m (drop (i + 1) (q .kept))) (q .noted) =
+    rw (← r) (change-second (q .scratch) s 0 (rw (marks-length m (drop i (q .kept))) b)) in
     record {
+      limit = q .limit;
       kept = q .kept;
       noted = q .noted;
       scratch = held;
@@ -114,13 +123,17 @@ marked-without t m p q (suc i) h = marked-more t m p i (omega arith) (marked-wit
 
 -- without marks, the scratch is cleared by its entries
 pub cleared-scratch : {t : List ℤ} {m : ℕ} {p : ShrinkProgress} → KeptMarked t m p 0
-    → wiped (wiped (unmarked t m (p .kept)) 0 (p .kept)) m (p .noted) ≡ zeroScratch (3 * m)
-cleared-scratch {t} {m} {p} h = cleared-without (marked-without t m p h (p .kept) (omega arith))
+    → wiped (wiped (unmarked t m (p .kept)) 0 (p .kept)) (2 * m) (p .noted) ≡ zeroScratch (length t)
+cleared-scratch {t} {m} {p} h =
+    let q = marked-without t m p h (p .kept) (omega arith) in
+    cleared-without q ∙ ap zeroScratch (sym (q .size) ∙ unmark-length t m (p .kept))
   where
-    cleared-without : {t : List ℤ} → KeptMarked t m p (p .kept) → wiped (wiped t 0 (p .kept)) m (p .noted) ≡ zeroScratch (3 * m)
-    cleared-without q =
+    cleared-without : {t : List ℤ} (q : KeptMarked t m p (p .kept)) → wiped (wiped t 0 (p .kept)) (2 * m) (p .noted) ≡ zeroScratch (2 * m + q .limit)
+    cleared-without {t} q =
         let none : marks m (drop (p .kept) (q .kept)) ≡ replicate m 0 = rw (q .keeps, drop-length (q .kept)) (marks-none m) in
-        rw (q .keeps, q .notes) (zero-holding _ m (wipe-second (wipe-first (drop-third (q .scratch) m none))))
+        let zero : wiped (wiped t 0 (length (q .kept))) (2 * m) (length (q .noted)) ≡ zeroScratch (2 * m + q .limit) =
+        zero-holding _ m (q .limit) (wipe-third (wipe-first (drop-second (q .scratch) m none))) in
+        subst₂ (λ i j. wiped (wiped t 0 i) (2 * m) j ≡ zeroScratch (2 * m + q .limit)) (sym (q .keeps)) (sym (q .notes)) zero
 
 -- ---- the lists
 
@@ -140,9 +153,12 @@ unfolding entriesOf
 entries-of-kept n k = ap (λ (x : Nodes). entriesIn x n) (k .nodes)
 
 module _ {b₀ t₀ b t : List ℤ} {n m z : ℕ} {p : ShrinkProgress} (r : Ready b₀ t₀ n) (s : Shrinkable (stateOf b₀) n) (size : m ≡ sideCount (stateOf b₀))
-    (tops : z ≡ length (emptyTops (overgrownOf (stateOf b₀) n))) (q : HasShrinkWork b t m p (shrinkPass (stateOf b₀) n)) where
+    (tops : z ≡ length (emptyTops (overgrownOf (stateOf b₀) n))) (q : HasShrinkWork b t m p (shrinkPassOnce (stateOf b₀) n)) where
+  alike : Alike (shrinkPassOnce (stateOf b₀) n) (shrinkPass (stateOf b₀) n)
+  alike = shrink-alike (stateOf b₀) n
+
   keeps : SameButHolders (stateOf b₀) (stateOf b)
-  keeps = rw (q .state) (shrink-pass-keeps (stateOf b₀) n)
+  keeps = rw (q .state, alike .state) (shrink-pass-keeps (stateOf b₀) n)
 
   same-over : overgrownOf (stateOf b) n ≡ overgrownOf (stateOf b₀) n
   same-over = over-kept n keeps
@@ -163,21 +179,23 @@ module _ {b₀ t₀ b t : List ℤ} {n m z : ℕ} {p : ShrinkProgress} (r : Read
       ≡ finishPass (shrinkPass (stateOf b₀) n) n
   unfolding withLists finishPass stackFrom numbersAt
   written =
-      let kept : numbersAt t 0 (p .kept) ≡ shrinkPass (stateOf b₀) n .kept = rw (q .kept) (first-numbers (q .scratch)) in
+      let kept : numbersAt t 0 (p .kept) ≡ shrinkPass (stateOf b₀) n .kept = rw (q .kept) (first-numbers (q .scratch)) ∙ alike .kept in
+      let state : stateOf b ≡ shrinkPass (stateOf b₀) n .state = q .state ∙ alike .state in
       let less : length (overgrownOf (stateOf b₀) n) - (length (overgrownOf (stateOf b₀) n) - z) ≡ z =
       omega (arith, tops, tops-le (overgrownOf (stateOf b₀) n)) in
       let over : drop (length (overgrownOf (stateOf b₀) n) - (length (overgrownOf (stateOf b₀) n) - z))
       (overgrownOf (stateOf b₀) n)
       ≡ shrinkPass (stateOf b₀) n .over =
       rw (less, tops) (sym (below-tops (overgrownOf (stateOf b₀) n)) ∙ sym (shrink-over (stateOf b₀) n)) in
-      rw (kept, same-over, over, q .state)
+      rw (kept, same-over, over, state)
 
   pub after-shrink : {b' t' : List ℤ} (o : ℕ) → o ≡ length (overgrownOf (stateOf b) n) → Becomes b₀ b (stateOf b)
       → Becomes b b' (withLists (stateOf b) n (numbersAt t 0 (p .kept)) (o - z) (numbersAt t 0 0))
-      → t' ≡ zeroScratch (3 * m) → AfterPass b₀ b' t₀ t' n (shrinkPass (stateOf b₀) n) (p .another)
+      → t' ≡ zeroScratch (length t) → AfterPass b₀ b' t₀ t' n (shrinkPass (stateOf b₀) n) (p .another)
   after-shrink o e first last clear =
+      let long : length t ≡ scratchSize (stateOf b₀) = omega (arith, q .scratch .size, size, first .vertices, first .sides, r .formed .pairs) in
       record {
         block = rw (← written) (becomes-then first (rw e at last));
-        scratch = clear ∙ rw size (sym (r .scratch));
-        another = q .another;
+        scratch = clear ∙ ap zeroScratch long ∙ sym (r .scratch);
+        another = q .another ∙ alike .another;
       }

@@ -16,7 +16,8 @@ use Rattle.graph.specs.inner.Form.{Becomes}
 use Rattle.graph.specs.laws.State.{kept-free-side, kept-free-vertex}
 use Rattle.graph.specs.inner.Kept.{SameButHolders}
 use Rattle.pass.specs.Work.{onState, keepOnce}
-use Rattle.pass.specs.Shrink.{closed, dropSide, dropStep, releaseSide, releaseStep}
+use Rattle.pass.specs.Shrink.{closed, dropSide, dropStep, releaseSide}
+use Rattle.pass.specs.inner.Once.{releaseOnce}
 use Rattle.shrink_pass.specs.inner.Shrinking.{ShrinkWorking, ShrinkWorked, partSide, partVertex}
 use Rattle.shrink_pass.specs.laws.Shrinking.{does-none, does-then, does-same, does-state, does-call}
 use Rattle.shrink_pass.specs.declared.keep.ShrinkProgress.{ShrinkProgress}
@@ -77,17 +78,12 @@ module _ {b t b' t' : List ℤ} {m : ℕ} {p p' : ShrinkProgress} (n : ℕ) wher
   unfolding dropStep partVertex partSide
   does-drop v h q = does-same (λ w. dropStep n w v) (λ w e. rw (← e .state, eq-eqb _ _ h)) q
 
-  pub does-release : (v : ℕ) → vertexHolderAt (stateOf b) v ≢ 0
-      → ShrinkWorked b t b' t' m p p' (λ w. partVertex false n w v) → ShrinkWorked b t b' t' m p p' (λ w. releaseStep n w v)
-  unfolding releaseStep partVertex partSide releaseSide dropSide
-  does-release v h q = does-same (λ w. releaseStep n w v) (λ w e. rw (← e .state, ne-eqb _ _ h)) q
+  pub does-release : (v : ℕ) → ShrinkWorked b t b' t' m p p' (λ w. partVertex false n w v) → ShrinkWorked b t b' t' m p p' (λ w. releaseOnce n w v)
+  unfolding releaseOnce partVertex partSide releaseSide dropSide
+  does-release v q = q
 
--- neither
+-- a vertex that another node holds stays
 module _ {b t : List ℤ} {m : ℕ} {p : ShrinkProgress} (q : ShrinkWorking b t m p) (n v : ℕ) where
   pub does-no-drop : vertexHolderAt (stateOf b) v ≢ n + 1 → ShrinkWorked b t b t m p p (λ w. dropStep n w v)
   unfolding dropStep
   does-no-drop h = does-same (λ w. dropStep n w v) (λ w e. rw (← e .state, ne-eqb _ _ h)) (does-none q)
-
-  pub does-no-release : vertexHolderAt (stateOf b) v ≡ 0 → ShrinkWorked b t b t m p p (λ w. releaseStep n w v)
-  unfolding releaseStep
-  does-no-release h = does-same (λ w. releaseStep n w v) (λ w e. rw (← e .state, eq-eqb _ _ h)) (does-none q)

@@ -20,7 +20,7 @@ use Rattle.graph.specs.laws.State.{kept-refl, kept-trans, fold-more, fold-done}
 use Rattle.graph.specs.inner.Kept.{SameButHolders}
 use Rattle.graph.specs.laws.Members.{all-snoc, distinct-snoc, distinct-length}
 use Rattle.pass.specs.Work.{Work, onState, keep, keepOnce, note, callAnother}
-use Rattle.pass.specs.laws.Scratch.{hold-first, hold-second, change-third, third-entry}
+use Rattle.pass.specs.laws.Scratch.{hold-first, hold-third, change-second, second-entry}
 use Rattle.shrink_pass.specs.inner.Shrinking.{marks, HasShrinkWork, ShrinkWorking, ShrinkWorked}
 use Rattle.shrink_pass.specs.laws.Mark.{marks-length, mark-zero, mark-set, marks-put}
 use Rattle.shrink_pass.specs.declared.keep.ShrinkProgress.{ShrinkProgress}
@@ -101,7 +101,7 @@ module _ {b t : List ℤ} {m : ℕ} {p : ShrinkProgress} (q : ShrinkWorking b t 
       step w h =
           record {
             state = e .state ∙ ap f (h .state);
-            scratch = h .scratch;
+            scratch = rw (e .vertices, e .sides) (h .scratch);
             kept = h .kept;
             noted = h .noted;
             another = h .another;
@@ -141,35 +141,35 @@ module _ {b t : List ℤ} {m : ℕ} {p : ShrinkProgress} (q : ShrinkWorking b t 
           }
 
   -- side s is kept, once: it is kept already, or new
-  pub does-keep-old : (s : ℕ) → s < m → wordAt t (2 * m + s) ≢ 0 → ShrinkWorked b t b t m p p (λ w. keepOnce w s)
+  pub does-keep-old : (s : ℕ) → s < m → wordAt t (m + s) ≢ 0 → ShrinkWorked b t b t m p p (λ w. keepOnce w s)
   unfolding keepOnce
   does-keep-old s l e = still (λ w. keepOnce w s) step
     where
       step : (w : Work) → HasShrinkWork b t m p w → HasShrinkWork b t m p (keepOnce w s)
       step w h =
           let z : member s (w .kept) ≡ true =
-          mark-set m (w .kept) s l (λ r. e (third-entry (h .scratch) s (rw (marks-length m (w .kept)) l) ∙ r)) in
+          mark-set m (w .kept) s l (λ r. e (second-entry (h .scratch) s (rw (marks-length m (w .kept)) l) ∙ r)) in
           rw z h
 
-  pub does-keep-new : (s : ℕ) → s < m → wordAt t (2 * m + s) ≡ 0
-      → ShrinkWorked b t b (set (set t (p .kept) (pos s)) (2 * m + s) (pos 1)) m p
+  pub does-keep-new : (s : ℕ) → s < m → wordAt t (m + s) ≡ 0
+      → ShrinkWorked b t b (set (set t (p .kept) (pos s)) (m + s) (pos 1)) m p
       (record { kept = p .kept + 1; noted = p .noted; another = p .another }) (λ w. keepOnce w s)
   unfolding keepOnce keep
   does-keep-new s l e = still (λ w. keepOnce w s) step
     where
       step : (w : Work) → HasShrinkWork b t m p w
-          → HasShrinkWork b (set (set t (p .kept) (pos s)) (2 * m + s) (pos 1)) m
+          → HasShrinkWork b (set (set t (p .kept) (pos s)) (m + s) (pos 1)) m
           (record { kept = p .kept + 1; noted = p .noted; another = p .another }) (keepOnce w s)
       step w h =
           let size : s < length (marks m (w .kept)) = rw (marks-length m (w .kept)) l in
-          let z : member s (w .kept) ≡ false = mark-zero m (w .kept) s l (sym (third-entry (h .scratch) s size) ∙ e) in
+          let z : member s (w .kept) ≡ false = mark-zero m (w .kept) s l (sym (second-entry (h .scratch) s size) ∙ e) in
           let inside : all (λ x. ltb x m) (w .kept ++ (s ∷ [])) ≡ true = all-snoc (λ x. ltb x m) (w .kept) s (h .inside) (lt-ltb s m l) in
           let once : distinct (w .kept ++ (s ∷ [])) ≡ true = distinct-snoc (w .kept) s (h .once) z in
           let more : length (w .kept ++ (s ∷ [])) ≡ length (w .kept) + 1 = length-append (w .kept) (s ∷ []) in
           let fits : length (w .kept ++ (s ∷ [])) ≤ m = distinct-length m (w .kept ++ (s ∷ [])) once inside in
           rw z (record {
             state = h .state;
-            scratch = rw (h .kept, ← marks-put m (w .kept) s l) (change-third (hold-first (h .scratch) s (omega arith)) s 1 size);
+            scratch = rw (h .kept, ← marks-put m (w .kept) s l) (change-second (hold-first (h .scratch) s (omega arith)) s 1 size);
             kept = omega (arith, h .kept);
             noted = h .noted;
             another = h .another;
@@ -179,18 +179,18 @@ module _ {b t : List ℤ} {m : ℕ} {p : ShrinkProgress} (q : ShrinkWorking b t 
           })
 
   -- vertex v is noted
-  pub does-note : (v : ℕ) → v < vertexCount (stateOf b) → p .noted < m
-      → ShrinkWorked b t b (set t (m + p .noted) (pos v)) m p
+  pub does-note : (v : ℕ) → v < vertexCount (stateOf b) → 2 * m + p .noted < length t
+      → ShrinkWorked b t b (set t (2 * m + p .noted) (pos v)) m p
       (record { kept = p .kept; noted = p .noted + 1; another = p .another }) (λ w. note w v)
   unfolding note
   does-note v l k = still (λ w. note w v) step
     where
       step : (w : Work) → HasShrinkWork b t m p w
-          → HasShrinkWork b (set t (m + p .noted) (pos v)) m
+          → HasShrinkWork b (set t (2 * m + p .noted) (pos v)) m
           (record { kept = p .kept; noted = p .noted + 1; another = p .another }) (note w v)
       step w h = record {
         state = h .state;
-        scratch = rw (h .noted) (hold-second (h .scratch) v (omega (arith, h .noted)));
+        scratch = rw (h .noted) (hold-third (h .scratch) v (omega (arith, h .noted, k, q .size)));
         kept = h .kept;
         noted = omega (arith, h .noted, length-append (w .noted) (v ∷ []));
         another = h .another;

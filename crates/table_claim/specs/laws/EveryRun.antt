@@ -8,12 +8,13 @@ use lib.IntN.{ℤ, pos}
 use lib.Dec.{eqb}
 use lib.ListN.{length, length-map}
 use Rattle.graph.specs.Word.{toNat}
-use Rattle.graph.specs.State.{State, edgeCount, up}
-use Rattle.graph.specs.Open.{Edge, graphOf, blankState, opened, openRefusal}
+use Rattle.graph.specs.Basic.{below}
+use Rattle.graph.specs.State.{State, vertexCount, edgeCount, up}
+use Rattle.graph.specs.Open.{Edge, flagIn, graphOf, blankState, opened, openRefusal}
 use Rattle.graph.specs.Opening.{fits, openedWords}
 use Rattle.graph.specs.Layout.{stateOf, sized, blockSound, memoryRefusal, listRefusal}
 use Rattle.graph.specs.Form.{Formed}
-use Rattle.graph.specs.laws.Members.{by-test, clash}
+use Rattle.graph.specs.laws.Members.{by-test, clash, length-below}
 use Rattle.graph.specs.laws.Opened.{accepted}
 use Rattle.graph.specs.inner.Opened.{OpeningAccepted}
 use Rattle.open_graph.specs.laws.OpenedBlock.{opened-length, opened-state, opened-formed, opened-block}
@@ -122,6 +123,10 @@ module _ {v : ℕ} {edges : List Edge} {virtuals : List ℕ} (r : LentRun v edge
   unfolding opened blankState graphOf
   opened-edges = length-map edges (λ (e : Edge). e .weight) ∙ passed .count
 
+  opened-vertices : vertexCount (runStart r) ≡ v
+  unfolding opened blankState graphOf
+  opened-vertices = length-map (below v) (flagIn virtuals) ∙ length-below v
+
   pub first-whole : Whole (runSizes r) (r .first)
   first-whole = record {
     formed = subst Formed (sym first-words) (opened-formed v (r .edgeNumber) (r .nodeLimit) (r .storeLimit) edges virtuals fit passed);
@@ -129,6 +134,7 @@ module _ {v : ℕ} {edges : List Edge} {virtuals : List ℕ} (r : LentRun v edge
     good =
         subst (PastInvariant (λ n. runStart r)) (sym first-state)
         (opened-past v (r .edgeNumber) (r .nodeLimit) (r .storeLimit) edges virtuals fit opening-accepted);
+    vertices-are = ap (λ (c : State). vertexCount c) first-state ∙ opened-vertices;
     edges-are = ap (λ (c : State). edgeCount c) first-state ∙ opened-edges;
     nodes-are = ap (λ (c : State). c .nodeLimit) first-state ∙ unfold opened blankState in refl;
     size = ap length first-words ∙ opened-length v (r .edgeNumber) (r .nodeLimit) (r .storeLimit) edges virtuals fit passed;

@@ -8,9 +8,9 @@ use lib.IntN.{ℤ}
 use lib.Dec.{eqb}
 use lib.ListN.{length}
 use Rattle.graph.specs.Basic.{if_then_else_}
-use Rattle.graph.specs.State.{State, edgeCount}
+use Rattle.graph.specs.State.{State, vertexCount, edgeCount}
 use Rattle.graph.specs.Word.{toNat}
-use Rattle.graph.specs.Layout.{eOf, nOf, stateOf, sized, blockLength, memoryFits, blockRefusal, memoryRefusal, listRefusal}
+use Rattle.graph.specs.Layout.{vOf, eOf, nOf, stateOf, sized, blockLength, memoryFits, blockRefusal, memoryRefusal, listRefusal}
 use Rattle.graph.specs.Form.{Formed, Laid}
 use Rattle.graph.specs.Opening.{edgesFrom, virtualsFrom, fits, OpenCalled}
 use Rattle.open_graph.specs.laws.OpenedBlock.{refused-block}
@@ -59,6 +59,7 @@ pub record Whole (z : Sizes) (b : List ℤ) : Type 0 where
   pub formed : Formed b
   pub log : ℕ → State
   pub good : PastInvariant log (stateOf b)
+  pub vertices-are : vertexCount (stateOf b) ≡ z .vertices
   pub edges-are : edgeCount (stateOf b) ≡ z .edges
   pub nodes-are : stateOf b .nodeLimit ≡ z .nodes
   pub size : length b ≡ blockLength (z .vertices) (z .edges) (z .nodes) (z .store)
@@ -69,14 +70,18 @@ module _ {z : Sizes} {b : List ℤ} (w : Whole z b) where
 
   -- what is lent to a call is refused for its length alone
   pub memory-fits : (t : List ℤ) → memoryRefusal b t ≡ (if scratchFits z t then 0 else 1)
-  memory-fits t = rw (w .edges-are) at (memory-by-length b t (w .formed) whole-sound)
+  memory-fits t = rw (w .vertices-are, w .edges-are) at (memory-by-length b t (w .formed) whole-sound)
 
   pub list-fits : (t list : List ℤ) (m : ℕ) → listRefusal b t (length list) m ≡ (if listFits z m t list then 0 else 1)
-  list-fits t list m = rw (w .edges-are) at (list-by-length b t (length list) m (w .formed) whole-sound)
+  list-fits t list m = rw (w .vertices-are, w .edges-are) at (list-by-length b t (length list) m (w .formed) whole-sound)
 
   edges-of : eOf b ≡ z .edges
   unfolding Laid
   edges-of = sym (w .formed .laid .counted .edges) ∙ w .edges-are
+
+  vertices-of : vOf b ≡ z .vertices
+  unfolding Laid
+  vertices-of = sym (w .formed .laid .counted .vertices) ∙ w .vertices-are
 
   limit-is : nOf b ≡ z .nodes
   unfolding Laid
@@ -84,7 +89,7 @@ module _ {z : Sizes} {b : List ℤ} (w : Whole z b) where
 
   fits-alike : (t : List ℤ) → memoryFits b t ≡ scratchFits z t
   unfolding memoryFits
-  fits-alike t = rw (formed-sized b (w .formed), edges-of) refl
+  fits-alike t = rw (formed-sized b (w .formed), vertices-of, edges-of) refl
 
   pub alone-fits : blockRefusal (sized b) b ≡ 0
   unfolding blockRefusal
@@ -240,6 +245,7 @@ follows-whole {z} {b} {b'} {ks} w f = record {
   formed = f .formed;
   log = afterLog (stateOf b) ks (w .log);
   good = subst (PastInvariant (afterLog (stateOf b) ks (w .log))) (sym (f .state)) (after-past (stateOf b) (w .good) ks);
+  vertices-are = ap (λ (c : State). vertexCount c) (f .state) ∙ ap (λ (x : Fixed). length (x .graph .virtual)) (after-fixed (stateOf b) ks) ∙ w .vertices-are;
   edges-are = ap (λ (c : State). edgeCount c) (f .state) ∙ ap (λ (x : Fixed). length (x .graph .weight)) (after-fixed (stateOf b) ks) ∙ w .edges-are;
   nodes-are = ap (λ (c : State). c .nodeLimit) (f .state) ∙ ap (λ (x : Fixed). x .nodes) (after-fixed (stateOf b) ks) ∙ w .nodes-are;
   size = f .len ∙ w .size;

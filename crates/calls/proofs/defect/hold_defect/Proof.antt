@@ -1,3 +1,5 @@
+use mathlib.Core.Path.{_∙_}
+use Rattle.pass.specs.laws.Scratch.{scratch-same}
 use Rattle.calls.specs.laws.Defect.{defect-block, defect-scratch, defect-count}
 use borrow.Author.Needs.{needs}
 use Rattle.calls.proofs.defect.hold_defect.Statement.{statement}
@@ -16,7 +18,7 @@ hold-sides-requires : tie.Need-hold-sides-requires
 hold-sides-requires c κs = let s = c .before .before .before .before .before .before .before .before in
     let p = c .before .before .before .before .before .before .set-defect .ensures in
     let q = c .before .before .before .hold .ensures in
-    (q .formed, rw (q .vertices, p .vertices) (s .pre .1), s .pre .2, rw (q .sides, p .sides) (s .pre .3))
+    (q .formed, rw (q .vertices, p .vertices) (s .pre .1), s .pre .2, s .pre .3 ∙ scratch-same p ∙ scratch-same q)
 
 same-length : tie.Need-same-length
 same-length c = search needs

@@ -51,7 +51,7 @@ same-length : tie.Need-same-length Inv-loop μ-loop
 same-length c = search needs
 
 same-length-2 : tie.Need-same-length-2 Inv-loop μ-loop
-same-length-2 c = held-size (c .before .loop .inv) (c .before .before .before .before .pre .3)
+same-length-2 c = let s = c .before .before .before .before in held-size (c .before .loop .inv) (s .pre .0) (s .pre .3)
 
 returns : tie.Need-returns Inv-loop μ-loop
 returns c = let q = c .before .loop .inv in (held-all-block q (omega arith), held-all-scratch q (omega arith), c .before .before .sides-len .ensures .0)

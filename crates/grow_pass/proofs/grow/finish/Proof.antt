@@ -7,9 +7,6 @@ use Rattle.grow_pass.proofs.grow.finish.Tie as tie
 overgrown-len-requires : tie.Need-overgrown-len-requires
 overgrown-len-requires c κs = search needs
 
-mul-replace-lists : tie.Need-mul-replace-lists
-mul-replace-lists c = search needs
-
 replace-lists-requires : tie.Need-replace-lists-requires
 replace-lists-requires c κs = search needs
 
@@ -49,7 +46,6 @@ finish-spec =
     tie.close
     (tie.spec
     overgrown-len-requires
-    mul-replace-lists
     replace-lists-requires
     wipe-requires
     wipe-requires-2

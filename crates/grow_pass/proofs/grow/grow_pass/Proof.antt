@@ -27,7 +27,7 @@ same-length-2 c = search needs
 returns : tie.Need-returns
 returns c = let w = c .before .before .before .before .before .before .before in
     let s = w .before .before .before .before .before .before .before .before in
-    pass-after (s .pre .0) (sym (w .before .before .before .side-count .ensures .0)) (w .grow-work .ensures) (c .before .before .finish .ensures)
+    pass-after (s .pre .0) (w .grow-work .ensures) (c .before .before .finish .ensures)
 
 same-length-3 : tie.Need-same-length-3
 same-length-3 c = search needs

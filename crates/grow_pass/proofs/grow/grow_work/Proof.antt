@@ -6,7 +6,7 @@ use Rattle.grow_pass.proofs.grow.grow_work.Tie as tie
 grow-scan-requires : tie.Need-grow-scan-requires
 grow-scan-requires c κs = let p = c .before .before .pre in
     let e = p .2 in
-    (p .0 .formed, p .0 .node, e, rw e at (p .0 .scratch), ready-sides (p .0) (p .1), rw e at (ready-length (p .0) (p .1)))
+    (p .0 .formed, p .0 .node, e, p .0 .scratch, ready-sides (p .0) (p .1), rw e at (ready-length (p .0) (p .1)))
 
 take-noted-requires : tie.Need-take-noted-requires
 take-noted-requires c κs = let p = c .before .before .before .before .before .before .before .pre in

@@ -1,24 +1,27 @@
 use native.Mathlib.Omega.{arith}
-use Prim.Native.Nat.{_-_}
+use Prim.Native.Nat.{_-_, _*_}
 use Rattle.graph.specs.Word.{numbersAt}
-use Rattle.pass.specs.Grow.{takeStep}
+use Rattle.pass.specs.inner.Once.{takeOnce}
 use Rattle.grow_pass.specs.laws.Growing.{Looped, loop-none, loop-more, loop-all, noted-length}
-use Rattle.grow_pass.specs.laws.Take.{Noting, noting-none, noting-side, noting-more, noted-below, keeping-take-step}
+use Rattle.grow_pass.specs.laws.Take.{Noting, noting-none, noting-side, noting-more, noted-below, keeping-take-once}
 use borrow.Author.Needs.{needs}
 use Rattle.grow_pass.proofs.take.take_noted.Statement.{statement}
 use Rattle.grow_pass.proofs.take.take_noted.Tie as tie
 
 abbrev Inv-loop : tie.InvT-loop
-Inv-loop b₀ t₀ n m l i₀ q₀ b t i q = Looped (takeStep n) b₀ t₀ b t n m q₀ q (numbersAt t₀ m (q₀ .noted)) i × Noting b t₀ t n m q₀ q i
+Inv-loop b₀ t₀ n m l i₀ q₀ b t i q = Looped (takeOnce n) b₀ t₀ b t n m q₀ q (numbersAt t₀ (2 * m) (q₀ .noted)) i × Noting b t₀ t n m q₀ q i
 
 abbrev μ-loop : tie.MeasureT-loop
 μ-loop b₀ t₀ n m l i₀ q₀ b t i q = l - i
 
 loop-holds : tie.Need-loop-holds Inv-loop μ-loop
 loop-holds c = (
-  loop-none (takeStep (c .args .n)) (numbersAt (c .args .t .now) (c .args .m) (c .args .p .noted)) (c .pre .0),
+  loop-none (takeOnce (c .args .n)) (numbersAt (c .args .t .now) (2 * c .args .m) (c .args .p .noted)) (c .pre .0),
   noting-none (c .pre .1) (c .pre .3),
 )
+
+mul-word : tie.Need-mul-word Inv-loop μ-loop
+mul-word c = search needs
 
 add-word : tie.Need-add-word Inv-loop μ-loop
 add-word c = search needs
@@ -35,7 +38,7 @@ take-step-requires c κs = let d = c .before .before .before .before .before in
     let l = noted-length (s .pre .0) in (
       q .0 .worked .working,
       q .1 .own,
-      noted-below (numbersAt (s .args .t .now) (s .args .m) (s .args .p .noted)) (s .args .m) (d .loop .i) (w .result)
+      noted-below (numbersAt (s .args .t .now) (2 * s .args .m) (s .args .p .noted)) (s .args .m) (d .loop .i) (w .result)
           (s .pre .2) (omega arith) e,
       omega arith,
     )
@@ -55,7 +58,7 @@ loop-again c = let d = c .before .before .before .before .before .before .before
     let e = noting-side (q .0 .worked .working) (q .1) (w .result) (w .ensures .0) h in
     let l = noted-length (s .pre .0) in
     let x = c .before .before .take-step .ensures in
-    (loop-more (q .0) (w .result) (keeping-take-step (s .args .n)) (omega (arith, h, l)) e x, noting-more (q .0 .worked .working) (q .1) (w .result) x)
+    (loop-more (q .0) (w .result) (keeping-take-once (s .args .n)) (omega (arith, h, l)) e x, noting-more (q .0 .worked .working) (q .1) (w .result) x)
 
 same-length : tie.Need-same-length Inv-loop μ-loop
 same-length c = search needs
@@ -73,6 +76,7 @@ take-noted-spec =
     Inv-loop
     μ-loop
     loop-holds
+    mul-word
     add-word
     word-requires
     take-step-requires

@@ -12,9 +12,6 @@ take-sides-requires c κs = let s = c .before .before .before .before .before in
     let h = c .before .before .before .hold .ensures in
     (held-working (s .pre .0) (s .args .g) (s .args .v) h, held-own (s .pre .0) (s .args .g) (s .args .v) h (s .pre .1), omega arith, omega arith)
 
-mul-put : tie.Need-mul-put
-mul-put c = search needs
-
 add-put : tie.Need-add-put
 add-put c = search needs
 
@@ -60,7 +57,6 @@ take-vertex-spec =
     (tie.spec
     hold-requires
     take-sides-requires
-    mul-put
     add-put
     put-requires
     add-t22

@@ -16,12 +16,16 @@ sized-requires c κs = search needs
 word-requires : tie.Need-word-requires
 word-requires c κs = let z = sizes c in omega arith
 
+word-requires-2 : tie.Need-word-requires-2
+word-requires-2 c κs = let z = sizes (c .before) in omega arith
+
 scratch-length-requires : tie.Need-scratch-length-requires
-scratch-length-requires c κs = let z = sizes (c .before) in omega (arith, c .word .ensures .0)
+scratch-length-requires c κs = let z = sizes (c .before .before) in omega (arith, c .word2 .ensures .0)
 
 returns : tie.Need-returns
 unfolding memoryFits
-returns c = let t = c .before .before in rw (sym (t .before .sized .ensures) ∙ t .if1 .taken) (rw (c .scratch-length .ensures, c .before .word .ensures .0))
+returns c = let t = c .before .before .before in
+    rw (sym (t .before .sized .ensures) ∙ t .if1 .taken) (rw (c .scratch-length .ensures, c .before .word2 .ensures .0, c .before .before .word .ensures .0))
 
 returns-2 : tie.Need-returns-2
 unfolding memoryFits
@@ -29,4 +33,4 @@ returns-2 c = rw (sym (c .before .sized .ensures) ∙ c .if1 .left)
 
 pub measured-spec : {M : Type 1} → statement M
 measured-spec =
-    tie.close (tie.spec sized-requires word-requires scratch-length-requires returns returns-2)
+    tie.close (tie.spec sized-requires word-requires word-requires-2 scratch-length-requires returns returns-2)

@@ -1,5 +1,5 @@
 use native.Mathlib.Omega.{arith}
-use Prim.Native.Nat.{_-_, _*_}
+use Prim.Native.Nat.{_-_}
 use mathlib.Core.Path.{refl}
 use Rattle.records.specs.laws.Write.{told-lines}
 use Rattle.record_step.specs.laws.Asking.{part-room, part-formed, part-sound, part-opened, asked-table, asked-contacts, asked-block, asked-lines, part-kept}
@@ -84,8 +84,8 @@ returns-2 c =
     (c .before .before .before .before .before .before .if2 .taken) (c .before .before .contacts .ensures) in
     (t .0, t .1, refl)
 
-mul-q : tie.Need-mul-q
-mul-q c = search needs
+scratch-length-requires : tie.Need-scratch-length-requires
+scratch-length-requires c κs = let z = small-of _ (c .before .before .before .before .before .pre .1 .small) in omega arith
 
 sub-call : tie.Need-sub-call
 sub-call c = search needs
@@ -110,12 +110,12 @@ part-call-start-2 c = search needs
 part-call-end-2 : tie.Need-part-call-end-2
 part-call-end-2 c =
     let z = small-of _ (c .before .before .before .before .before .before .before .pre .1 .small) in
-    omega (arith, c .before .before .before .before .before .before .before .pre .5)
+    omega (arith, c .before .before .before .before .before .before .before .pre .5, c .before .scratch-length .ensures)
 
 call-requires : tie.Need-call-requires
 call-requires c κs =
     let a = c .before .before .before .before .before .before .before .before in (
-      part-opened (a .pre .1) (a .pre .4) _ (c .before .before .before .before .before .block-length .ensures) _
+      part-opened (a .pre .1) (a .pre .4) _ (c .before .before .before .before .before .block-length .ensures) _ _ (c .before .before .scratch-length .ensures)
           (a .pre .5) (a .pre .6),
       a .pre .2,
       a .pre .3,
@@ -142,7 +142,7 @@ returns-3 c =
     let l = c .before .before .before .before .before .before .before .before .before .before .before .before .block-length .ensures in (
       told-lines (c .before .before .answer .ensures) (asked-lines (a .pre .1) (a .pre .4) _ l (e .0) _),
       asked-block (a .pre .1) (a .pre .4) _ l (e .0),
-      part-kept (6 * a .args .s .e - 0) (a .args .scratch .now) (e .1),
+      part-kept (c .before .before .before .before .before .before .before .before .before .scratch-length .result - 0) (a .args .scratch .now) (e .1),
     )
 
 pub ask-spec : {M : Type 1} → statement M
@@ -164,7 +164,7 @@ ask-spec =
     same-length-3
     same-length-4
     returns-2
-    mul-q
+    scratch-length-requires
     sub-call
     part-call-start
     part-call-end

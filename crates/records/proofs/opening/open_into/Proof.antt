@@ -11,8 +11,8 @@ use Rattle.records.proofs.opening.open_into.Tie as tie
 block-length-requires : tie.Need-block-length-requires
 block-length-requires c κs = complete-sizes (c .args .s) (c .pre .5)
 
-mul-q : tie.Need-mul-q
-mul-q c = search needs
+scratch-length-requires : tie.Need-scratch-length-requires
+scratch-length-requires c κs = let z = small-of (c .before .args .s) (c .before .pre .4) in omega arith
 
 mul-p : tie.Need-mul-p
 mul-p c = search needs
@@ -39,7 +39,7 @@ part-open-end-2 : tie.Need-part-open-end-2
 part-open-end-2 c =
     let a = c .before .before .before .before in
     let z = small-of (a .args .s) (a .pre .4) in
-    omega (arith, a .pre .1)
+    omega (arith, a .pre .1, c .before .before .scratch-length .ensures)
 
 sub-open-3 : tie.Need-sub-open-3
 sub-open-3 c = search needs
@@ -72,19 +72,20 @@ returns : tie.Need-returns
 returns c =
     let a = c .before .before .before .before .before .before .before .before .before in
     let m = c .before .before .before .before .before .before .before .before in
+    let q = c .before .before .before .before .before .before .before .scratch-length in
     let z = small-of (a .args .s) (a .pre .4) in
     let len = m .block-length .ensures in
     let e = c .before .«open» .ensures in (
       e .0
           ∙ opens-code (a .args .s) (a .args .edges .now) (a .args .virtuals .now) (a .args .block .now)
-          (a .args .scratch .now) (m .block-length .result - 0) (6 * a .args .s .e - 0) (3 * a .args .s .e - 0)
-          (a .args .s .virtuals - 0) (omega (arith, len)) (omega arith) (omega arith) (omega arith)
-          (omega (arith, len, a .pre .0)) (omega (arith, a .pre .1)),
+          (a .args .scratch .now) (m .block-length .result - 0) (q .result - 0) (3 * a .args .s .e - 0)
+          (a .args .s .virtuals - 0) (omega (arith, len)) (omega (arith, q .ensures)) (omega arith) (omega arith)
+          (omega (arith, len, a .pre .0)) (omega (arith, a .pre .1, q .ensures)),
       ap (λ l. l ++ drop (m .block-length .result - 0) (a .args .block .now)) (e .1)
           ∙ opens-block (a .args .s) (a .args .edges .now) (a .args .virtuals .now) (a .args .block .now)
-          (a .args .scratch .now) (m .block-length .result - 0) (6 * a .args .s .e - 0) (3 * a .args .s .e - 0)
-          (a .args .s .virtuals - 0) (omega (arith, len)) (omega arith) (omega arith) (omega arith)
-          (omega (arith, len, a .pre .0)) (omega (arith, a .pre .1)),
+          (a .args .scratch .now) (m .block-length .result - 0) (q .result - 0) (3 * a .args .s .e - 0)
+          (a .args .s .virtuals - 0) (omega (arith, len)) (omega (arith, q .ensures)) (omega arith) (omega arith)
+          (omega (arith, len, a .pre .0)) (omega (arith, a .pre .1, q .ensures)),
     )
 
 pub open-into-spec : {M : Type 1} → statement M
@@ -92,7 +93,7 @@ open-into-spec =
     tie.close
     (tie.spec
     block-length-requires
-    mul-q
+    scratch-length-requires
     mul-p
     sub-open
     part-open-start

@@ -5,9 +5,6 @@ use borrow.Author.Needs.{needs}
 use Rattle.shrink_pass.proofs.keep.keep_once.Statement.{statement}
 use Rattle.shrink_pass.proofs.keep.keep_once.Tie as tie
 
-mul-word : tie.Need-mul-word
-mul-word c = search needs
-
 add-word : tie.Need-add-word
 add-word c = search needs
 
@@ -17,17 +14,14 @@ word-requires c κs = search needs
 put-requires : tie.Need-put-requires
 put-requires c κs = search needs
 
-mul-put : tie.Need-mul-put
-mul-put c = search needs
-
 add-put : tie.Need-add-put
 add-put c = search needs
 
 put-requires-2 : tie.Need-put-requires-2
 put-requires-2 c κs = search needs
 
-add-t17 : tie.Need-add-t17
-add-t17 c = search needs
+add-t16 : tie.Need-add-t16
+add-t16 c = search needs
 
 same-length : tie.Need-same-length
 same-length c = search needs
@@ -49,14 +43,12 @@ pub keep-once-spec : {M : Type 1} → statement M
 keep-once-spec =
     tie.close
     (tie.spec
-    mul-word
     add-word
     word-requires
     put-requires
-    mul-put
     add-put
     put-requires-2
-    add-t17
+    add-t16
     same-length
     returns
     same-length-2

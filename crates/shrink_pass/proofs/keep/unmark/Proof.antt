@@ -1,7 +1,7 @@
 use borrow.Author.Needs.{needs}
 use native.Mathlib.Omega.{arith}
-use Prim.Native.Nat.{_-_, _*_, _<_, _≤_}
-use mathlib.Core.Path.{_≡_}
+use Prim.Native.Nat.{_-_, _<_, _≤_}
+use mathlib.Core.Path.{_≡_, refl}
 use lib.ListN.{length}
 use Rattle.shrink_pass.specs.inner.Shrinking.{unmarked}
 use Rattle.shrink_pass.specs.laws.Finish.{unmark-none, unmark-word, unmark-more}
@@ -9,19 +9,16 @@ use Rattle.shrink_pass.proofs.keep.unmark.Statement.{statement}
 use Rattle.shrink_pass.proofs.keep.unmark.Tie as tie
 
 abbrev Inv-loop : tie.InvT-loop
-Inv-loop t₀ m k i₀ t i = (t ≡ unmarked t₀ m i) × (i ≤ k) × (length t ≡ 3 * m)
+Inv-loop t₀ m k i₀ t i = (t ≡ unmarked t₀ m i) × (i ≤ k) × (length t ≡ length t₀)
 
 abbrev μ-loop : tie.MeasureT-loop
 μ-loop t₀ m k i₀ t i = k - i
 
 loop-holds : tie.Need-loop-holds Inv-loop μ-loop
-loop-holds c = (unmark-none _ _, omega arith, c .pre .2)
+loop-holds c = (unmark-none _ _, omega arith, refl)
 
 word-requires : tie.Need-word-requires Inv-loop μ-loop
 word-requires c κs = search needs
-
-mul-put : tie.Need-mul-put Inv-loop μ-loop
-mul-put c = search needs
 
 add-put : tie.Need-add-put Inv-loop μ-loop
 add-put c = search needs
@@ -73,7 +70,6 @@ unmark-spec =
     μ-loop
     loop-holds
     word-requires
-    mul-put
     add-put
     put-requires
     add-i

@@ -22,7 +22,7 @@ keep-once-requires c κs =
           (c .before .before .before .before .before .before .opposite .ensures .1),
       omega arith,
       q .room,
-      q .size,
+      omega (arith, q .size),
     )
 
 same-length : tie.Need-same-length

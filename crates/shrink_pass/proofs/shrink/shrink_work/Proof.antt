@@ -19,7 +19,7 @@ shrink-scan-requires c κs =
     )
 
 release-noted-requires : tie.Need-release-noted-requires
-release-noted-requires c κs = (c .before .before .before .shrink-scan .ensures .working, omega arith)
+release-noted-requires c κs = (c .before .before .before .before .shrink-scan .ensures .working, omega arith)
 
 same-length : tie.Need-same-length
 same-length c = search needs
@@ -29,15 +29,11 @@ same-length-2 c = search needs
 
 returns : tie.Need-returns
 returns c =
-    let d = c .before .before .before .before .before .before .before .before .before .before .before .drop-tops .ensures in
-    let s = c .before .before .before .before .before .before .shrink-scan .ensures in
-    let e = c .before .before .release-noted .ensures in (
-      becomes-then (d .block) (becomes-then (s .block) (e .block)),
-      shrink-worked _
-          (c .before .before .before .before .before .before .before .before .before .before .before .before .before .before .pre .0)
-          (c .before .before .before .before .before .before .before .before .before .before .before .before .before .before .pre .2)
-          d s e,
-    )
+    let e = c .before .before .release-noted .ensures in
+    let m = c .before .before .before .before .before .before .before in
+    let d = m .before .before .before .before .before in
+    let r = d .before .before .before .pre in
+    (becomes-then (d .drop-tops .ensures .block) (becomes-then (m .shrink-scan .ensures .block) (e .block)), shrink-worked _ (r .0) (r .2) (d .drop-tops .ensures) (m .shrink-scan .ensures) e)
 
 pub shrink-work-spec : {M : Type 1} → statement M
 shrink-work-spec =
