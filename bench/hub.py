@@ -33,7 +33,7 @@ class Hub:
     def seconds(self, call, records):
         """One opening and the calls of the records."""
         v, e, n, l = self.sizes
-        block, scratch = array('q', bytes(8 * (16 + 4 * v + 11 * e + 8 * n + l))), array('q', bytes(8 * (4 * e + min(v, 2 * e))))
+        block, scratch = array('q', bytes(8 * (16 + 4 * v + 12 * e + 8 * n + l))), array('q', bytes(8 * (4 * e + min(v, 2 * e))))
         data = array('B', records)
         lent = [x for a in (block, scratch) for x in (a.buffer_info()[0], len(a))]
         given = [x for a in (self.edges, self.virtual, data) for x in (a.buffer_info()[0], len(a))]

@@ -1,12 +1,13 @@
 // Times the soundness test on a block of the largest sizes with full lists: V 1,024, E 4,096, N 1,024, L 65,536.
 // Node 1,023 is a blossom that holds every side and lists it; nodes 0 to 1,022 are defects that lie in it, each with a
-// list of 56 sides. All nodes stand in the active list.
+// list of 56 sides. All nodes stand in the active list; a change of
+// weights stands.
 #include <stdint.h>
 #include <stdio.h>
 #include <stdlib.h>
 #include <time.h>
 
-enum { V = 1024, E = 4096, N = 1024, L = 65536, LENGTH = 16 + 4 * V + 11 * E + 8 * N + L };
+enum { V = 1024, E = 4096, N = 1024, L = 65536, LENGTH = 16 + 4 * V + 12 * E + 8 * N + L };
 enum { SCRATCH = 4 * E + (V < 2 * E ? V : 2 * E) };
 
 size_t memory_refusal(const int64_t *block, size_t blocks, const int64_t *scratch, size_t scratches);
@@ -24,11 +25,13 @@ static void fill(void) {
     int64_t *end = first + V, *growth = end + 2 * E, *holder = growth + 2 * E, *grandson = holder + 2 * E, *at = grandson + 2 * E;
     int64_t *weight = at + 2 * E, *class = weight + E, *state = class + N, *parent = state + N, *dual = parent + N;
     int64_t *start = dual + N, *blen = start + N, *olen = blen + N, *store = olen + N, *active = store + L;
-    b[0] = V, b[1] = E, b[2] = N, b[3] = L, b[4] = N, b[5] = N;
+    int64_t *original = active + N;
+    b[0] = V, b[1] = E, b[2] = N, b[3] = L, b[4] = N, b[5] = N, b[6] = 1;
     for (int e = 0; e < E; e++) {
         end[2 * e] = e % V;
         end[2 * e + 1] = (e + 1 + e / V * 7) % V;
         weight[e] = 1000;
+        original[e] = 2000;
     }
     int p = 0;
     for (int v = 0; v < V; v++) {

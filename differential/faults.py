@@ -1,8 +1,8 @@
 #!/usr/bin/env python3
 """faults.py [RUNS] [WORD]: the comparison must notice faults. Each edit below goes into a copy of the Rust; run.sh on
 it must find differences, library-run.sh where only the state shows the fault, rounds-run.sh where it is in the calls
-for all clusters, or opening-run.sh where it is in the opening of a blossom. With WORD only the faults whose name has
-it.
+for all clusters, opening-run.sh where it is in the opening of a blossom, or erasure-run.sh where it is in a change of
+weights. With WORD only the faults whose name has it.
 
 Needs what these need, and their archives built before. FB_SRC as for run.sh.
 """
@@ -82,10 +82,20 @@ IN_OPENINGS = [
      '            self.active_list.insert(0, m);\n        }\n'
      '        self.nodes[node_idx as usize] = None;\n', 0),
 ]
+IN_ERASURES = [
+    ('an edge named twice takes the first of its weights', '            let original_weight = edge.weight;\n',
+     '            let original_weight = edge.weight;\n'
+     '            if self.edge_modifier.iter().any(|x| x.0 == *edge_index) {\n                continue;\n            }\n', 0),
+    ('clear gives the weights back in the order of the list', 'self.edge_modifier.pop_modified_edge();',
+     'self.edge_modifier.modified.remove(0);', 0),
+    ('clear leaves the weight of the edge named first', 'while self.edge_modifier.has_modified_edges() {',
+     'while self.edge_modifier.len() > 1 {', 0),
+]
 # which script notices it, and in how many streams; run.sh where nothing is said
 BY = {f[0]: ('library-run.sh', '60') for f in IN_STATES}
 BY.update({f[0]: ('rounds-run.sh', '60') for f in IN_ROUNDS})
 BY.update({f[0]: ('opening-run.sh', '60') for f in IN_OPENINGS})
+BY.update({f[0]: ('erasure-run.sh', '60') for f in IN_ERASURES})
 # a fault whose text stands in another file than dual_module_serial
 ELSEWHERE = {'the group leaves out its second conflict': 'dual_module'}
 
@@ -102,7 +112,8 @@ def main():
               'folder (differential/README.md).', file=sys.stderr)
         sys.exit(2)
     runs = sys.argv[1] if len(sys.argv) > 1 else '2000'
-    chosen = [f for f in FAULTS + IN_STATES + IN_ROUNDS + IN_OPENINGS if len(sys.argv) < 3 or sys.argv[2] in f[0]]
+    faults = FAULTS + IN_STATES + IN_ROUNDS + IN_OPENINGS + IN_ERASURES
+    chosen = [f for f in faults if len(sys.argv) < 3 or sys.argv[2] in f[0]]
     missed = 0
     work = tempfile.mkdtemp()
     env = dict(os.environ, FB_SRC=os.path.join(work, 'src'), FOUND=os.path.join(work, 'found'))

@@ -72,7 +72,7 @@ impl Card {
     }
 
     fn open(edges: &[i64], ends: &[i64]) -> Card {
-        let words = 16 + 4 * V + 11 * E + 8 * N + L;
+        let words = 16 + 4 * V + 12 * E + 8 * N + L;
         let mut c = Card {
             block: vec![0; words],
             second: vec![0; words],

@@ -10,7 +10,7 @@
  * Every call writes its answer to the front of `answer`, a list of at least 5 numbers, and gives back how many numbers
  * that are: first the case, then its values. A list of 2 to 4 numbers is refused 1; in a list of 0 or 1 numbers nothing
  * can be told: then nothing happens, and 0 is given back. A refusal, FB_REFUSED and its number, leaves all memory
- * unchanged for 1 to 9, 14 and 17; 10 to 12, and 13 after preparing, leave what preparation leaves, and so does 15
+ * unchanged for 1 to 9, 14, 16 and 17; 10 to 12, and 13 after preparing, leave what preparation leaves, and so does 15
  * once prepared. A call for all clusters that is refused leaves the block unchanged whatever the number.
  *
  * hosts/decode.c and hosts/decode.rs are hosts that work, hosts/lines.c is one for records.
@@ -40,7 +40,7 @@ extern "C" {
 #define FB_MOST_VALUE 999999999      /* values of a sheet, from 0: ten-thousandths; beyond them refused 17 */
 
 /* Words to lend. */
-#define FB_BLOCK(v, e, n, l) (16 + 4 * (v) + 11 * (e) + 8 * (n) + (l))
+#define FB_BLOCK(v, e, n, l) (16 + 4 * (v) + 12 * (e) + 8 * (n) + (l))
 #define FB_SCRATCH(v, e) (4 * (e) + ((v) < 2 * (e) ? (v) : 2 * (e)))
 #define FB_ENTRIES(n) (5 * (n)) /* numbers of the list of entries */
 
@@ -108,7 +108,7 @@ static inline const char *fb_refusal_sentence(size_t number) {
         "a full edge to a free vertex, or a side of growth 0: prepare first",
         "a round of a length below 1",
         "the node is not a blossom of dual variable 0, or once prepared it stops a debug build",
-        "no such refusal",
+        "weights change before the first node, and once: a node exists, or an earlier change stands",
         "no value of the sheet is positive, or one is out of range",
     };
     return number < sizeof sentences / sizeof *sentences ? sentences[number] : sentences[0];
@@ -159,6 +159,14 @@ size_t fb_insert_blossom(int64_t *block, size_t block_length, int64_t *scratch, 
    Rust stops: on a block that calls have made it never does. */
 size_t fb_remove_blossom(int64_t *block, size_t block_length, int64_t *scratch, size_t scratch_length, size_t node,
                          size_t *answer, size_t answer_length);
+
+/* For one shot: pairs of words, an edge and a weight from 0 to FB_MOST_WEIGHT, which the edge takes until the next
+   fb_clear: FB_DONE. Of an edge that is named twice the last weight stays; fb_clear gives every edge the weight with
+   which it was opened. An empty list is accepted and leaves nothing that stands. Tested in this order, each number over
+   the whole list: 1, also for an odd number of words, 2, 3 for an edge that the graph does not have, 4 for a weight out
+   of range, 16 where a node exists, an opened blossom too, or an earlier list that named an edge stands. */
+size_t fb_load_edge_modifier(int64_t *block, size_t block_length, const int64_t *scratch, size_t scratch_length,
+                             const int64_t *pairs, size_t pairs_length, size_t *answer, size_t answer_length);
 
 /* A node gets a grow state: FB_DONE. */
 size_t fb_set_grow_state(int64_t *block, size_t block_length, const int64_t *scratch, size_t scratch_length,

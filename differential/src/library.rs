@@ -73,7 +73,7 @@ fn given(records: &[Record]) -> ([usize; 4], Vec<i64>, Vec<i64>) {
 }
 
 fn memory([v, e, n, l]: [usize; 4]) -> (Vec<i64>, Vec<i64>) {
-    (vec![0; 16 + 4 * v + 11 * e + 8 * n + l], vec![0; 4 * e + v.min(2 * e)])
+    (vec![0; 16 + 4 * v + 12 * e + 8 * n + l], vec![0; 4 * e + v.min(2 * e)])
 }
 
 impl Lent {
@@ -171,16 +171,16 @@ pub fn circle(kind: u16, a: &[i32]) -> Vec<i64> {
 }
 
 /// The rows of a block (docs/LAYOUT.md).
-const ROWS: [&str; 20] = [
+const ROWS: [&str; 21] = [
     "header", "flags", "vertex holder", "vertex grandson", "first", "end", "growth", "holder", "grandson", "at",
     "weight", "class", "grow state", "parent", "dual", "start", "boundary length", "overgrown length", "store",
-    "active list",
+    "active list", "original weight",
 ];
 
 /// The first word that the Rust's state fills and the block has otherwise.
 pub fn state_differs(block: &[i64], rust: &[Vec<i64>]) -> Option<String> {
     let [v, e, n, l] = [0, 1, 2, 3].map(|i| block[i] as usize);
-    let lengths = [&[16, v, v, v, v][..], &[2 * e; 5], &[e], &[n; 7], &[l, n]].concat();
+    let lengths = [&[16, v, v, v, v][..], &[2 * e; 5], &[e], &[n; 7], &[l, n, e]].concat();
     let mut from = 0;
     for ((name, len), row) in ROWS.iter().zip(lengths).zip(rust) {
         let port = &block[from..from + row.len()];

@@ -3,6 +3,7 @@ mod compare;
 mod count;
 #[cfg(library)]
 mod gaps;
+mod erasures;
 mod graphs;
 #[cfg(library)]
 mod library;
@@ -93,6 +94,7 @@ fn main() {
         Some("openings") => openings::compare(number(a.get(2), 2000), number(a.get(3), 1)),
         #[cfg(library)]
         Some("gaps") => gaps::compare(number(a.get(2), 500), number(a.get(3), 1)),
+        Some("erasures") => erasures::compare(number(a.get(2), 2000), number(a.get(3), 1)),
         #[cfg(library)]
         Some("rounds-speed") => {
             rounds::speed();
@@ -106,7 +108,7 @@ fn main() {
             eprintln!(
                 "differential compare [RUNS] [SEED] | one SEED | sample FILE [SEED] | replay FILE | patches FILE \
                  | speed | library [RUNS] [SEED] | rounds [RUNS] [SEED] | openings [RUNS] [SEED] \
-                 | gaps [RUNS] [SEED] | rounds-speed"
+                 | gaps [RUNS] [SEED] | erasures [RUNS] [SEED] | rounds-speed"
             );
             false
         }

@@ -265,7 +265,7 @@ impl Both<'_> {
     }
 
     /// Any call on one node.
-    fn any(&mut self, v: i32) -> Step {
+    pub fn any(&mut self, v: i32) -> Step {
         let (count, n) = (self.nodes(), self.r.below(1 + self.nodes() as usize) as i32);
         match self.r.below(9) {
             0 | 1 => {
@@ -298,6 +298,12 @@ impl Both<'_> {
     fn run(&mut self, v: i32, steps: usize) -> Step {
         let percent = self.r.pick(&[2, 5, 10, 20, 40]);
         self.defects(v, percent)?;
+        self.moves(v, percent, steps)?;
+        self.too_far()
+    }
+
+    /// Groups, rounds and calls on one node; seldom a clear, and defects after it.
+    pub fn moves(&mut self, v: i32, percent: i32, steps: usize) -> Step {
         for _ in 0..steps {
             match self.r.below(100) {
                 0..=74 => {
@@ -327,7 +333,7 @@ impl Both<'_> {
                 _ => self.any(v)?,
             }
         }
-        self.too_far()
+        Ok(())
     }
 
     /// A round beyond the group's length: where the port refuses it by 10 or 11, the Rust must stop.

@@ -27,6 +27,7 @@ ROWS = [
     ('overgrown_length', 'N'),
     ('store', 'L'),
     ('active', 'N'),
+    ('original', 'E'),
 ]
 
 
@@ -85,6 +86,18 @@ class Block:
     def active_list(self) -> List[int]:
         """The nodes of the active list."""
         return self.row('active')[: self.words[5]]
+
+    def weights(self) -> List[int]:
+        """The present weight of every edge."""
+        return self.row('weight')
+
+    def original_weights(self) -> List[int]:
+        """The weight of every edge as it was opened, which a clear gives back."""
+        return self.row('original')
+
+    def reweighted(self) -> bool:
+        """Whether a change of weights stands."""
+        return self.words[6] == 1
 
     def boundary(self, n: int) -> List[int]:
         """The sides in the boundary of a node: edge e has the sides 2 e and 2 e + 1."""

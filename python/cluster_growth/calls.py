@@ -37,6 +37,7 @@ CALLS: Dict[str, Call] = {
     'insert_defect': Call('fb_insert_defect', (SIZE, SIZE)),
     'insert_blossom': Call('fb_insert_blossom', (WORDS, SIZE)),
     'remove_blossom': Call('fb_remove_blossom', (SIZE,)),
+    'load_edge_modifier': Call('fb_load_edge_modifier', (WORDS,)),
     'set_grow_state': Call('fb_set_grow_state', (SIZE, SIZE)),
     'prepare': Call('fb_prepare', (SIZE, SIZE)),
     'max_update_length': Call('fb_max_update_length', (SIZE, SIZE, FLAG)),

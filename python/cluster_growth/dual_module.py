@@ -176,6 +176,19 @@ class DualModule:
         """
         self._made('remove_blossom', blossom)
 
+    def load_edge_modifier(self, pairs: Sequence[Tuple[int, int]]) -> None:
+        """For one shot: each edge takes the weight beside it, until the next clear. Of an edge that is named twice the
+        last weight stays.
+
+        It comes before the first node, and once: refused 16 while a node exists or an earlier list that named an edge
+        stands.
+        """
+        self._made('load_edge_modifier', array('q', [signed(x) for pair in pairs for x in plain(pair)]))
+
+    def weights(self) -> List[int]:
+        """The present weights, read from the block's words: those of the opening, or what a change left."""
+        return self.block.weights()
+
     def set_grow_state(self, node: int, state: int) -> None:
         """The node grows, shrinks or stays from now on."""
         self._made('set_grow_state', node, state)

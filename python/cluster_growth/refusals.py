@@ -17,6 +17,7 @@ SENTENCES = {
     13: 'a full edge to a free vertex, or a side of growth 0: prepare first',
     14: 'a round of a length below 1',
     15: 'the node is not a blossom of dual variable 0, or once prepared it stops a debug build',
+    16: 'weights change before the first node, and once: a node exists, or an earlier change stands',
     17: 'no value of the sheet is positive, or one is out of range',
 }
 
@@ -27,7 +28,7 @@ def sentence(number: int) -> str:
 
 
 class Refused(Exception):
-    """A call that the library turned down. 1 to 9, 14 and 17 leave all memory unchanged; 10 to 13 leave what
+    """A call that the library turned down. 1 to 9, 14, 16 and 17 leave all memory unchanged; 10 to 13 leave what
     preparation leaves. 15 leaves all memory unchanged for a node that is no blossom of dual variable 0, and what
     preparation leaves where a debug build stops, which no block does that calls have made. A call for all clusters
     leaves block and entries unchanged whatever the number.

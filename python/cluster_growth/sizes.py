@@ -21,7 +21,7 @@ SIZES = {
 
 def block_words(vertices: int, edges: int, nodes: int, store: int) -> int:
     """Words of the block."""
-    return 16 + 4 * vertices + 11 * edges + 8 * nodes + store
+    return 16 + 4 * vertices + 12 * edges + 8 * nodes + store
 
 
 def scratch_words(vertices: int, edges: int) -> int:

@@ -62,7 +62,8 @@ def state(st):
                     else f'defectVertex {n.vertex}' for n in nodes)
     stacks = items(items(f'over {v} {a}' for v, a in reversed(n.overgrown)) for n in nodes)
     at = items(nats(x) for x in st.at)
-    graph = f'end = {nats(st.end)}; weight = {nats(st.weight)}; at = {at}; virtual = {nats(st.virtual)}'
+    graph = f'end = {nats(st.end)}; weight = {nats(st.weight)}; original = {nats(st.original)}; '
+    graph += f'reweighted = {int(st.reweighted)}; at = {at}; virtual = {nats(st.virtual)}'
     holders = f'vertexHolder = {stored(st.vholder)}; vertexGrandson = {stored(st.vgrandson)}'
     numbers = f'growState = {nats(n.state for n in nodes)}; parent = {stored(n.parent for n in nodes)}'
     lists = f'boundary = {items(nats(n.boundary) for n in nodes)}; overgrown = {stacks}'
@@ -86,6 +87,7 @@ def line(st, c):
         'defect': (M.insert_defect, lambda v, x: f'InsertDefect {v} {x}'),
         'blossom': (M.insert_blossom, lambda x, ms: f'InsertBlossom {x} {nats(ms)}'),
         'remove': (M.remove_blossom, lambda n: f'RemoveBlossom {n}'),
+        'erase': (M.load_edge_modifier, lambda pairs: f"LoadEdgeModifier {items(f'takes {e} {w}' for e, w in pairs)}"),
         'state': (M.set_state, lambda n, x: f'SetGrowState {n} {x}'),
         'prepare': (M.prepare, lambda n, d: f'Prepare {n} {d}'),
         'length': (M.length, lambda n, d, p: f'MaxUpdateLength {n} {d} {truth(p)}'),
@@ -98,6 +100,7 @@ def line(st, c):
         'clear': (M.clear, lambda: 'Clear')}[kind]
     worked = kind == 'remove' and M.remove_refusal(st, *f) is None
     said = call(st, *f)
+    if kind == 'erase': SEEN[f"change of weights {said[0]}{said[1] if said[1:] else ''}"] += 1
     if worked: SEEN['opening done' if said[0] == 'done' else 'opening refused once prepared'] += 1
     return f'{term(*f)} gives answered {answer(said)}'
 
@@ -118,12 +121,21 @@ def graph(rng):
     return V, E, rng.choice([2, 3, 4, 6, 8, 12]), rng.choice([25, 50, 80, 120, 200, 400]), edges, virtuals
 
 
+def pairs(rng, st):
+    """Edges and weights, repeats among them; now and then an edge that is none, or a weight out of range."""
+    some = [(rng.randrange(st.E), rng.choice([0, 0, 1, 2, 3, 4, 20])) for _ in range(rng.choice([0, 1, 1, 2, 3, 5]))]
+    if some and rng.random() < .1: some[rng.randrange(len(some))] = st.E + rng.randrange(3), 2
+    if some and rng.random() < .1: some[rng.randrange(len(some))] = rng.randrange(st.E), M.WEIGHT_MAX + 1
+    return some
+
+
 def call(rng, st):
     n, x = len(st.nodes), rng.random()
     outermost = [i for i in range(n) if st.nodes[i].parent == M.NONE and not st.nodes[i].removed]
     blossoms = [i for i in outermost if st.nodes[i].vertex == M.NONE]
     i = rng.choice(outermost) if outermost and rng.random() < .93 else rng.randrange(n + 1)
     if outermost and rng.random() < .4: i = outermost[-1]
+    if rng.random() < (.3 if n == 0 else .03): return 'erase', pairs(rng, st)
     if rng.random() < (.18 if blossoms else .02):
         bare = [i for i in blossoms if st.nodes[i].dual == 0]
         return 'remove', rng.choice(bare if bare and rng.random() < .8 else blossoms or [rng.randrange(n + 1)])
@@ -197,11 +209,12 @@ use Rattle.graph.specs.State.{{State, Overgrown, NodeClass, defectVertex, bloss
 use Rattle.graph.specs.Open.{{opened}}
 use Rattle.graph.specs.Sound.{{stateSound}}
 use Rattle.update_length.specs.declared.Answer.the-variants.{{NonZeroGrow, Unlimited, Conflicting, TouchingVirtual, BlossomNeedExpand, VertexShrinkStop, VertexShrinkStopPeer, Done, Node, Prepared, Vertex, Refused}}
-use Rattle.calls.specs.Calls.{{InsertDefect, InsertBlossom, SetGrowState, Prepare, MaxUpdateLength, Grow, ReadTable, Advance, Contacts, RepresentativeVertex, Clear, RenewActiveList, PrepareAll, GroupLength, Round, RemoveBlossom, answered, growths, touching, grouped, respond}}
+use Rattle.calls.specs.Calls.{{InsertDefect, InsertBlossom, SetGrowState, Prepare, MaxUpdateLength, Grow, ReadTable, Advance, Contacts, RepresentativeVertex, Clear, RenewActiveList, PrepareAll, GroupLength, Round, RemoveBlossom, LoadEdgeModifier, answered, growths, touching, grouped, respond}}
 use Rattle.calls.specs.declared.group.GroupMaxUpdateLength.the-variants.{{NonZeroGrow as groupFree, Unlimited as groupUnlimited, Conflicts as groupConflicts, Refused as groupRefused}}
 use Rattle.calls.specs.Insert.{{occupied}}
 use Rattle.calls.specs.Occupied.{{sidesRead}}
 use Rattle.calls.specs.Examples.{{Line, _gives_, edge, given, wanted}}
+use Rattle.calls.specs.ErasureExamples.{{takes}}
 use Rattle.calls.specs.Opens.{{everything}}
 use Rattle.dual_module_node.specs.declared.NodeRead.the-variants.{{Defect as readDefect, Blossom as readBlossom, Refused as readRefused}}
 use Rattle.dual_module_node.specs.ReadNode.{{nodeTold, readNode}}
@@ -249,11 +262,11 @@ def case(name, start, lines, st):
     {body}
 
 {name} : ({gives}) × ({last} ≡ {state(st)}) × (stateSound ({last}) ≡ {truth(not M.sound(st))}) × ({nodes})
-unfolding everything edge given wanted after nodeTold readNode {name}-start {name}-lines
+unfolding everything edge takes given wanted after nodeTold readNode {name}-start {name}-lines
 {name} = (refl, refl, refl, refl)
 
 {name}-read : map (looked ({last})) {nats(range(st.V))} ≡ {looks(st)}
-unfolding everything edge after {name}-start {name}-lines looked
+unfolding everything edge takes after {name}-start {name}-lines looked
 {name}-read = refl
 
 '''

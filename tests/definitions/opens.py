@@ -10,7 +10,7 @@ MODULES = {
     'pass': ['Work', 'Grow', 'Shrink', 'Prepare'],
     'update_length': ['Answer', 'Scan'],
     'growth': ['Growth'],
-    'calls': ['Refuse', 'Insert', 'Occupied', 'Each', 'Round', 'Remove', 'Calls'],
+    'calls': ['Refuse', 'Insert', 'Occupied', 'Each', 'Round', 'Remove', 'Erasures', 'Calls'],
     'records': ['Text', 'Record', 'Lines', 'Run'],
 }
 BELOW = {

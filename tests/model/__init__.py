@@ -22,6 +22,7 @@ from .calls import (
     set_state,
     table,
 )
+from .erasures import load_edge_modifier, modifier_refusal
 from .program import Run, lines
 from .remove import members, remove_blossom, remove_refusal, stops_opening
 from .rounds import group_length, grow_all, prepare_all, renew_active_list
@@ -54,7 +55,9 @@ __all__ = [
     'insert_defect',
     'length',
     'lines',
+    'load_edge_modifier',
     'members',
+    'modifier_refusal',
     'open_graph',
     'opp',
     'prepare',

@@ -278,4 +278,5 @@ def clear(st):
     st.vholder, st.vgrandson = [NONE] * st.V, [NONE] * st.V
     st.growth, st.holder, st.grandson = [0] * (2 * st.E), [NONE] * (2 * st.E), [NONE] * (2 * st.E)
     st.nodes, st.active = [], []
+    st.weight, st.reweighted = list(st.original), False
     return ('done',)

@@ -1,6 +1,6 @@
 """Soundness, as docs/SPECIFICATION.md 3.3 words it."""
 from .calls import lists
-from .state import DUAL_MAX, GROWTH_MAX, NONE
+from .state import DUAL_MAX, GROWTH_MAX, NONE, WEIGHT_MAX
 
 
 def node_faults(st, i):
@@ -47,6 +47,8 @@ def sound(st):
         bad.append('store')
     if len(set(st.active)) != len(st.active) or any(not 0 <= n < len(st.nodes) for n in st.active):
         bad.append('active list')
+    if any(not 0 <= w <= WEIGHT_MAX for w in st.weight + st.original):
+        bad.append('weight')
     for s in range(2 * st.E):
         if not 0 <= st.growth[s] <= GROWTH_MAX:
             bad.append(f'growth {s}')

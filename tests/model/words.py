@@ -25,7 +25,7 @@ def words(st):
         store += n.boundary + [a * 1024 + v for v, a in n.overgrown]
     up = lambda xs: [x + 1 for x in xs]
     rows = [
-        [st.V, st.E, st.N, st.L, len(st.nodes), len(st.active)] + [0] * 10,
+        [st.V, st.E, st.N, st.L, len(st.nodes), len(st.active), int(st.reweighted)] + [0] * 9,
         [int(x) + 2 * int(y) for x, y in zip(st.virtual, st.defect)],
         up(st.vholder),
         up(st.vgrandson),
@@ -45,5 +45,6 @@ def words(st):
         pad(len(n.overgrown) for n in st.nodes),
         store + [0] * (st.L - len(store)),
         st.active + [0] * (st.N - len(st.active)),
+        st.original,
     ]
     return [x for row in rows for x in row]

@@ -161,6 +161,23 @@ class Calls(unittest.TestCase):
         m.clear()
         self.assertEqual(m.insert_defect(1), 0)
 
+    def test_changing_weights(self):
+        m = graph_p()
+        self.refused(3, m.load_edge_modifier, [(0, -1), (3, 2)])
+        self.refused(4, m.load_edge_modifier, [(0, 2), (1, 1_000_001)])
+        m.load_edge_modifier([])
+        m.load_edge_modifier([(1, 10), (0, 3), (1, 0)])
+        self.refused(16, m.load_edge_modifier, [])
+        self.assertEqual((m.weights(), m.block.original_weights(), m.block.reweighted()), ([3, 0, 4], [4, 4, 4], True))
+        m.insert_syndrome([0, 1, 0, 0])
+        self.assertEqual(m.advance(0), cg.Moved(3))
+        self.assertEqual(m.contacts(), [cg.Contact(0, -1, 0)])
+        m.clear()
+        self.assertEqual((m.weights(), m.block.reweighted()), ([4, 4, 4], False))
+        m.insert_syndrome([0, 1, 0, 0])
+        self.refused(16, m.load_edge_modifier, [(0, 0)])
+        self.assertEqual(m.advance(0), cg.Moved(4))
+
     def test_refusals(self):
         m = graph_p()
         self.refused(5, m.insert_defect, 0)

@@ -36,8 +36,8 @@ def tidied(m):
     b, out = m.block, m.words.tolist()
     row = lambda name: b.rows[name].start
     used = sum(b.field('boundary_length', n) + b.field('overgrown_length', n) for n in range(b.count()))
-    free = list(range(6, 16)) + list(range(row('store') + used, row('active')))
-    free += range(row('active') + out[5], len(out))
+    free = list(range(7, 16)) + list(range(row('store') + used, row('active')))
+    free += range(row('active') + out[5], row('original'))
     for name in ('class', 'state', 'parent', 'dual', 'start', 'boundary_length', 'overgrown_length'):
         free += range(row(name) + b.count(), row(name) + b.N)
     for i in free:
@@ -101,6 +101,8 @@ class Compared(unittest.TestCase):
             return
         if name == 'remove':
             return self.opening(m, st, rng, *values)
+        if name == 'erase':
+            return self.erasure(m, st, rng, *values)
         if name == 'blossom':
             want, got = M.insert_blossom(st, *values), self.blossom(m, *values)
         else:
@@ -119,6 +121,20 @@ class Compared(unittest.TestCase):
 
     def blossom(self, m, state, circle):
         return m.call('insert_blossom', array('q', circle), state)
+
+    def erasure(self, m, st, rng, pairs):
+        """A change of weights: refused or empty, it leaves every word; the scratch is only measured."""
+        self.litter(m, rng)
+        before = self.lent(m)
+        want = M.load_edge_modifier(st, pairs)
+        got = m.call('load_edge_modifier', array('q', [x for pair in pairs for x in pair]))
+        SEEN[f"erase {said(want)}{'' if pairs else ' empty'}"] += 1
+        self.assertEqual(str(got), said(want))
+        self.assertEqual(self.lent(m)[1:], before[1:])
+        if want[0] == 'refused' or not pairs:
+            self.assertEqual(list(m._block), before[0])
+        self.assertEqual(tidied(m), words(st))
+        return want
 
     def opening(self, m, st, rng, n):
         """The opening of a blossom, and whether it was worked."""

@@ -35,7 +35,7 @@ def refusal(v, e, n, l, edges, sheet, virtuals, block, scratch):
     """The first number that applies, or 0. Words are as the host gives them; block and scratch are lengths."""
     if not (1 <= v <= 1024 and 1 <= e <= 4096 and 1 <= n <= 1024 and l <= 65536) or -(-len(edges) // 3) != e:
         return 4
-    if (block, scratch, len(sheet)) != (16 + 4 * v + 11 * e + 8 * n + l, 4 * e + min(v, 2 * e), e):
+    if (block, scratch, len(sheet)) != (16 + 4 * v + 12 * e + 8 * n + l, 4 * e + min(v, 2 * e), e):
         return 1
     if any(not 0 <= x < v for x in virtuals):
         return 3
@@ -162,7 +162,7 @@ class Refusals(unittest.TestCase):
                 edges,
                 [3, -1 if value else 0, 5] + [1] * longer,
                 [2, 3 if virtual else 0],
-                16 + 12 + 33 + 16 + 4 + block,
+                16 + 12 + 36 + 16 + 4 + block,
                 12 + 3 + scratch,
             )
             number = refusal(*x.numbers, *x.words[2:], len(x.words[0]), len(x.words[1]))

@@ -77,6 +77,12 @@ class Page(InFolder):
         self.assertEqual([nodes[n][3] for n in (3, 4, 5)], [0, 0, 0])
         self.assertEqual(nodes[6], [None, None, 0, 0, 0])
 
+    def test_a_change_of_weights_is_a_step(self):
+        out = self.path('page.html')
+        self.assertEqual(card('page', 'examples/erased.txt', '-o', out)[0], 0)
+        data = data_of(out)
+        self.assertEqual([s['answer'] for s in data['steps'][:2]], [['done'], ['refused 16']])
+
     def test_how_it_ends(self):
         out = self.path('page.html')
         self.assertEqual(

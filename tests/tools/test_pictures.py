@@ -127,6 +127,11 @@ class Pictures(InFolder):
         self.assertTrue(any(w.startswith('node 3: blossom of 0, 1, 2, dual variable') for w in said))
         self.assertFalse(any(w.startswith('node 6:') for w in said))
 
+    def test_a_changed_weight_stands_beside_the_one_of_the_opening(self):
+        said = words(content('examples', 'erased.svg'))
+        for word, times in (('0 (opened 4)', 1), ('6 (opened 4)', 1)):
+            self.assertEqual(said.count(word), times, word)
+
 
 @needs_library
 class Large(InFolder):

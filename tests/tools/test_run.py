@@ -239,6 +239,18 @@ class Openings(unittest.TestCase):
         self.assertEqual(card('check', '-', given=given[: given.index('clear')])[0], 3)  # a blossom: beyond the table equality
 
     @needs_library
+    def test_changing_weights(self):
+        given = P + 'erase 0 -1 3 2 → refused 3\nerase 1 1000001 → refused 4\nerase → done\nerase 1 9 0 3 1 0 → done\n'
+        given += 'erase 2 2 → refused 16\ndefect 1 grow; advance 0 → done\ncontacts → contact 0 -1 0\nclear\ndefect 1 grow\n'
+        given += 'erase → refused 16\nadvance 0 → done\ncontacts → contact 0 -1 0'
+        status, said, wrong = card('run', '-', given=given)
+        self.assertEqual((status, wrong), (0, ''), said)
+        said = ' '.join(said.split())
+        for words in ('run by the library', 'erase 2 2 → refused 16 '):
+            self.assertIn(words, said)
+        self.assertEqual(card('check', '-', given=given)[::2], (0, ''))  # the weights that stand at the end
+
+    @needs_library
     def test_what_is_worked_out_is_enough(self):
         circle = '; '.join(f'defect {v} grow; advance {k}' for k, v in enumerate(range(3, 66, 6)))
         status, said, wrong = card(

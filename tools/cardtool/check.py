@@ -1,4 +1,6 @@
 """Compares a growth table with the one from distances and dual variables, and tells how a growth follows."""
+import copy
+
 from . import made
 from .book import Book
 from .distances import Distances
@@ -8,6 +10,13 @@ from .script import LIBRARY_SIZES
 
 SHOWN = 3  # wrong edges that are told with their derivation
 COVERS = 'Covered are runs without blossoms on graphs without weights of 0.'
+
+
+def present(graph, weights):
+    """The graph with the weights that stand."""
+    graph = copy.copy(graph)
+    graph.edges = [(a, b, w) for (a, b, _), w in zip(graph.edges, weights)]
+    return graph
 
 
 class Checked:
@@ -24,6 +33,7 @@ class Checked:
             number, at, what = self.graph.fault(LIBRARY_SIZES) or (self.made.refused, None, 'the opening')
             raise NoAnswer(f'refused {number}: {what}', at)
         self.module = self.made.module
+        self.graph = present(self.graph, self.module.weights())
         self.duals = self.book.duals()
         self.node = {vertex: f'node {n}' for n, (vertex, _, _) in enumerate(self.book.nodes)}
         self.distances = distances(self.graph, self.duals)

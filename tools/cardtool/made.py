@@ -40,6 +40,10 @@ def blossom(module, fields):
     return [str(module.call('insert_blossom', array('q', fields[1:]), fields[0]))]
 
 
+def erase(module, fields):
+    return [str(module.call('load_edge_modifier', array('q', fields)))]
+
+
 def group(module, fields):
     """The answer, and a line for each conflict and each stop."""
     try:
@@ -50,7 +54,8 @@ def group(module, fields):
     return [str(said)] + [str(a) for a in listed]
 
 
-OWN = {'table': table, 'contacts': contacts, 'blossom': blossom, 'group': group}  # calls whose values are not plain numbers
+# calls whose values are not plain numbers
+OWN = {'table': table, 'contacts': contacts, 'blossom': blossom, 'erase': erase, 'group': group}
 
 
 def answer(module, item):
@@ -81,12 +86,12 @@ def touching(module, item, said):
 
 class Made:
     """The answers by number; by how much each `advance` moved; where each conflict is; which nodes each opening made
-    outermost again; the module as the last call left it.
+    outermost again; the weights at each call that a change of them stands at; the module as the last call left it.
     """
 
     def __init__(self, script, watch=None, book=None, kind=DualModule):
         self.answers, self.moved, self.meets, self.module, self.book = {}, {}, {}, None, book
-        self.outermost = {}
+        self.outermost, self.weights = {}, {}
         calls = script.calls()
         self.module = opened(script.graph, kind)
         if isinstance(self.module, int):
@@ -115,6 +120,8 @@ class Made:
             self.book.after(item, said)
         if item.word == 'open-blossom' and said == ['done']:
             self.outermost[item.number] = members
+        if module.block.reweighted():
+            self.weights[item.number] = module.block.weights()
         if before is not None and said == ['done']:
             self.moved[item.number] = module.read_node(item.fields[0]).dual - before.dual
         if said and said[0].startswith('conflict') and int(said[0].split()[3]) == item.fields[0]:

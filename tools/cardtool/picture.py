@@ -41,7 +41,7 @@ class Picture:
         """The growths of an edge along one of its strokes."""
         (gl, gr), weight, thick = (
             self.standing.growths[e],
-            self.scene.edges[e][2],
+            self.standing.weights[e],
             self.scene.thick * (1 if stroke.whole else 0.7),
         )
         tl, tr = (min(gl / weight, 1), min(gr / weight, 1)) if weight else (gl > 0, gr > 0)
@@ -73,7 +73,7 @@ class Picture:
 
     def edges(self, measured):
         thin = 1.5 if self.scene.paper else max(0.4, 0.03 * self.scene.spacing)
-        for e, (_, _, weight) in enumerate(self.scene.edges):
+        for e, weight in enumerate(self.standing.weights):
             gl, gr = self.standing.growths[e]
             if gl + gr > weight:
                 self.over.append(e)
@@ -122,12 +122,12 @@ class Picture:
     def label_edge(self, e, curve):
         """Amounts and weight of an edge."""
         scene, size, gap = self.scene, self.scene.size, self.scene.thick * (1 if self.scene.paper else 0.5) + 1
-        (gl, gr), weight = self.standing.growths[e], scene.edges[e][2]
+        (gl, gr), weight, opened = self.standing.growths[e], self.standing.weights[e], scene.edges[e][2]
         u, v = curve.at(0.5)[1]
         side = 1 if u < -0.01 or abs(u) <= 0.01 and v < 0 else -1  # above the edge, or at its right
         for g, end in ((gl, 0), (gr, 1)):
             if g:
-                middle = max(0.25 if e in self.over else g / weight / 2, 1.6 * scene.radius / curve.length)
+                middle = max(0.25 if e in self.over or not weight else g / weight / 2, 1.6 * scene.radius / curve.length)
                 ts = [abs(end - f * middle) for f in (1, 1.2, 0.8, 1.4, 0.6)]
                 self.put_label(
                     self.spots_beside(curve, ts, (-side, side), (gap, gap + 5), str(g), size),
@@ -140,7 +140,8 @@ class Picture:
         if e in self.over:
             known = self.standing.gaps.get(e)
             words = f'{gl} + {gr} > {weight}' if known is None else f'{weight}, {left(known)}'
-        if scene.paper or gl or gr:
+        words += f' (opened {opened})' if weight != opened else ''
+        if scene.paper or gl or gr or weight != opened:
             self.put_label(
                 self.spots_beside(
                     curve, (0.5, 0.42, 0.58, 0.33, 0.67), (side, -side), (gap, gap + 6, gap + 14), words, size

@@ -43,10 +43,19 @@ def read(name, x):
     return f'{what}, {STATES[x[1]]}, ' + (f'in blossom {x[2]}, ' if x[2] >= 0 else '') + f'dual variable {x[3]}'
 
 
-def edge(run, name, x):
+def erased(run, item):
+    """Which weights a change gave, with those of the opening."""
+    weights = run.made.weights.get(item.number, [])
+    edges = sorted(set(item.fields[::2]))
+    some = ', '.join(f'edge {e} has weight {weights[e]} for {run.graph.edges[e][2]}' for e in edges[:3])
+    return some + (f', and {len(edges) - 3} more' if edges[3:] else '') if weights else 'no edge is named'
+
+
+def edge(run, item, name, x):
     if x[0] >= len(run.graph.edges):
         return ''
     left, right, weight = run.graph.edges[x[0]]
+    weight = run.made.weights[item.number][x[0]] if run.made and item.number in run.made.weights else weight
     if name == 'contact':
         at = ['the virtual vertex' if n == -1 else f'node {n}' for n in x[1:]]
         return f'{left}-{right}: full, joins {at[0]} and {at[1]}'
@@ -61,6 +70,7 @@ def left(gap):
 def gap(run, item, name, x):
     """What the gap of an edge says."""
     a, b, weight = run.graph.edges[item.fields[0]]
+    weight = run.made.weights[item.number][item.fields[0]] if run.made and item.number in run.made.weights else weight
     said = {'inner': 'one node holds both sides', 'over': 'past the weight {1} by {0}', 'gap': '{0} of {1} left'}
     return f'{a}-{b}: ' + said[name].format(*x, weight)
 
@@ -96,7 +106,8 @@ def words(run, item, answer):
     if name in ('inner', 'over', 'gap'):
         return gap(run, item, name, x)
     if name in ('edge', 'contact'):
-        return edge(run, name, x)
+        return edge(run, item, name, x)
     if name == 'done':
-        return opened(run, item) if item.word == 'open-blossom' else moved(run, item)
+        own = {'open-blossom': opened, 'erase': erased}
+        return own.get(item.word, moved)(run, item)
     return ''

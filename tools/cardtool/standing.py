@@ -7,7 +7,7 @@ from cluster_growth import Gap, Node
 
 class Standing(NamedTuple):
     """Growths of each edge; the outermost node that holds each side and each vertex, or None; the nodes; the gap of
-    each edge with growth.
+    each edge with growth; the present weight of each edge.
 
     Without the library nobody is known to hold, and no gap is known.
     """
@@ -17,6 +17,7 @@ class Standing(NamedTuple):
     vertex_holders: List[Optional[int]]
     nodes: List[Node]
     gaps: Dict[int, Gap]
+    weights: List[int]
 
     def defects(self) -> Dict[int, int]:
         """The vertex of each defect node."""
@@ -42,6 +43,7 @@ def of_module(module):
         [outer[h] for h in block.row('vertex_holder')],
         [block.node(n) for n in range(block.count())],
         {e: module.gap(e) for e in range(len(module.edges)) if growth[2 * e] or growth[2 * e + 1]},
+        block.weights(),
     )
 
 
@@ -64,4 +66,5 @@ def of_run(run):
                 for n in nodes
             ]
             nodes.append(Node(number, None, i.fields[1], i.fields[0], None, 0))
-    return Standing(table, [(None, None)] * len(table), [None] * run.graph.V, nodes, {})
+    weights = [w for _, _, w in run.graph.edges]
+    return Standing(table, [(None, None)] * len(table), [None] * run.graph.V, nodes, {}, weights)

@@ -56,6 +56,7 @@ class Steps:
                 'growth': changed['growth'],
                 'holder': changed['holder'],
                 'gap': [(e, left(module.gap(e))) for e in sorted(edges)],
+                'weight': changed['weight'],
                 'spot': changed['vertex_holder'],
                 'nodes': [(n, row(block.node(n))) for n in sorted(touched)] + [(n, None) for n in reversed(gone)],
             }
@@ -63,7 +64,7 @@ class Steps:
 
     def start(self, module):
         """Takes the state of an opened graph."""
-        self.rows = {name: Row(module.block, name) for name in ('vertex_holder', 'growth', 'holder') + NODE_ROWS}
+        self.rows = {name: Row(module.block, name) for name in ('vertex_holder', 'growth', 'holder', 'weight') + NODE_ROWS}
 
     def told(self, run):
         """The steps with answers, as the page reads them."""

@@ -5,7 +5,8 @@
     prepare NODE DIRECTION     length NODE DIRECTION        length NODE DIRECTION prepared
     grow NODE LENGTH           advance NODE                 representative NODE
     node NODE                  gap EDGE                     open-blossom NODE
-    round LENGTH               group, prepare_all, renew    table, contacts, clear
+    erase EDGE WEIGHT ...      round LENGTH                 group, prepare_all, renew
+    table, contacts, clear
     at VERTEX X Y [LAYER]      observable NUMBER EDGE ...
     sheet DECIMAL ...          bytes HEX...
 

@@ -50,6 +50,7 @@ CALLS = {
     'contacts': Word((), 12, 'contacts'),
     'clear': Word((), 13, 'clear'),
     'open-blossom': Word(('node',), None, 'remove_blossom'),
+    'erase': Word((), None, 'load_edge_modifier', many=('edge', 'weight')),
     'representative': Word(('node',), None, 'representative_vertex'),
     'node': Word(('node',), None, 'read_node'),
     'gap': Word(('edge',), None, 'gap'),

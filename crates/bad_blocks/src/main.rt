@@ -6,7 +6,7 @@ ghost use Prim.Native.Nat.{_<_, _≤_};
 ghost use lib.ListN.{length};
 
 // The sound block (crates/graph/specs/Example.antt has the state that it holds).
-fn sample() -> [i64; 55] {
+fn sample() -> [i64; 56] {
     [
         2,
         1,
@@ -14,6 +14,7 @@ fn sample() -> [i64; 55] {
         4,
         1,
         1,
+        1,
         0,
         0,
         0,
@@ -22,8 +23,7 @@ fn sample() -> [i64; 55] {
         0,
         0,
         0,
-        0,
-        0, // header: V, E, N, L, nodes, active nodes
+        0, // header: V, E, N, L, nodes, active nodes, 1: a change of weights stands
         2,
         1,
         1,
@@ -63,6 +63,7 @@ fn sample() -> [i64; 55] {
         9, // the store: side 0, overgrown vertex 0 with amount 2, two free words
         0,
         9, // the active list: node 0, a free word
+        6, // the weight of the opening
     ]
 }
 
@@ -75,7 +76,7 @@ fn tell(name: &[u8], k: usize) {
 
 // The block with word i set to x.
 fn with(name: &[u8], i: usize, x: i64)
-    requires { ⌜ i < 55 ⌝ }
+    requires { ⌜ i < 56 ⌝ }
 {
     let mut b = sample();
     b[i] = x;
@@ -92,7 +93,7 @@ fn lengths() {
     );
     tell(
         b"the block a word short",
-        memory_tests::refuse::refusal(&b[0..54], &t[0..6]),
+        memory_tests::refuse::refusal(&b[0..55], &t[0..6]),
     );
     tell(
         b"the scratch a word short",
@@ -110,7 +111,7 @@ fn lengths() {
 
 // The sizes of the sound block in the header of one that has a word more.
 fn longer() {
-    let mut b = [0i64; 56];
+    let mut b = [0i64; 57];
     b[0] = 2;
     b[1] = 1;
     b[2] = 2;
@@ -161,6 +162,14 @@ fn edges() {
     with(b"ends the same", 25, 0);
     with(b"weight negative", 34, -1);
     with(b"weight 1,000,001", 34, 1000001);
+    with(b"original weight negative", 55, -1);
+    with(b"original weight 1,000,001", 55, 1000001);
+}
+
+fn marks() {
+    with(b"mark negative", 6, -1);
+    with(b"mark 2", 6, 2);
+    with(b"mark 0", 6, 0);
 }
 
 fn nodes() {
@@ -192,7 +201,7 @@ fn stacks() {
     with(b"an amount of 1,000,000,001", 50, 1024000001024);
     with(b"a free word of the store negative", 51, -1);
     with(b"a word behind the last node negative", 36, -1);
-    with(b"a free word of the header negative", 6, -1);
+    with(b"a free word of the header negative", 7, -1);
 }
 
 // The block with two words of boundary and no stack.
@@ -228,7 +237,7 @@ fn actives() {
 
 // The block with a second node that is removed, and with word i set to x and word j to y.
 fn removed(name: &[u8], i: usize, x: i64, j: usize, y: i64)
-    requires { ⌜ (i < 55) × (j < 55) ⌝ }
+    requires { ⌜ (i < 56) × (j < 56) ⌝ }
 {
     let mut b = sample();
     b[4] = 2;
@@ -241,17 +250,17 @@ fn removed(name: &[u8], i: usize, x: i64, j: usize, y: i64)
 }
 
 fn removals() {
-    removed(b"a removed node", 6, 0, 6, 0);
+    removed(b"a removed node", 7, 0, 7, 0);
     removed(b"a removed node in the active list", 5, 2, 54, 1);
     removed(b"a removed node with a list", 46, 1, 51, 1);
-    removed(b"a removed node in Grow", 38, 1, 6, 0);
-    removed(b"a vertex that a removed node holds", 19, 2, 6, 0);
+    removed(b"a removed node in Grow", 38, 1, 7, 0);
+    removed(b"a vertex that a removed node holds", 19, 2, 7, 0);
     removed(b"a side that a removed node holds", 29, 2, 31, 1);
-    removed(b"a node that lies in a removed one", 39, 2, 6, 0);
+    removed(b"a node that lies in a removed one", 39, 2, 7, 0);
 }
 
 // The block with nothing held and nothing listed.
-fn unheld() -> [i64; 55] {
+fn unheld() -> [i64; 56] {
     let mut b = sample();
     b[18] = 0;
     b[28] = 0;
@@ -273,12 +282,12 @@ fn first_member(name: &[u8], x: i64) {
 
 // How many words of b are not those of the sound block.
 fn changes(b: &[i64]) -> usize
-    requires { ⌜ length (now b) ≡ 55 ⌝ }
+    requires { ⌜ length (now b) ≡ 56 ⌝ }
 {
     let s = sample();
     let mut n = 0;
     let mut i = 0;
-    while i < 55 {
+    while i < 56 {
         n += changed(b, &s, i);
         i += 1;
     }
@@ -331,6 +340,7 @@ fn main() {
     vertices();
     sides();
     edges();
+    marks();
     nodes();
     lists();
     stacks();

@@ -67,6 +67,8 @@ star = record {
       record {
         end = 0 ∷ 1 ∷ 0 ∷ 2 ∷ 0 ∷ 3 ∷ [];
         weight = 2 ∷ 4 ∷ 4 ∷ [];
+        original = 2 ∷ 4 ∷ 4 ∷ [];
+        reweighted = 0;
         at = (0 ∷ 2 ∷ 4 ∷ []) ∷ (1 ∷ []) ∷ (3 ∷ []) ∷ (5 ∷ []) ∷ [];
         virtual = 0 ∷ 0 ∷ 0 ∷ 0 ∷ [];
       };

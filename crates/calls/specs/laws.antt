@@ -9,6 +9,7 @@ pub mod Readable
 pub mod Refuse
 pub mod Remove
 pub mod RemoveCall
+pub mod Erasures
 pub mod Replies
 pub mod Shapes
 pub mod Sounds

@@ -1,4 +1,4 @@
--- A block of 2 vertices and 1 edge with one defect node, and the state that it holds: computed, so that layout and tests are seen to mean what they say.
+-- A block of 2 vertices and 1 edge, whose weight was changed from 6 to 4, with one defect node, and the state that it holds: computed, so that layout and tests are seen to mean what they say.
 use mathlib.Core.Path.{_≡_, refl}
 use mathlib.Core.Bool.{true, false}
 use mathlib.Core.List.{List, [], _∷_, map}
@@ -16,13 +16,13 @@ use Rattle.graph.specs.Layout.{rowsOf, classFrom, stretches, overgrownFr
 abbrev block : List ℤ
 block =
     map pos
-    (2 ∷ 1 ∷ 2 ∷ 4 ∷ 1 ∷ 1 ∷ 0 ∷ 0 ∷ 0 ∷ 0 ∷ 0 ∷ 0 ∷ 0 ∷ 0 ∷ 0 ∷ 0 ∷ 2 ∷ 1 ∷ 1 ∷ 0 ∷ 1 ∷ 0 ∷ 0 ∷ 1 ∷ 0 ∷ 1 ∷ 3 ∷ 0 ∷ 1
-    ∷ 0 ∷ 1 ∷ 0 ∷ 0 ∷ 1 ∷ 4 ∷ 0 ∷ 0 ∷ 1 ∷ 0 ∷ 0 ∷ 0 ∷ 3 ∷ 0 ∷ 0 ∷ 0 ∷ 1 ∷ 0 ∷ 1 ∷ 0 ∷ 0 ∷ 2048 ∷ 7 ∷ 9 ∷ 0 ∷ 9 ∷ [])
+    (2 ∷ 1 ∷ 2 ∷ 4 ∷ 1 ∷ 1 ∷ 1 ∷ 0 ∷ 0 ∷ 0 ∷ 0 ∷ 0 ∷ 0 ∷ 0 ∷ 0 ∷ 0 ∷ 2 ∷ 1 ∷ 1 ∷ 0 ∷ 1 ∷ 0 ∷ 0 ∷ 1 ∷ 0 ∷ 1 ∷ 3 ∷ 0 ∷ 1
+    ∷ 0 ∷ 1 ∷ 0 ∷ 0 ∷ 1 ∷ 4 ∷ 0 ∷ 0 ∷ 1 ∷ 0 ∷ 0 ∷ 0 ∷ 3 ∷ 0 ∷ 0 ∷ 0 ∷ 1 ∷ 0 ∷ 1 ∷ 0 ∷ 0 ∷ 2048 ∷ 7 ∷ 9 ∷ 0 ∷ 9 ∷ 6 ∷ [])
 
 -- the state that they hold
 abbrev state : State
 state = record {
-  graph = record { end = 0 ∷ 1 ∷ []; weight = 4 ∷ []; at = (0 ∷ []) ∷ (1 ∷ []) ∷ []; virtual = 0 ∷ 1 ∷ [] };
+  graph = record { end = 0 ∷ 1 ∷ []; weight = 4 ∷ []; original = 6 ∷ []; reweighted = 1; at = (0 ∷ []) ∷ (1 ∷ []) ∷ []; virtual = 0 ∷ 1 ∷ [] };
   vertices = record { defect = 1 ∷ 0 ∷ []; vertexHolder = 1 ∷ 0 ∷ []; vertexGrandson = 1 ∷ 0 ∷ [] };
   sides = record { growth = 3 ∷ 0 ∷ []; holder = 1 ∷ 0 ∷ []; grandson = 1 ∷ 0 ∷ [] };
   nodes =

@@ -11,7 +11,7 @@ use Rattle.graph.specs.Basic.{all, below}
 use Rattle.graph.specs.State.{vertexCount, edgeCount, sideCount, nodeCount}
 use Rattle.graph.specs.Open.{weightLimit, sidesOf}
 use Rattle.graph.specs.Layout.{vOf, eOf, nOf, lOf, countOf, activeCountOf, blockLength, rowsOf, row, stretches, risingTo, stateOf}
-use Rattle.graph.specs.Rows.{headerRow, firstRow, endRow, atRow, weightRow, startRow, boundaryLengthRow, overgrownLengthRow}
+use Rattle.graph.specs.Rows.{headerRow, firstRow, endRow, atRow, weightRow, startRow, boundaryLengthRow, overgrownLengthRow, originalRow}
 
 -- ---- what the words have
 
@@ -67,15 +67,16 @@ pub record Packed (header start blen olen : List ℕ) : Type 0 where
 abbrev pub PackedRows : List (List ℕ) → Type 0
 PackedRows r = Packed (row r headerRow) (row r startRow) (row r boundaryLengthRow) (row r overgrownLengthRow)
 
--- the graph, which no call but open changes: its numbers are in range, and the sides at each vertex are those whose end it is
-pub record GraphOk (header first end at weight : List ℕ) : Type 0 where
+-- the graph: its numbers are in range, and the sides at each vertex are those whose end it is
+pub record GraphOk (header first end at weight original : List ℕ) : Type 0 where
   pub ends : all (λ x. ltb x (getD header 0 0)) end ≡ true
   pub sides : stretches first at ≡ map (sidesOf end) (below (getD header 0 0))
   pub firsts : risingTo first (2 * getD header 1 0) ≡ true
   pub weights : all (λ x. leb x weightLimit) weight ≡ true
+  pub originals : all (λ x. leb x weightLimit) original ≡ true
 
 abbrev pub GraphRows : List (List ℕ) → Type 0
-GraphRows r = GraphOk (row r headerRow) (row r firstRow) (row r endRow) (row r atRow) (row r weightRow)
+GraphRows r = GraphOk (row r headerRow) (row r firstRow) (row r endRow) (row r atRow) (row r weightRow) (row r originalRow)
 
 -- the same of a block, shut: what every read of a node's lists asks, and every read of the sides at a vertex
 unfoldable pub Listed : List ℤ → Type 0

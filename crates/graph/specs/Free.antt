@@ -8,8 +8,8 @@ use lib.Dec.{leb, eqb}
 use Rattle.graph.specs.Sound.{entries}
 use Rattle.graph.specs.Layout.{countOf, activeCountOf, stateOf}
 
--- place i of row k: behind the six numbers of the header; behind the last node; behind the last list; behind the last active node
+-- place i of row k: behind the seven numbers of the header; behind the last node; behind the last list; behind the last active node
 unfoldable pub freePlace : List ℤ → ℕ → ℕ → Bool
 freePlace b k i =
-    (eqb k 0 && leb 6 i)
+    (eqb k 0 && leb 7 i)
     || ((leb 11 k && (leb k 17 && leb (countOf b) i)) || ((eqb k 18 && leb (entries (stateOf b)) i) || (eqb k 19 && leb (activeCountOf b) i)))

@@ -1,8 +1,8 @@
 -- Where the parts of a block stand, and the state that a block holds.
 -- A block is a row of arrays (docs/LAYOUT.md): the header of 16 words (V, E, N, L, the number of nodes, the length of the active list,
--- the rest free); over vertices
+-- whether a change of weights stands, the rest free); over vertices
 -- flags, holder, grandson and first; over sides end, growth, holder, grandson and at; over edges weight; over nodes class, grow state,
--- parent, dual variable, start, boundary length and overgrown length; the list store; and the active list.
+-- parent, dual variable, start, boundary length and overgrown length; the list store; the active list; over edges the original weight.
 use Prim.Native.Nat.{ℕ, _+_, _-_, _*_, _/_, _%_, min}
 use mathlib.Core.Bool.{Bool, true, _&&_}
 use mathlib.Core.List.{List, [], _∷_, map, reverse}
@@ -14,7 +14,7 @@ use Rattle.graph.specs.State.{State, Overgrown, NodeClass, vertexCount, 
 use Rattle.graph.specs.Open.{sizesOk}
 use Rattle.graph.specs.Sound.{stateSound}
 use Rattle.graph.specs.Word.{toNat, wordAt}
-use Rattle.graph.specs.Rows.{rows, headerRow, flagsRow, vertexHolderRow, vertexGrandsonRow, firstRow, endRow, growthRow, holderRow, grandsonRow, atRow, weightRow, classRow, growStateRow, parentRow, dualRow, startRow, boundaryLengthRow, overgrownLengthRow, storeRow, activeRow}
+use Rattle.graph.specs.Rows.{rows, headerRow, flagsRow, vertexHolderRow, vertexGrandsonRow, firstRow, endRow, growthRow, holderRow, grandsonRow, atRow, weightRow, classRow, growStateRow, parentRow, dualRow, startRow, boundaryLengthRow, overgrownLengthRow, storeRow, activeRow, originalRow}
 
 -- ---- sizes, as the header has them
 
@@ -38,11 +38,11 @@ activeCountOf b = wordAt b 5
 
 -- the words of each array
 abbrev pub sizes : ℕ → ℕ → ℕ → ℕ → List ℕ
-sizes v e n l = 16 ∷ v ∷ v ∷ v ∷ v ∷ 2 * e ∷ 2 * e ∷ 2 * e ∷ 2 * e ∷ 2 * e ∷ e ∷ n ∷ n ∷ n ∷ n ∷ n ∷ n ∷ n ∷ l ∷ n ∷ []
+sizes v e n l = 16 ∷ v ∷ v ∷ v ∷ v ∷ 2 * e ∷ 2 * e ∷ 2 * e ∷ 2 * e ∷ 2 * e ∷ e ∷ n ∷ n ∷ n ∷ n ∷ n ∷ n ∷ n ∷ l ∷ n ∷ e ∷ []
 
 -- the words of a block, and of a scratch: 2 E boundary entries, 2 E marks, and an entry for each vertex that is noted
 abbrev pub blockLength : ℕ → ℕ → ℕ → ℕ → ℕ
-blockLength v e n l = 16 + 4 * v + 11 * e + 8 * n + l
+blockLength v e n l = 16 + 4 * v + 12 * e + 8 * n + l
 
 abbrev pub scratchLength : ℕ → ℕ → ℕ
 scratchLength v e = 4 * e + min v (2 * e)
@@ -100,6 +100,8 @@ stateFrom r =
           record {
             end = row r endRow;
             weight = row r weightRow;
+            original = row r originalRow;
+            reweighted = getD (row r headerRow) 6 0;
             at = stretches (row r firstRow) (row r atRow);
             virtual = map (λ x. x % 2) (row r flagsRow);
           };

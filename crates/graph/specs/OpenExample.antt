@@ -18,7 +18,7 @@ twice = map pos (2 ∷ 2 ∷ [])
 
 -- a block and a scratch for it, with 2 nodes and a store of 4 words
 abbrev room : List ℤ
-room = replicate 81 (negsuc 6)
+room = replicate 84 (negsuc 6)
 
 abbrev scratch : List ℤ
 scratch = replicate 15 (pos 1)
@@ -36,16 +36,16 @@ pub every-word :
     ≡ map pos
     (3 ∷ 3 ∷ 2 ∷ 4 ∷ 0 ∷ 0 ∷ 0 ∷ 0 ∷ 0 ∷ 0 ∷ 0 ∷ 0 ∷ 0 ∷ 0 ∷ 0 ∷ 0 ∷ 0 ∷ 0 ∷ 1 ∷ 0 ∷ 0 ∷ 0 ∷ 0 ∷ 0 ∷ 0 ∷ 0 ∷ 2 ∷ 4 ∷ 0
     ∷ 1 ∷ 2 ∷ 1 ∷ 0 ∷ 2 ∷ 0 ∷ 0 ∷ 0 ∷ 0 ∷ 0 ∷ 0 ∷ 0 ∷ 0 ∷ 0 ∷ 0 ∷ 0 ∷ 0 ∷ 0 ∷ 0 ∷ 0 ∷ 0 ∷ 0 ∷ 0 ∷ 0 ∷ 4 ∷ 1 ∷ 3 ∷ 2 ∷ 5
-    ∷ 5 ∷ 6 ∷ 7 ∷ 0 ∷ 0 ∷ 0 ∷ 0 ∷ 0 ∷ 0 ∷ 0 ∷ 0 ∷ 0 ∷ 0 ∷ 0 ∷ 0 ∷ 0 ∷ 0 ∷ 0 ∷ 0 ∷ 0 ∷ 0 ∷ 0 ∷ 0 ∷ [])
+    ∷ 5 ∷ 6 ∷ 7 ∷ 0 ∷ 0 ∷ 0 ∷ 0 ∷ 0 ∷ 0 ∷ 0 ∷ 0 ∷ 0 ∷ 0 ∷ 0 ∷ 0 ∷ 0 ∷ 0 ∷ 0 ∷ 0 ∷ 0 ∷ 0 ∷ 0 ∷ 0 ∷ 5 ∷ 6 ∷ 7 ∷ [])
 unfolding openedBlock openedWords openedRows flattened firstOf openRefusal fits edgesFrom edgeAt givenAt virtualsFrom
     sizesOk endsOf sidesOf flagIn edgeOk toNat Basic.all Basic.any Basic.only Basic.member Basic.below Basic.sumBelow
 every-word = refl
 
 -- accepted; a block that is too short, before a virtual vertex out of range; that one; a negative end; a weight that is missing; an edge too few, before all
 pub refusals :
-    answers room triangle twice ∷ answers (take 80 room) triangle (pos 3 ∷ [])
+    answers room triangle twice ∷ answers (take 83 room) triangle (pos 3 ∷ [])
     ∷ answers room (set triangle 0 (negsuc 0)) (pos 3 ∷ []) ∷ answers room (set triangle 0 (negsuc 0)) twice
-    ∷ answers room (take 8 triangle) twice ∷ answers (take 80 room) (take 6 triangle) (pos 3 ∷ []) ∷ []
+    ∷ answers room (take 8 triangle) twice ∷ answers (take 83 room) (take 6 triangle) (pos 3 ∷ []) ∷ []
     ≡ 0 ∷ 1 ∷ 3 ∷ 4 ∷ 4 ∷ 4 ∷ []
 unfolding openRefusal fits edgesFrom edgeAt givenAt virtualsFrom sizesOk edgeOk toNat Basic.all Basic.below
 refusals = refl

@@ -12,7 +12,7 @@ use Rattle.graph.specs.State.{vertexCount, edgeCount, sideCount, nodeCou
 use Rattle.graph.specs.Open.{Edge, endsOf, sidesOf, flagIn, cleared, openRefusal}
 use Rattle.graph.specs.Layout.{blockLength, scratchLength, rowsOf, row, stateOf}
 use Rattle.graph.specs.Form.{Formed}
-use Rattle.graph.specs.Rows.{headerRow, flagsRow, vertexHolderRow, vertexGrandsonRow, firstRow, endRow, growthRow, holderRow, grandsonRow, atRow, weightRow, classRow, growStateRow, parentRow, dualRow, startRow, boundaryLengthRow, overgrownLengthRow, storeRow, activeRow}
+use Rattle.graph.specs.Rows.{headerRow, flagsRow, vertexHolderRow, vertexGrandsonRow, firstRow, endRow, growthRow, holderRow, grandsonRow, atRow, weightRow, classRow, growStateRow, parentRow, dualRow, startRow, boundaryLengthRow, overgrownLengthRow, storeRow, activeRow, originalRow}
 
 -- ---- what the host gives
 
@@ -61,7 +61,7 @@ openedRows v e n l edges virtuals =
     ∷ endsOf edges ∷ zeros (2 * e) ∷ zeros (2 * e) ∷ zeros (2 * e) ∷ flattened (map (sidesOf (endsOf edges)) (below v))
     ∷ map (λ (x : Edge). x .weight) edges
     ∷ zeros n ∷ zeros n ∷ zeros n ∷ zeros n ∷ zeros n ∷ zeros n ∷ zeros n
-    ∷ zeros l ∷ zeros n ∷ []
+    ∷ zeros l ∷ zeros n ∷ map (λ (x : Edge). x .weight) edges ∷ []
 
 unfoldable pub openedWords : ℕ → ℕ → ℕ → ℕ → List Edge → List ℕ → List ℕ
 openedWords v e n l edges virtuals = flattened (openedRows v e n l edges virtuals)
@@ -78,15 +78,16 @@ OpenCalled b t v e n l edges virtuals b' k =
 
 -- ---- the cleared block
 
--- of the arrays: no node; of the flags the virtual ones; nothing held and nothing grown; all else as it was
+-- of the arrays: no node; of the flags the virtual ones; nothing held and nothing grown; the original weights, and no change of them stands; all
+-- else as it was
 unfoldable pub clearedRows : List (List ℕ) → List (List ℕ)
 clearedRows r =
-    set (set (row r headerRow) 4 0) 5 0
+    set (set (set (row r headerRow) 4 0) 5 0) 6 0
     ∷ map (λ x. x % 2) (row r flagsRow) ∷ zeros (length (row r vertexHolderRow)) ∷ zeros (length (row r vertexGrandsonRow)) ∷ row r firstRow
     ∷ row r endRow ∷ zeros (length (row r growthRow)) ∷ zeros (length (row r holderRow)) ∷ zeros (length (row r grandsonRow)) ∷ row r atRow
-    ∷ row r weightRow
+    ∷ row r originalRow
     ∷ row r classRow ∷ row r growStateRow ∷ row r parentRow ∷ row r dualRow ∷ row r startRow ∷ row r boundaryLengthRow ∷ row r overgrownLengthRow
-    ∷ row r storeRow ∷ row r activeRow ∷ []
+    ∷ row r storeRow ∷ row r activeRow ∷ row r originalRow ∷ []
 
 -- after b₀, the block b is in form and holds the cleared state, in the rows of b₀ cleared
 pub record Cleared (b₀ b : List ℤ) : Type 0 where

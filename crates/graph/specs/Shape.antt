@@ -4,12 +4,13 @@ use mathlib.Core.Path.{_≡_}
 use mathlib.Core.Logic.{_≢_}
 use mathlib.Core.Bool.{true}
 use lib.ListN.{length}
-use Rattle.graph.specs.State.{State, vertexCount, edgeCount, sideCount, nodeCount, endAt, weightAt, sidesAt, virtualAt, growthAt, holderAt, grandsonAt, defectAt, vertexHolderAt, vertexGrandsonAt}
+use Rattle.graph.specs.State.{State, vertexCount, edgeCount, sideCount, nodeCount, endAt, weightAt, originalAt, sidesAt, virtualAt, growthAt, holderAt, grandsonAt, defectAt, vertexHolderAt, vertexGrandsonAt}
 use Rattle.graph.specs.Open.{weightLimit, growthLimit, sidesOf}
 use Rattle.graph.specs.Sound.{storedDefect}
 
 pub record Shape (c : State) : Type 0 where
   pub end : length (c .graph .end) ≡ 2 * edgeCount c
+  pub original : length (c .graph .original) ≡ edgeCount c
   pub at : length (c .graph .at) ≡ vertexCount c
   pub defect : length (c .vertices .defect) ≡ vertexCount c
   pub vertexHolder : length (c .vertices .vertexHolder) ≡ vertexCount c
@@ -28,6 +29,7 @@ pub record SoundEdge (c : State) (e : ℕ) : Type 0 where
   pub right : endAt c (2 * e + 1) < vertexCount c
   pub differ : endAt c (2 * e) ≢ endAt c (2 * e + 1)
   pub weight : weightAt c e ≤ weightLimit
+  pub original : originalAt c e ≤ weightLimit
 
 pub record SoundVertex (c : State) (v : ℕ) : Type 0 where
   pub virtual : virtualAt c v ≤ 1

@@ -55,7 +55,8 @@ pub fn boundary(b: &[i64], n: usize) -> &[i64]
     requires { ⌜ Laid (now b) × Listed (now b) × (n < nodeCount (stateOf (now b))) ⌝ }
     ensures { λ r. ⌜ map toNat (now r) ≡ boundaryOf (stateOf (now (b .entry))) n ⌝ }
 {
-    let a = b.len() - rows::node_limit(b) - rows::store_limit(b) + start(b, n);
+    let a = b.len() - rows::edge_count(b) - rows::node_limit(b) - rows::store_limit(b)
+        + start(b, n);
     let e = a + boundary_len(b, n);
     &b[a..e]
 }

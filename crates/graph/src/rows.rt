@@ -8,7 +8,7 @@ ghost use Rattle.graph.specs.Layout.{rowsOf, row, stateOf};
 ghost use Rattle.graph.specs.Form.{Laid};
 ghost use Rattle.graph.specs.inner.Form.{Rowed};
 ghost use Rattle.graph.specs.inner.Found.{Found};
-ghost use Rattle.graph.specs.Rows.{flagsRow, endRow, weightRow, classRow, storeRow, activeRow};
+ghost use Rattle.graph.specs.Rows.{headerRow, flagsRow, endRow, weightRow, classRow, storeRow, activeRow, originalRow};
 ghost use Rattle.graph.specs.Word.{wordLimit};
 use crate::words;
 
@@ -101,6 +101,21 @@ pub fn active_count(b: &[i64]) -> usize
     words::word(b, 5)
 }
 
+// Whether a change of weights stands: 1 or 0.
+pub fn reweighted(b: &[i64]) -> usize
+    requires { ⌜ Laid (now b) ⌝ }
+    ensures { λ r. ⌜ (r ≡ stateOf (now (b .entry)) .graph .reweighted) × (r < wordLimit) ⌝ }
+{
+    words::word(b, 6)
+}
+
+pub fn put_reweighted(b: &mut [i64], x: usize)
+    requires { ⌜ Laid (now b) × (x < wordLimit) ⌝ }
+    ensures { λ r. ⌜ Rowed headerRow (now (b .entry)) (now (b .exit)) (set (row (rowsOf (now (b .entry))) headerRow) 6 x) ⌝ }
+{
+    words::put(b, 6, x);
+}
+
 // ---- where a place stands
 
 // Over vertices: flags, holder, grandson, first.
@@ -164,6 +179,18 @@ fn active_place(b: &[i64], i: usize) -> usize
     let n = words::word(b, 2);
     let l = words::word(b, 3);
     16 + 4 * m + 11 * e + 7 * n + l + i
+}
+
+// Over edges: original weight.
+fn original_place(b: &[i64], i: usize) -> usize
+    requires { ⌜ Laid (now b) × (i < edgeCount (stateOf (now b))) ⌝ }
+    ensures { λ r. ⌜ Found (now (b .entry)) originalRow i r ⌝ }
+{
+    let m = words::word(b, 0);
+    let e = words::word(b, 1);
+    let n = words::word(b, 2);
+    let l = words::word(b, 3);
+    16 + 4 * m + 11 * e + 8 * n + l + i
 }
 
 // ---- reading and writing a place
@@ -256,5 +283,20 @@ pub fn put_active(b: &mut [i64], i: usize, x: usize)
     ensures { λ r. ⌜ Rowed activeRow (now (b .entry)) (now (b .exit)) (set (row (rowsOf (now (b .entry))) activeRow) i x) ⌝ }
 {
     let p = active_place(b, i);
+    words::put(b, p, x);
+}
+
+pub fn original_word(b: &[i64], i: usize) -> usize
+    requires { ⌜ Laid (now b) × (i < edgeCount (stateOf (now b))) ⌝ }
+    ensures { λ r. ⌜ (r ≡ getD (row (rowsOf (now (b .entry))) originalRow) i 0) × (r < wordLimit) ⌝ }
+{
+    words::word(b, original_place(b, i))
+}
+
+pub fn put_original(b: &mut [i64], i: usize, x: usize)
+    requires { ⌜ Laid (now b) × (i < edgeCount (stateOf (now b))) × (x < wordLimit) ⌝ }
+    ensures { λ r. ⌜ Rowed originalRow (now (b .entry)) (now (b .exit)) (set (row (rowsOf (now (b .entry))) originalRow) i x) ⌝ }
+{
+    let p = original_place(b, i);
     words::put(b, p, x);
 }

@@ -19,7 +19,7 @@ pub fn block_length(v: usize, e: usize, n: usize, l: usize) -> usize
     requires { ⌜ sizesOk v e n l ≡ true ⌝ }
     ensures { λ r. ⌜ r ≡ blockLength v e n l ⌝ }
 {
-    16 + 4 * v + 11 * e + 8 * n + l
+    16 + 4 * v + 12 * e + 8 * n + l
 }
 
 // The lesser number.

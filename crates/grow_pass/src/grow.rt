@@ -99,7 +99,9 @@ fn grow_step(
     p: GrowProgress,
 ) -> GrowProgress
     requires { ⌜ GrowWorking (now b) (now t) n m p × (s < m) × (p .kept + p .noted < m) × NotesFit (now b) p ⌝ }
-    ensures { λ r. ⌜ GrowWorked (now (b .entry)) (now (b .exit)) (now (t .exit)) n m r (growStepOnce n (growWorkIn (now (b .entry)) (now (t .entry)) n m p) s) ⌝ }
+    ensures { λ r.
+        ⌜ GrowWorked (now (b .entry)) (now (b .exit)) (now (t .exit)) n m r
+        (growStepOnce n (growWorkIn (now (b .entry)) (now (t .entry)) n m p) s) ⌝ }
 {
     if reaches(b, s) {
         hold_far(b, n, s);

@@ -9,8 +9,9 @@ use Rattle.graph.specs.Open.{Edge, opened, openRefusal}
 use Rattle.update_length.specs.declared.Answer.the-variants.{Unlimited, Conflicting}
 use Rattle.calls.specs.Calls.{Call, InsertDefect, Grow}
 use Rattle.calls.specs.Examples.{edge}
+use Rattle.reachable.specs.Reachable.{after}
 use Rattle.distance.specs.Distance.{dist}
-use Rattle.opened_graph.specs.OpenedGraph.{PositiveWeights}
+use Rattle.opened_graph.specs.OpenedGraph.{withWeights, PositiveWeights}
 use Rattle.table_theorem.specs.History.{noBlossoms}
 use Rattle.table_theorem.specs.Runs.{Run}
 use Rattle.table_theorem.specs.Opens.{everything}
@@ -41,8 +42,22 @@ blossomless-met : noBlossoms (opened 4 4 40 (edgesP 4) virtualsP) callsMet ≡ t
 unfolding everything
 blossomless-met = refl
 
+present-met : withWeights (edgesP 4) (after (opened 4 4 40 (edgesP 4) virtualsP) callsMet .graph .weight) ≡ (edgesP 4)
+unfolding everything
+present-met = refl
+
 abbrev met : Run 4 (edgesP 4) virtualsP
-met = record { edgeNumber = 3; nodeLimit = 4; storeLimit = 40; fits = true; opening = opening-4; calls = callsMet; withoutBlossoms = blossomless-met }
+met = record {
+  edgeNumber = 3;
+  nodeLimit = 4;
+  storeLimit = 40;
+  fits = true;
+  given = (edgesP 4);
+  opening = opening-4;
+  calls = callsMet;
+  withoutBlossoms = blossomless-met;
+  present = present-met;
+}
 
 at-1 : DefectAt met 0 1
 unfolding everything
@@ -72,8 +87,22 @@ blossomless-halved : noBlossoms (opened 4 4 40 (edgesP 5) virtualsP) callsHalved
 unfolding everything
 blossomless-halved = refl
 
+present-halved : withWeights (edgesP 5) (after (opened 4 4 40 (edgesP 5) virtualsP) callsHalved .graph .weight) ≡ (edgesP 5)
+unfolding everything
+present-halved = refl
+
 abbrev halved : Run 4 (edgesP 5) virtualsP
-halved = record { edgeNumber = 3; nodeLimit = 4; storeLimit = 40; fits = true; opening = opening-5; calls = callsHalved; withoutBlossoms = blossomless-halved }
+halved = record {
+  edgeNumber = 3;
+  nodeLimit = 4;
+  storeLimit = 40;
+  fits = true;
+  given = (edgesP 5);
+  opening = opening-5;
+  calls = callsHalved;
+  withoutBlossoms = blossomless-halved;
+  present = present-halved;
+}
 
 halved-answer : growingLength halved 1 ≡ Conflicting 0 0 1 1
 unfolding everything
@@ -99,8 +128,22 @@ blossomless-star : noBlossoms (opened 4 4 40 edgesStar (1 ∷ [])) callsStar ≡
 unfolding everything
 blossomless-star = refl
 
+present-star : withWeights edgesStar (after (opened 4 4 40 edgesStar (1 ∷ [])) callsStar .graph .weight) ≡ edgesStar
+unfolding everything
+present-star = refl
+
 abbrev star : Run 4 edgesStar (1 ∷ [])
-star = record { edgeNumber = 3; nodeLimit = 4; storeLimit = 40; fits = true; opening = opening-star; calls = callsStar; withoutBlossoms = blossomless-star }
+star = record {
+  edgeNumber = 3;
+  nodeLimit = 4;
+  storeLimit = 40;
+  fits = true;
+  given = edgesStar;
+  opening = opening-star;
+  calls = callsStar;
+  withoutBlossoms = blossomless-star;
+  present = present-star;
+}
 
 at-3 : DefectAt star 2 3
 unfolding everything

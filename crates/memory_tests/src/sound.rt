@@ -13,6 +13,7 @@ use crate::sound_graph;
 use crate::sound_lists;
 use crate::sound_nodes;
 use crate::sound_removed;
+use graph::rows;
 use graph::words;
 
 // Whether the state of a block is sound, where its lists stand in order.
@@ -24,6 +25,7 @@ fn state_sound(b: &[i64]) -> bool
         & sound_graph::sides_sound(b)
         & sound_nodes::nodes_sound(b)
         & sound_active::active_sound(b)
+        & (rows::reweighted(b) <= 1)
 }
 
 // Whether it is and no removed node has anything.

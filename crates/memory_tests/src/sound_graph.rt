@@ -26,7 +26,8 @@ fn edge_sound(b: &[i64], i: usize) -> bool
     let x = rows::side_word(b, rows::END, 2 * i);
     let y = rows::side_word(b, rows::END, 2 * i + 1);
     let w = rows::edge_word(b, i);
-    (x < v) & (y < v) & (x != y) & (w <= 1000000)
+    let o = rows::original_word(b, i);
+    (x < v) & (y < v) & (x != y) & (w <= 1000000) & (o <= 1000000)
 }
 
 // Whether this is so of all edges.

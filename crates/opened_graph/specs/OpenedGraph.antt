@@ -2,7 +2,7 @@
 use Prim.Native.Nat.{ℕ, _<_}
 use mathlib.Core.Path.{_≡_}
 use mathlib.Core.Bool.{true}
-use mathlib.Core.List.{List, map}
+use mathlib.Core.List.{List, [], _∷_, map}
 use lib.Dec.{ltb}
 use Rattle.graph.specs.Basic.{all, member, below}
 use Rattle.graph.specs.Open.{Edge, endsOf, flagIn}
@@ -16,6 +16,12 @@ openedGraph v edges virtuals = record {
   weights = map (λ (e : Edge). e .weight) edges;
   virtual = map (flagIn virtuals) (below v);
 }
+
+-- the edges in order, with other weights
+unfoldable pub withWeights : List Edge → List ℕ → List Edge
+withWeights [] ws = []
+withWeights (e ∷ es) [] = e ∷ es
+withWeights (e ∷ es) (w ∷ ws) = record { left = e .left; right = e .right; weight = w } ∷ withWeights es ws
 
 -- two lists name the same of the v vertices, in whatever order and however often
 abbrev pub SameVertices : ℕ → List ℕ → List ℕ → Type 0

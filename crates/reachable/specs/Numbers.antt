@@ -34,3 +34,4 @@ pub record SoundNumbers (c : State) : Type 0 where
   pub nodes : (n : ℕ) → n < nodeCount c → NodeNumbers c n
   pub once : (n : ℕ) → n < nodeCount c → parentOf c n ≡ 0 → ListsDistinct c n
   pub active : activeSound c ≡ true
+  pub mark : c .graph .reweighted ≤ 1

@@ -9,7 +9,7 @@ use Rattle.graph.specs.State.{State, removed, nodeCount, growthAt, holderAt, gr
 use Rattle.graph.specs.Open.{opened}
 use Rattle.calls.specs.Refuse.{badNode}
 use Rattle.calls.specs.Insert.{prepareStep, blossomRefusal}
-use Rattle.calls.specs.Calls.{Call, InsertDefect, InsertBlossom, SetGrowState, Prepare, MaxUpdateLength, Grow, ReadTable, Advance, Contacts, RepresentativeVertex, Clear, RenewActiveList, PrepareAll, GroupLength, Round, RemoveBlossom, respond}
+use Rattle.calls.specs.Calls.{Call, InsertDefect, InsertBlossom, SetGrowState, Prepare, MaxUpdateLength, Grow, ReadTable, Advance, Contacts, RepresentativeVertex, Clear, RenewActiveList, PrepareAll, GroupLength, Round, RemoveBlossom, LoadEdgeModifier, respond}
 use Rattle.reachable.specs.Reachable.{Reachable}
 
 -- ---- in which state the circle of each blossom was joined
@@ -36,6 +36,7 @@ logged c PrepareAll log = log
 logged c GroupLength log = log
 logged c (Round l) log = log
 logged c (RemoveBlossom n) log = log
+logged c (LoadEdgeModifier pairs) log = log
 
 -- the log after a list of calls
 unfoldable pub afterLog : State → List Call → (ℕ → State) → ℕ → State
@@ -113,6 +114,7 @@ names n RenewActiveList = false
 names n PrepareAll = false
 names n GroupLength = false
 names n (Round l) = false
+names n (LoadEdgeModifier pairs) = false
 
 unfoldable pub isClear : Call → Bool
 isClear Clear = true
@@ -131,3 +133,4 @@ isClear PrepareAll = false
 isClear GroupLength = false
 isClear (Round l) = false
 isClear (RemoveBlossom n) = false
+isClear (LoadEdgeModifier pairs) = false

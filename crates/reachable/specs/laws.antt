@@ -15,6 +15,8 @@ pub mod prepare
 pub mod Growth
 -- a defect and a blossom inserted
 pub mod insert
+-- a state without nodes
+pub mod Blank
 -- every call that opens no blossom
 pub mod Calls
 -- a trial over the active nodes

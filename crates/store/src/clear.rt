@@ -1,4 +1,4 @@
-// Clearing a block: the graph stays, nothing is held and nothing is grown, there is no defect and no node.
+// Clearing a block: the graph stays with its original weights, nothing is held and nothing is grown, there is no defect and no node.
 
 ghost use mathlib.Core.List.{map};
 ghost use Prim.Native.Nat.{_+_, _%_, _<_, _≤_};
@@ -9,7 +9,7 @@ ghost use Rattle.graph.specs.inner.Form.{Rowed};
 ghost use Rattle.graph.specs.Opening.{zeros, Cleared};
 ghost use Rattle.graph.specs.inner.Recounted.{ActiveRecounted, Recounted};
 ghost use Rattle.store.specs.inner.Store.{clearedSides, clearedVertices, Rewritten};
-ghost use Rattle.graph.specs.Rows.{flagsRow, endRow};
+ghost use Rattle.graph.specs.Rows.{flagsRow, endRow, weightRow, originalRow};
 use graph::rows;
 use graph::words;
 
@@ -69,6 +69,20 @@ fn drop_defects(b: &mut [i64])
     }
 }
 
+// Every edge has its original weight again.
+fn restore_weights(b: &mut [i64])
+    requires { ⌜ Laid (now b) ⌝ }
+    ensures { λ r. ⌜ Rowed weightRow (now (b .entry)) (now (b .exit)) (row (rowsOf (now (b .entry))) originalRow) ⌝ }
+{
+    let m = rows::edge_count(b);
+    let mut i = 0;
+    while i < m {
+        let x = rows::original_word(b, i);
+        rows::put_edge(b, i, x);
+        i += 1;
+    }
+}
+
 // The rows over vertices: no defect, nothing held.
 fn clear_vertices(b: &mut [i64])
     requires { ⌜ Laid (now b) ⌝ }
@@ -96,6 +110,8 @@ pub fn clear(b: &mut [i64])
 {
     put_node_count(b, 0);
     put_active_count(b, 0);
+    rows::put_reweighted(b, 0);
+    restore_weights(b);
     clear_vertices(b);
     clear_sides(b);
 }

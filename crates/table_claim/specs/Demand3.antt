@@ -1,14 +1,17 @@
 -- The table afresh (demand 3, SPECIFICATION 11.3), as one claim. In words:
 --
---   Open a graph whose weights are all above 0 and in which every vertex reaches a virtual one, and then make any calls, with any numbers and
---   any lent memory, refused ones among them, as long as no blossom is accepted. After them the growth table that is read, or printed, is the
---   one that shortest distances and the dual variables give by the rule, side by side. And of any two such lists of calls on one graph, the
---   tables are equal exactly when every vertex has the same dual variable after both; a vertex without a defect has 0.
+--   Open a graph and make any calls, with any numbers and any lent memory, refused ones and changes of weights among them, as long as no blossom
+--   is accepted. Take the graph with the weights that stand after the calls. If these are all above 0 and every vertex reaches a virtual one, the
+--   growth table that is read, or printed, is the one that shortest distances on that graph and the dual variables give by the rule, side by
+--   side. And of any two such lists of calls that leave one graph, the tables are equal exactly when every vertex has the same dual variable
+--   after both; a vertex without a defect has 0. With which weights a graph was opened, and which stood before the last clear, does not matter.
 --
 -- What the words stand for:
---   a graph             V vertices, the edges in order with their weights, the virtual vertices: `openedGraph v edges virtuals`. Two lists are on one
---                       graph where these agree, the virtual vertices in any order and however often (`SameVertices`, `OnGraph`). N, L and the
---                       memory may differ.
+--   a graph             V vertices, the edges in order with their weights, the virtual vertices: `openedGraph v edges virtuals`. Two lists leave one
+--                       graph where these agree, the virtual vertices in any order and however often (`SameVertices`, `OnGraph`). N, L, the
+--                       memory and the opened weights may differ.
+--   weights that stand  those in the block after the last call: a `LentRun v edges others` is one after which the opened edges, with these
+--                       weights, are `edges` (its field `present`). No record changes weights, so of printed lines they are the opened ones.
 --   a list of calls     `LentRun` (Lent, Run): an opening that is accepted, then calls of the functions, each known only by what its contract
 --                       promises. `HostRun` (Hosted): the same by the functions exported for C. `TableIn` (Tables): the records before a table
 --                       record, in an input of any bytes. `Taken` (Program): the bodies of records that the program took.
@@ -52,7 +55,7 @@ module _ (v : ℕ) (edges : List Edge) (virtuals : List ℕ) where
   abbrev pub theGraph : WeightedGraph
   theGraph = openedGraph v edges virtuals
 
-  -- the graphs that the claim is about: every weight is above 0, and each vertex reaches a virtual one
+  -- the graphs that the claim is about, as calls leave them: every weight is above 0, and each vertex reaches a virtual one
   pub record Suitable : Type 0 where
     pub positive : PositiveWeights edges
     pub reach : (a : ℕ) → a < v → ReachesVirtual theGraph a

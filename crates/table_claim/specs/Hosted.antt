@@ -15,12 +15,15 @@ use Rattle.c_api.specs.Words.{answerNumbers, openNumbers, countNumbers, shortLi
 use Rattle.c_api.specs.Told.{OpenTold, DefectTold, BlossomTold, StateTold, PrepareTold, LengthTold, GrowTold, AdvanceTold, ClearTold, VertexTold, TableTold, ContactsTold}
 use Rattle.reachable.specs.Reachable.{after}
 use Rattle.table_theorem.specs.History.{History, historyAfter, noBlossoms}
-use Rattle.table_claim.specs.Lent.{LentCall, lentOpen, lentDefect, lentBlossom, lentState, lentPrepare, lentLength, lentGrow, lentTable, lentAdvance, lentContacts, lentVertex, lentClear, Returned, opening, returns, returnsList, returnsCount, lentSheet, openingSheet, lentRenew, lentPrepareAll, lentGroup, lentRound, lentRemove, returnsGroup, lentNode, returnsNode, lentGap, returnsGap}
+use Rattle.table_claim.specs.Lent.{LentCall, lentOpen, lentDefect, lentBlossom, lentState, lentPrepare, lentLength, lentGrow, lentTable, lentAdvance, lentContacts, lentVertex, lentClear, Returned, opening, returns, returnsList, returnsCount, lentSheet, openingSheet, lentRenew, lentPrepareAll, lentGroup, lentRound, lentRemove, returnsGroup, lentNode, returnsNode, lentGap, returnsGap, lentWeights}
 use Rattle.c_api_sheet.specs.Told.{sheetNumbers, SheetTold}
 use Rattle.c_api_round.specs.Told.{groupNumbers, RenewTold, PrepareAllTold, RoundTold, GroupTold}
 use Rattle.c_api_remove.specs.Told.{RemoveTold}
 use Rattle.c_api_node.specs.Told.{readNodeNumbers, ReadNodeTold}
 use Rattle.c_api_gap.specs.Told.{gapNumbers, GapTold}
+use Rattle.c_api_modifier.specs.Told.{ModifierTold}
+use Rattle.graph.specs.Layout.{stateOf}
+use Rattle.opened_graph.specs.OpenedGraph.{withWeights}
 use Rattle.table_claim.specs.Run.{Sizes, fedOne, fed, returned}
 
 -- the list says done: it has room for an answer, and in front the number of that case, 7
@@ -84,6 +87,8 @@ pub data HostStep (b : List ℤ) : LentCall → List ℕ → Reported → List �
       → HostStep b (lentNode t n) list (record { told = list'; count = k; words = [] }) b
   fb-gap : {t : List ℤ} {e k : ℕ} {list list' : List ℕ} → GapTold b t e list list' k
       → HostStep b (lentGap t e) list (record { told = list'; count = k; words = [] }) b
+  fb-load-edge-modifier : {t pairs b' : List ℤ} {k : ℕ} {list list' : List ℕ} → ModifierTold b t pairs b' list list' k
+      → HostStep b (lentWeights t pairs) list (record { told = list'; count = k; words = [] }) b'
   -- the entries are numbers, told as words
   fb-group-max-update-length : {s t b' s' t' : List ℤ} {entries entries' : List ℕ} {k : ℕ} {list list' : List ℕ}
       → GroupTold b s t entries b' s' t' entries' list list' k
@@ -156,6 +161,7 @@ lentWords (lentRound s t l) = []
 lentWords (lentRemove t n) = []
 lentWords (lentNode t n) = []
 lentWords (lentGap t e) = []
+lentWords (lentWeights t pairs) = []
 
 -- what the host has after a call in state c: the answer of the definitions, or what a list without room for it is told
 unfoldable pub reported : Sizes → State → LentCall → List ℕ → Reported
@@ -173,7 +179,8 @@ unfoldable pub reportedFrom : Sizes → State → List HostExchange → List Rep
 reportedFrom z c [] = []
 reportedFrom z c (x ∷ xs) = reported z c (x .call) (x .list) ∷ reportedFrom z (after c (if hasRoom (x .list) then fedOne z (x .call) else [])) xs
 
--- On one graph: an opening by fb_open that says done, of any block and scratch and with any N and L, and a list of calls from the block that it leaves.
+-- To one graph: an opening by fb_open that says done, of any block and scratch and with any weights, N and L, and a list of calls from the block
+-- that it leaves. `edges` are the opened ones, each with the weight that stands after the calls.
 pub record HostRun (v : ℕ) (edges : List Edge) (virtuals : List ℕ) : Type 0 where
   pub edgeNumber : ℕ  -- E
   pub nodeLimit : ℕ  -- N
@@ -182,7 +189,6 @@ pub record HostRun (v : ℕ) (edges : List Edge) (virtuals : List ℕ) : Type 0 
   pub scratch : List ℤ
   pub edgeWords : List ℤ
   pub virtualWords : List ℤ
-  pub edges-are : edgesFrom edgeWords ≡ edges
   pub virtuals-are : virtualsFrom virtualWords ≡ virtuals
   pub first : List ℤ  -- the opened block
   pub answer : List ℕ
@@ -193,13 +199,14 @@ pub record HostRun (v : ℕ) (edges : List Edge) (virtuals : List ℕ) : Type 0 
   pub exchanges : List HostExchange
   pub last : List ℤ  -- the block after the calls
   pub steps : HostSteps first exchanges last
+  pub present : withWeights (edgesFrom edgeWords) (stateOf last .graph .weight) ≡ edges
 
 module _ {v : ℕ} {edges : List Edge} {virtuals : List ℕ} (r : HostRun v edges virtuals) where
   abbrev pub hostSizes : Sizes
   hostSizes = record { vertices = v; edges = r .edgeNumber; nodes = r .nodeLimit; store = r .storeLimit }
 
   abbrev pub hostStart : State
-  hostStart = opened v (r .nodeLimit) (r .storeLimit) edges virtuals
+  hostStart = opened v (r .nodeLimit) (r .storeLimit) (edgesFrom (r .edgeWords)) virtuals
 
   -- the calls that the definitions are asked, and their history
   abbrev pub hostCalls : List Call

@@ -19,6 +19,7 @@ use Rattle.dual_module_node.specs.declared.NodeRead.{NodeRead}
 use Rattle.dual_module_node.specs.ReadNode.{ReadNodeCalled}
 use Rattle.dual_module_gap.specs.declared.GapAnswer.{GapAnswer}
 use Rattle.dual_module_gap.specs.GapRead.{GapRead}
+use Rattle.dual_module_modifier.specs.Called.{ModifierCalled}
 
 -- a call with all that it is given beside the block: the scratch t first, numbers, and the words of other lent lists
 pub data LentCall : Type 0 where
@@ -42,6 +43,7 @@ pub data LentCall : Type 0 where
   lentRemove : (t : List ℤ) (node : ℕ) → LentCall
   lentNode : (t : List ℤ) (node : ℕ) → LentCall
   lentGap : (t : List ℤ) (edge : ℕ) → LentCall
+  lentWeights : (t pairs : List ℤ) → LentCall
 
 -- what the host gets from a call
 pub data Returned : Type 0 where
@@ -84,6 +86,7 @@ pub data Step (b : List ℤ) : LentCall → Returned → List ℤ → Type 0 whe
   remove-blossom : {t b' t' : List ℤ} {n : ℕ} {a : Answer} → RemoveCalled b t n b' t' a → Step b (lentRemove t n) (returns a) b'
   read-node : {t : List ℤ} {n : ℕ} {a : NodeRead} → ReadNodeCalled b t n a → Step b (lentNode t n) (returnsNode a) b
   edge-gap : {t : List ℤ} {e : ℕ} {a : GapAnswer} → GapRead b t e a → Step b (lentGap t e) (returnsGap a) b
+  load-edge-modifier : {t pairs b' : List ℤ} {a : Answer} → ModifierCalled b t pairs b' a → Step b (lentWeights t pairs) (returns a) b'
 
 -- ---- lists of calls
 

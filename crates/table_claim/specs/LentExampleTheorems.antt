@@ -18,6 +18,7 @@ use Rattle.dual_module.specs.Called.{DefectCalled, GrowCalled}
 use Rattle.dual_module_read.specs.Read.{TableRead}
 use Rattle.c_api.specs.Words.{answerNumbers, openAnswer, shortList, shortCount}
 use Rattle.c_api.specs.Told.{OpenTold, DefectTold, GrowTold, TableTold}
+use Rattle.opened_graph.specs.OpenedGraph.{withWeights}
 use Rattle.table_claim.specs.Opens.{everythingLent}
 use Rattle.table_claim.specs.Lent.{lentBlossom, open-refused, insert-defect, grow, none, next, read-node}
 use Rattle.table_claim.specs.Run.{fed, LentRun, runSizes, runStart, runCalls, historyBy, lentHistory, WithoutBlossoms}
@@ -48,7 +49,7 @@ abbrev pub scratch : List ℤ
 scratch = words (zeros 16)
 
 abbrev pub block : List ℤ
-block = words (zeros 137)
+block = words (zeros 140)
 
 abbrev pub openedP : List ℤ
 openedP = words (openedWords 4 3 4 40 edges virtuals)
@@ -64,7 +65,7 @@ rowsWith y =
     ∷ (0 ∷ 1 ∷ 1 ∷ 2 ∷ 2 ∷ 3 ∷ []) ∷ (0 ∷ y ∷ y ∷ 0 ∷ 0 ∷ 0 ∷ []) ∷ (0 ∷ 1 ∷ 1 ∷ 0 ∷ 0 ∷ 0 ∷ []) ∷ (0 ∷ 1 ∷ 1 ∷ 0 ∷ 0 ∷ 0 ∷ []) ∷ (0 ∷ 1 ∷ 2 ∷ 3 ∷ 4 ∷ 5 ∷ [])
     ∷ (4 ∷ 4 ∷ 4 ∷ [])
     ∷ (1 ∷ zeros 3) ∷ (1 ∷ zeros 3) ∷ zeros 4 ∷ (y ∷ zeros 3) ∷ zeros 4 ∷ (2 ∷ zeros 3) ∷ zeros 4
-    ∷ (1 ∷ 2 ∷ zeros 38) ∷ (0 ∷ zeros 3) ∷ []
+    ∷ (1 ∷ 2 ∷ zeros 38) ∷ (0 ∷ zeros 3) ∷ (4 ∷ 4 ∷ 4 ∷ []) ∷ []
 
 abbrev pub blockWith : ℕ → List ℤ
 blockWith y = words (flattened (rowsWith y))
@@ -101,9 +102,9 @@ not-opened : OpenCalled (blockWith 0) scratch 4 3 5 40 edgeWordsP (words virtual
 unfolding everythingLent
 not-opened = (refl, refl)
 
-pub edges-given : edgesFrom edgeWordsP ≡ edges
+pub standing : withWeights (edgesFrom edgeWordsP) (stateOf (blockWith 2) .graph .weight) ≡ edges
 unfolding everythingLent
-edges-given = refl
+standing = refl
 
 pub virtuals-given : virtualsFrom (words virtuals) ≡ virtuals
 unfolding everythingLent
@@ -118,13 +119,13 @@ run = record {
   scratch = scratch;
   edgeWords = edgeWordsP;
   virtualWords = words virtuals;
-  edges-are = edges-given;
   virtuals-are = virtuals-given;
   first = openedP;
   opening-is = opening;
   exchanges = _;
   last = blockWith 2;
   steps = next (insert-defect inserted) (next (insert-defect not-lent) (next (open-refused not-opened (λ e. absurd (omega arith))) (next (grow grown) (next (read-node node-read) none))));
+  present = standing;
 }
 
 -- the definitions are asked the defect and the growth
@@ -222,7 +223,6 @@ hostRun = record {
   scratch = scratch;
   edgeWords = edgeWordsP;
   virtualWords = words virtuals;
-  edges-are = edges-given;
   virtuals-are = virtuals-given;
   first = openedP;
   answer = five;
@@ -233,6 +233,7 @@ hostRun = record {
   exchanges = _;
   last = blockWith 2;
   steps = one-more (fb-insert-defect defect-told) (one-more (fb-grow grow-not-made) (one-more (fb-grow grow-refused) (one-more (fb-grow grow-told) (one-more (fb-read-node node-told) no-more))));
+  present = standing;
 }
 
 all-refused : BlossomsRefused hostRun

@@ -19,7 +19,7 @@ use Rattle.opened_graph.specs.OpenedGraph.{openedGraph, PositiveWeights}
 use Rattle.table_theorem.specs.History.{dualAt, dualsOf}
 use Rattle.table_claim.specs.Input.{recordsIn, graphIn, openedFrom, opens, stageFrom, standsBehind, linesBy, In, number, earlier, printed, later, Refuses}
 use Rattle.table_claim.specs.Reading.{behindSpace, growthsIn, textLines}
-use Rattle.table_claim.specs.Tables.{TableIn, OnGraph, historyBehind, OpenAfter, tableLines, graphAt, callsAt, historyAt, OpenAt, fitCount, FitsIn, bytesOf}
+use Rattle.table_claim.specs.Tables.{TableIn, OnGraph, historyBehind, PlainAfter, tableLines, graphAt, callsAt, historyAt, OpenAt, fitCount, FitsIn, bytesOf}
 use Rattle.table_claim.specs.laws.Input.{lines-by-records, lines-around, stage-is, call-is-told, call-is-refused}
 use Rattle.table_claim.specs.laws.Tables.{told-from-distances, printed-from-distances, growths-printed, printed-growths-tell, printed-lines-tell, lines-written, bytes-written, written-to, bytes-from-distances, whole-lines}
 
@@ -59,8 +59,8 @@ pub printed-table-is-from-distances : {b : List ℕ} (t : TableIn b) → OpenAt 
 printed-table-is-from-distances t o positive =
     printed-from-distances t (record { vertices-are = refl; edges-are = refl; virtuals-are = λ a k. refl }) o positive
 
--- The same behind any records, whether or not they stand in an input.
-pub told-table-is-from-distances : (rs : List Record) → OpenAfter rs → PositiveWeights (graphIn rs .edges)
+-- The same behind any records, whether or not they stand in an input, without a change of weights.
+pub told-table-is-from-distances : (rs : List Record) → PlainAfter rs → PositiveWeights (graphIn rs .edges)
     → tableLines rs
     ≡ edgeLines (length rs + 1) 0
     (tableFromDistances (openedGraph (graphIn rs .v) (graphIn rs .edges) (graphIn rs .virtuals))

@@ -19,11 +19,11 @@ use Rattle.table_claim.specs.Run.{LentRun, runSizes, runStart, runCalls,
 use Rattle.table_claim.specs.EveryRunTheorems.{protocol-tells-history}
 use Rattle.table_claim.specs.Demand3.{afresh}
 use Rattle.table_claim.specs.ExampleTheorems.{demand-on-P}
-use Rattle.table_claim.specs.LentExampleTheorems.{edges, virtuals, words, edgeWordsP, scratch, block, openedP, blockWith, opening, inserted, edges-given, virtuals-given}
+use Rattle.table_claim.specs.LentExampleTheorems.{edges, virtuals, words, edgeWordsP, scratch, block, openedP, blockWith, opening, inserted, standing, virtuals-given}
 
 -- a second block of whatever words, and N entries of 5 numbers
 abbrev second : List ℤ
-second = words (zeros 137)
+second = words (zeros 140)
 
 abbrev entries : List ℕ
 entries = zeros 20
@@ -82,13 +82,13 @@ run = record {
   scratch = scratch;
   edgeWords = edgeWordsP;
   virtualWords = words virtuals;
-  edges-are = edges-given;
   virtuals-are = virtuals-given;
   first = openedP;
   opening-is = opening;
   exchanges = _;
   last = blockWith 2;
   steps = next (insert-defect inserted) (next (group-length asked) (next (round not-moved) (next (round moved) (next (renew-active-list renewed) none))));
+  present = standing;
 }
 
 -- the definitions are asked all of it: what refuses the round of 0 is in its definition

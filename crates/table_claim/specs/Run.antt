@@ -1,5 +1,5 @@
 -- A run: an accepted opening and a list of calls. What the definitions give for it, by the calls alone: the state, the answers, the history.
-use Prim.Native.Nat.{ℕ, _*_}
+use Prim.Native.Nat.{ℕ, _*_, _%_}
 use mathlib.Core.Path.{_≡_, refl}
 use mathlib.Core.Bool.{Bool, true, _&&_}
 use mathlib.Core.List.{List, [], _∷_, _++_, map}
@@ -9,7 +9,7 @@ use lib.ListN.{length}
 use Rattle.graph.specs.Basic.{if_then_else_}
 use Rattle.graph.specs.State.{State}
 use Rattle.graph.specs.Word.{toNat}
-use Rattle.graph.specs.Layout.{blockLength, scratchLength}
+use Rattle.graph.specs.Layout.{blockLength, scratchLength, stateOf}
 use Rattle.graph.specs.Open.{Edge, opened, openRefusal}
 use Rattle.graph.specs.Opening.{edgesFrom, virtualsFrom, OpenCalled}
 use Rattle.update_length.specs.declared.Answer.{Answer}
@@ -17,16 +17,18 @@ use Rattle.update_length.specs.declared.Answer.the-variants.{Done, Refused}
 use Rattle.calls.specs.Reply.{overFront}
 use Rattle.calls.specs.Contacts.{contacts, contactWords}
 use Rattle.calls.specs.Insert.{insertDefect, insertBlossom}
-use Rattle.calls.specs.Calls.{setGrowState, prepareDualNodeGrowth, maxUpdateLength, growDualNode, advance, growthTable, representativeVertex, clear, Call, InsertDefect, InsertBlossom, SetGrowState, Prepare, MaxUpdateLength, Grow, ReadTable, Advance, Contacts, RepresentativeVertex, Clear, RenewActiveList, PrepareAll, GroupLength, Round, RemoveBlossom}
+use Rattle.calls.specs.Calls.{setGrowState, prepareDualNodeGrowth, maxUpdateLength, growDualNode, advance, growthTable, representativeVertex, clear, Call, InsertDefect, InsertBlossom, SetGrowState, Prepare, MaxUpdateLength, Grow, ReadTable, Advance, Contacts, RepresentativeVertex, Clear, RenewActiveList, PrepareAll, GroupLength, Round, RemoveBlossom, LoadEdgeModifier}
 use Rattle.reachable.specs.Reachable.{after}
 use Rattle.table_theorem.specs.Answers.{accepted, isDone}
 use Rattle.table_theorem.specs.History.{History, entryAt, withNodeState, withAdded, advanceLength, historyAfter, noBlossoms, withRound}
-use Rattle.table_claim.specs.Lent.{LentCall, lentOpen, lentDefect, lentBlossom, lentState, lentPrepare, lentLength, lentGrow, lentTable, lentAdvance, lentContacts, lentVertex, lentClear, Returned, opening, returns, returnsList, returnsCount, Exchange, Steps, lentSheet, openingSheet, lentRenew, lentPrepareAll, lentGroup, lentRound, lentRemove, returnsGroup, lentNode, returnsNode, lentGap, returnsGap}
+use Rattle.table_claim.specs.Lent.{LentCall, lentOpen, lentDefect, lentBlossom, lentState, lentPrepare, lentLength, lentGrow, lentTable, lentAdvance, lentContacts, lentVertex, lentClear, Returned, opening, returns, returnsList, returnsCount, Exchange, Steps, lentSheet, openingSheet, lentRenew, lentPrepareAll, lentGroup, lentRound, lentRemove, returnsGroup, lentNode, returnsNode, lentGap, returnsGap, lentWeights}
 use Rattle.sheet.specs.declared.SheetOpened.the-variants.{Opened, Refused as SheetRefused}
 use Rattle.sheet.specs.Sheet.{valuesFrom}
 use Rattle.sheet.specs.Called.{sheetRefusal, sheetAnswer, sheetEdges}
 use Rattle.calls.specs.declared.group.GroupMaxUpdateLength.the-variants.{Refused as groupRefused}
 use Rattle.calls.specs.Remove.{removeBlossom}
+use Rattle.calls.specs.Erasures.{pairsFrom, loadEdgeModifier}
+use Rattle.opened_graph.specs.OpenedGraph.{withWeights}
 use Rattle.calls.specs.Round.{renewActiveList, prepareAll, groupLength, round}
 use Rattle.round.specs.Asked.{listedFrom}
 use Rattle.dual_module_node.specs.declared.NodeRead.the-variants.{Refused as nodeRefused}
@@ -53,6 +55,10 @@ listFits z m t list = scratchFits z t && eqb (length list) (m * z .edges)
 -- a scratch and a second block; these and N entries of 5 words
 abbrev pub trialFits : Sizes → List ℤ → List ℤ → Bool
 trialFits z s t = scratchFits z t && eqb (length s) (blockLength (z .vertices) (z .edges) (z .nodes) (z .store))
+
+-- a scratch, and a list of pairs
+abbrev pub pairsFit : Sizes → List ℤ → List ℤ → Bool
+pairsFit z t pairs = eqb (length pairs % 2) 0 && scratchFits z t
 
 abbrev pub groupFits : Sizes → List ℤ → List ℤ → List ℕ → Bool
 groupFits z s t entries = trialFits z s t && eqb (length entries) (5 * z .nodes)
@@ -89,6 +95,7 @@ fedOne z (lentRemove t n) = ifFits (scratchFits z t) (RemoveBlossom n)
 fedOne z (lentNode t n) = []
 -- a gap is read from the state, which stays
 fedOne z (lentGap t e) = []
+fedOne z (lentWeights t pairs) = ifFits (pairsFit z t pairs) (LoadEdgeModifier (pairsFrom pairs))
 
 unfoldable pub fed : Sizes → List LentCall → List Call
 fed z [] = []
@@ -135,6 +142,7 @@ returned z c (lentRound s t l) = returns (orRefused (trialFits z s t) (round c l
 returned z c (lentRemove t n) = returns (orRefused (scratchFits z t) (removeBlossom c n .answer))
 returned z c (lentNode t n) = returnsNode (if scratchFits z t then readNode c n else nodeRefused 1)
 returned z c (lentGap t e) = returnsGap (if scratchFits z t then gapTold c e else gapRefused 1)
+returned z c (lentWeights t pairs) = returns (orRefused (pairsFit z t pairs) (loadEdgeModifier c (pairsFrom pairs) .answer))
 
 -- of each call in turn, from state c on
 unfoldable pub returnedFrom : Sizes → State → List LentCall → List Returned
@@ -177,6 +185,7 @@ recordedBy c h (lentGroup s t entries) a = h
 recordedBy c h (lentRemove t n) a = h
 recordedBy c h (lentNode t n) a = h
 recordedBy c h (lentGap t e) a = h
+recordedBy c h (lentWeights t pairs) a = h
 recordedBy c h (lentRound s t l) a = if isDone a then map (withRound l) h else h
 
 -- line by line, from state c and history h on
@@ -186,7 +195,8 @@ historyBy z c h (x ∷ xs) = historyBy z (after c (fedOne z (x .call))) (recorde
 
 -- ---- from an opening on
 
--- On one graph: an opening that is accepted, of any block and scratch and with any N and L, and a list of calls from the block that it leaves.
+-- To one graph: an opening that is accepted, of any block and scratch and with any weights, N and L, and a list of calls from the block that it
+-- leaves. `edges` are the opened ones, each with the weight that stands after the calls.
 pub record LentRun (v : ℕ) (edges : List Edge) (virtuals : List ℕ) : Type 0 where
   pub edgeNumber : ℕ  -- E
   pub nodeLimit : ℕ  -- N
@@ -195,13 +205,13 @@ pub record LentRun (v : ℕ) (edges : List Edge) (virtuals : List ℕ) : Type 0 
   pub scratch : List ℤ
   pub edgeWords : List ℤ
   pub virtualWords : List ℤ
-  pub edges-are : edgesFrom edgeWords ≡ edges
   pub virtuals-are : virtualsFrom virtualWords ≡ virtuals
   pub first : List ℤ  -- the opened block
   pub opening-is : OpenCalled before scratch v edgeNumber nodeLimit storeLimit edgeWords virtualWords first 0
   pub exchanges : List Exchange
   pub last : List ℤ  -- the block after the calls
   pub steps : Steps first exchanges last
+  pub present : withWeights (edgesFrom edgeWords) (stateOf last .graph .weight) ≡ edges
 
 module _ {v : ℕ} {edges : List Edge} {virtuals : List ℕ} (r : LentRun v edges virtuals) where
   abbrev pub runSizes : Sizes
@@ -209,7 +219,7 @@ module _ {v : ℕ} {edges : List Edge} {virtuals : List ℕ} (r : LentRun v edge
 
   -- the opened state, and the calls that the definitions are asked
   abbrev pub runStart : State
-  runStart = opened v (r .nodeLimit) (r .storeLimit) edges virtuals
+  runStart = opened v (r .nodeLimit) (r .storeLimit) (edgesFrom (r .edgeWords)) virtuals
 
   abbrev pub runCalls : List Call
   runCalls = fed runSizes (callsOf (r .exchanges))
@@ -222,10 +232,11 @@ module _ {v : ℕ} {edges : List Edge} {virtuals : List ℕ} (r : LentRun v edge
   abbrev pub WithoutBlossoms : Type 0
   WithoutBlossoms = noBlossoms runStart runCalls ≡ true
 
--- The run of an opening that was accepted and of the steps behind it.
+-- The run of an opening that was accepted and of the steps behind it, which leave `standing`.
 abbrev pub lentRunFrom : (b t : List ℤ) (v e n l : ℕ) (edges virtuals : List ℤ) {b₁ b₂ : List ℤ} {xs : List Exchange}
-    → OpenCalled b t v e n l edges virtuals b₁ 0 → Steps b₁ xs b₂ → LentRun v (edgesFrom edges) (virtualsFrom virtuals)
-lentRunFrom b t v e n l edges virtuals {b₁} {b₂} {xs} p q = record {
+    → OpenCalled b t v e n l edges virtuals b₁ 0 → Steps b₁ xs b₂
+    → {standing : List Edge} → withWeights (edgesFrom edges) (stateOf b₂ .graph .weight) ≡ standing → LentRun v standing (virtualsFrom virtuals)
+lentRunFrom b t v e n l edges virtuals {b₁} {b₂} {xs} p q w = record {
   edgeNumber = e;
   nodeLimit = n;
   storeLimit = l;
@@ -233,13 +244,13 @@ lentRunFrom b t v e n l edges virtuals {b₁} {b₂} {xs} p q = record {
   scratch = t;
   edgeWords = edges;
   virtualWords = virtuals;
-  edges-are = refl;
   virtuals-are = refl;
   first = b₁;
   opening-is = p;
   exchanges = xs;
   last = b₂;
   steps = q;
+  present = w;
 }
 
 -- The exchange that a run begins with: its opening, or one from a sheet that left the words of its edges.

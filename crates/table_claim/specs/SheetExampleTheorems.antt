@@ -10,7 +10,7 @@ use Rattle.sheet.specs.Opens as Sheet
 use Rattle.table_claim.specs.Opens.{everythingLent}
 use Rattle.table_claim.specs.Lent.{sheet-refused, none, next}
 use Rattle.table_claim.specs.Run.{LentRun, runCalls, lentHistory}
-use Rattle.table_claim.specs.FromSheetTheorems.{sheetRun, PositiveValues, sheet-weights-positive}
+use Rattle.table_claim.specs.FromSheetTheorems.{AsOpened, sheetRun, PositiveValues, sheet-weights-positive}
 use Rattle.opened_graph.specs.OpenedGraph.{PositiveWeights}
 
 abbrev words : List ℕ → List ℤ
@@ -32,7 +32,7 @@ sheet = words (2 ∷ 1 ∷ 4 ∷ [])
 abbrev openBlock : List ℤ
 openBlock = words (openedWords 4 3 4 40 (edgesFrom weighedWords) (virtualsFrom virtuals))
 
-from-sheet : SheetCalled (words (zeros 137)) (words (zeros 16)) 4 3 4 40 bare sheet virtuals weighedWords openBlock (Opened 0)
+from-sheet : SheetCalled (words (zeros 140)) (words (zeros 16)) 4 3 4 40 bare sheet virtuals weighedWords openBlock (Opened 0)
 unfolding everythingLent Sheet.everything
 from-sheet = record { leaves = record { answer = refl; edges-are = refl; block = refl } }
 
@@ -41,8 +41,12 @@ not-from-sheet : SheetCalled openBlock (words (zeros 16)) 4 3 4 40 bare (negsuc 
 unfolding everythingLent Sheet.everything
 not-from-sheet = record { leaves = record { answer = refl; edges-are = refl; block = refl } }
 
+as-written : AsOpened weighedWords openBlock
+unfolding everythingLent Sheet.everything
+as-written = refl
+
 abbrev run : LentRun 4 (edgesFrom weighedWords) (virtualsFrom virtuals)
-run = sheetRun from-sheet (next (sheet-refused not-from-sheet) none)
+run = sheetRun from-sheet (next (sheet-refused not-from-sheet) none) as-written
 
 -- the definitions are asked nothing, and the history is empty
 calls-fed : runCalls run ≡ []

@@ -1,18 +1,18 @@
 -- What is said of a table record: the graph and the calls before it, their book, and where its lines stand in written bytes.
 use Prim.Native.Nat.{ℕ, suc, _+_, _-_, _≤_}
 use mathlib.Core.Path.{_≡_}
-use mathlib.Core.Bool.{true}
+use mathlib.Core.Bool.{true, false}
 use mathlib.Core.List.{List, [], _∷_, _++_}
 use lib.Dec.{leb}
 use lib.ListN.{length, take, drop}
-use Rattle.graph.specs.Basic.{if_then_else_}
+use Rattle.graph.specs.Basic.{if_then_else_, any}
 use Rattle.graph.specs.Open.{Edge}
 use Rattle.calls.specs.Calls.{Call, ReadTable}
 use Rattle.records.specs.Record.{Record, ask}
 use Rattle.records.specs.Lines.{joinedLines}
 use Rattle.records.specs.Run.{Gathered, fresh, recordStep}
 use Rattle.opened_graph.specs.OpenedGraph.{SameVertices}
-use Rattle.table_theorem.specs.History.{History, historyAfter, noBlossoms}
+use Rattle.table_theorem.specs.History.{History, historyAfter, changesWeights, noBlossoms}
 use Rattle.table_claim.specs.Input.{callsIn, graphIn, openedFrom, opens, stageFrom, In, earlier, printed}
 
 -- a record of kind 10, of the input b
@@ -33,6 +33,12 @@ historyBehind rs = historyAfter (openedFrom (graphIn rs)) (callsIn rs)
 pub record OpenAfter (rs : List Record) : Type 0 where
   pub is-open : opens rs ≡ true
   pub blossomless : noBlossoms (openedFrom (graphIn rs)) (callsIn rs) ≡ true
+
+-- The same, and no record asks for a change of weights: no record of an input does.
+pub record PlainAfter (rs : List Record) : Type 0 where
+  pub is-open : opens rs ≡ true
+  pub blossomless : noBlossoms (openedFrom (graphIn rs)) (callsIn rs) ≡ true
+  pub plain : any changesWeights (callsIn rs) ≡ false
 
 -- the lines of a table record behind them
 unfoldable pub tableLines : List Record → List (List ℕ)

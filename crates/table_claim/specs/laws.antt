@@ -2,6 +2,7 @@
 pub mod Rounds
 pub mod Steps
 pub mod EveryRun
+pub mod Plain
 pub mod Input
 pub mod Reading
 pub mod Fitting

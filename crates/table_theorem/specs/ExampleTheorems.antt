@@ -6,13 +6,14 @@ use mathlib.Core.Bool.{true}
 use mathlib.Core.List.{List, [], _∷_}
 use lib.IntN.{pos, negsuc}
 use Rattle.graph.specs.Open.{Edge, opened, openRefusal}
-use Rattle.calls.specs.Calls.{Call, InsertDefect, InsertBlossom, SetGrowState, MaxUpdateLength, Grow, Advance, ReadTable, growthTable}
+use Rattle.calls.specs.Calls.{Call, InsertDefect, InsertBlossom, SetGrowState, MaxUpdateLength, Grow, Advance, ReadTable, Clear, LoadEdgeModifier, growthTable}
 use Rattle.calls.specs.Examples.{edge}
+use Rattle.reachable.specs.Reachable.{after}
 use Rattle.distance.specs.Graph.{trivial}
 use Rattle.distance.specs.Table.{tableFromDistances}
 use Rattle.distance.specs.laws.Walk.{cross-side}
 use Rattle.distance.specs.Nearest.{ReachesVirtual}
-use Rattle.opened_graph.specs.OpenedGraph.{openedGraph, SameVertices, PositiveWeights}
+use Rattle.opened_graph.specs.OpenedGraph.{openedGraph, withWeights, SameVertices, PositiveWeights}
 use Rattle.table_theorem.specs.Opens.{everything}
 use Rattle.table_theorem.specs.History.{Entry, History, noBlossoms, dualAt, dualsOf}
 use Rattle.table_theorem.specs.Runs.{Run, end, history}
@@ -52,8 +53,23 @@ blossomless-P1 : noBlossoms (opened 4 4 40 edges virtuals) callsP1 ≡ true
 unfolding everything
 blossomless-P1 = refl
 
+present-P1 : withWeights edges (after (opened 4 4 40 edges virtuals) callsP1 .graph .weight) ≡ edges
+unfolding everything
+present-P1 = refl
+
 abbrev P1 : Run 4 edges virtuals
-P1 = record { edgeNumber = 3; nodeLimit = 4; storeLimit = 40; fits = true; opening = opening-P1; calls = callsP1; withoutBlossoms = blossomless-P1 }
+P1 =
+    record {
+      edgeNumber = 3;
+      nodeLimit = 4;
+      storeLimit = 40;
+      fits = true;
+      given = edges;
+      opening = opening-P1;
+      calls = callsP1;
+      withoutBlossoms = blossomless-P1;
+      present = present-P1;
+    }
 
 table-P1 : growthTable (end P1) ≡ 0 ∷ 2 ∷ 2 ∷ 2 ∷ 2 ∷ 0 ∷ []
 unfolding everything
@@ -69,7 +85,8 @@ history-P1 = refl
 from-distances-P1 : growthTable (end P1) ≡ tableFromDistances (openedGraph 4 edges virtuals) (dualsOf 4 (history P1))
 from-distances-P1 = table-is-from-distances 4 edges virtuals positive P1
 
--- ---- the same dual variables in another way: other N and L, the virtual vertices and the defects in another order, by advance, too far and back
+-- ---- the same dual variables in another way: other N and L, the virtual vertices and the defects in another order, by advance, too far and back;
+-- the middle edge is opened with weight 9, and erased and then changed to 4 for the defects that stand
 
 abbrev given : List ℕ
 given = 3 ∷ 0 ∷ 3 ∷ []
@@ -82,19 +99,40 @@ same-virtuals (suc (suc zero)) h = refl
 same-virtuals (suc (suc (suc zero))) h = refl
 same-virtuals (suc (suc (suc (suc a)))) h = absurd (omega arith)
 
-abbrev callsBack : List Call
-callsBack = InsertDefect 2 1 ∷ InsertDefect 1 1 ∷ Advance 0 ∷ Grow 0 (pos 1) ∷ Grow 0 (negsuc 0) ∷ SetGrowState 1 1 ∷ Grow 1 (pos 2) ∷ []
+abbrev erasedOnce : List Edge
+erasedOnce = edge 0 1 4 ∷ edge 1 2 9 ∷ edge 2 3 4 ∷ []
 
-opening-back : openRefusal 4 3 2 36 edges given true ≡ 0
+abbrev callsBack : List Call
+callsBack =
+    LoadEdgeModifier (record { edge = 1; weight = 0 } ∷ []) ∷ InsertDefect 1 1 ∷ Clear
+    ∷ LoadEdgeModifier (record { edge = 1; weight = 7 } ∷ record { edge = 1; weight = 4 } ∷ []) ∷ InsertDefect 2 1
+    ∷ InsertDefect 1 1 ∷ Advance 0 ∷ Grow 0 (pos 1) ∷ Grow 0 (negsuc 0) ∷ SetGrowState 1 1 ∷ Grow 1 (pos 2) ∷ []
+
+opening-back : openRefusal 4 3 2 36 erasedOnce given true ≡ 0
 unfolding everything
 opening-back = refl
 
-blossomless-back : noBlossoms (opened 4 2 36 edges given) callsBack ≡ true
+blossomless-back : noBlossoms (opened 4 2 36 erasedOnce given) callsBack ≡ true
 unfolding everything
 blossomless-back = refl
 
+present-back : withWeights erasedOnce (after (opened 4 2 36 erasedOnce given) callsBack .graph .weight) ≡ edges
+unfolding everything
+present-back = refl
+
 abbrev back : Run 4 edges given
-back = record { edgeNumber = 3; nodeLimit = 2; storeLimit = 36; fits = true; opening = opening-back; calls = callsBack; withoutBlossoms = blossomless-back }
+back =
+    record {
+      edgeNumber = 3;
+      nodeLimit = 2;
+      storeLimit = 36;
+      fits = true;
+      given = erasedOnce;
+      opening = opening-back;
+      calls = callsBack;
+      withoutBlossoms = blossomless-back;
+      present = present-back;
+    }
 
 history-back : history back ≡ entry 2 1 2 ∷ entry 1 1 2 ∷ []
 unfolding everything

@@ -1,7 +1,7 @@
 -- The history of a list of calls, or its book (SPECIFICATION 11.1): each node's vertex, grow state and dual variable,
 -- told by the calls and by the answers of the definitions alone. The growth table of a state never enters it.
 use Prim.Native.Nat.{ℕ, suc}
-use mathlib.Core.Bool.{Bool, true, _&&_, not}
+use mathlib.Core.Bool.{Bool, true, false, _&&_, not}
 use mathlib.Core.List.{List, [], _∷_, _++_, map}
 use lib.IntN.{ℤ, pos, negsuc, negℤ, _+ℤ_}
 use lib.Dec.{eqb}
@@ -9,7 +9,7 @@ use lib.ListN.{getD, set}
 use Rattle.graph.specs.Basic.{if_then_else_, below}
 use Rattle.graph.specs.State.{State, stay, growing, shrinking}
 use Rattle.calls.specs.Insert.{insertDefect, insertBlossom}
-use Rattle.calls.specs.Calls.{setGrowState, maxUpdateLength, growDualNode, signedFor, toward, advance, clear, Call, InsertDefect, InsertBlossom, SetGrowState, Prepare, MaxUpdateLength, Grow, ReadTable, Advance, Contacts, RepresentativeVertex, Clear, RenewActiveList, PrepareAll, GroupLength, Round, RemoveBlossom, respond}
+use Rattle.calls.specs.Calls.{setGrowState, maxUpdateLength, growDualNode, signedFor, toward, advance, clear, Call, InsertDefect, InsertBlossom, SetGrowState, Prepare, MaxUpdateLength, Grow, ReadTable, Advance, Contacts, RepresentativeVertex, Clear, RenewActiveList, PrepareAll, GroupLength, Round, RemoveBlossom, LoadEdgeModifier, respond}
 use Rattle.graph.specs.Active.{renewed, activeIn}
 use Rattle.calls.specs.Round.{round}
 use Rattle.table_theorem.specs.Answers.{accepted, isDone, limitOf}
@@ -77,6 +77,7 @@ recorded c h RenewActiveList = h
 recorded c h PrepareAll = h
 recorded c h GroupLength = h
 recorded c h (RemoveBlossom n) = h
+recorded c h (LoadEdgeModifier pairs) = h
 
 -- ---- a list of calls
 
@@ -107,6 +108,27 @@ noBlossom c PrepareAll = true
 noBlossom c GroupLength = true
 noBlossom c (Round l) = true
 noBlossom c (RemoveBlossom n) = true
+noBlossom c (LoadEdgeModifier pairs) = true
+
+-- the call is a change of weights, accepted or not
+unfoldable pub changesWeights : Call → Bool
+changesWeights (LoadEdgeModifier pairs) = true
+changesWeights Clear = false
+changesWeights (InsertDefect v x) = false
+changesWeights (InsertBlossom x circle) = false
+changesWeights (SetGrowState n x) = false
+changesWeights (Prepare n d) = false
+changesWeights (MaxUpdateLength n d first) = false
+changesWeights (Grow n l) = false
+changesWeights ReadTable = false
+changesWeights (Advance n) = false
+changesWeights Contacts = false
+changesWeights (RepresentativeVertex n) = false
+changesWeights RenewActiveList = false
+changesWeights PrepareAll = false
+changesWeights GroupLength = false
+changesWeights (Round l) = false
+changesWeights (RemoveBlossom n) = false
 
 -- no blossom is accepted along the list
 unfoldable pub noBlossoms : State → List Call → Bool

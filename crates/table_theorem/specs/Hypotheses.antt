@@ -11,7 +11,7 @@ use Rattle.calls.specs.Calls.{Call, InsertDefect, InsertBlossom, Grow, growthTa
 use Rattle.calls.specs.Examples.{edge}
 use Rattle.reachable.specs.Reachable.{after}
 use Rattle.distance.specs.Table.{tableFromDistances}
-use Rattle.opened_graph.specs.OpenedGraph.{openedGraph}
+use Rattle.opened_graph.specs.OpenedGraph.{openedGraph, withWeights}
 use Rattle.table_theorem.specs.Opens.{everything}
 use Rattle.table_theorem.specs.History.{historyAfter, noBlossoms, dualAt, natural, dualsOf}
 use Rattle.table_theorem.specs.Runs.{Run, end, history}
@@ -40,6 +40,10 @@ blossomless-triangle : noBlossoms (opened 4 4 60 triangle (3 ∷ [])) callsTrian
 unfolding everything
 blossomless-triangle = refl
 
+present-runTriangle : withWeights triangle (after (opened 4 4 60 triangle (3 ∷ [])) callsTriangle .graph .weight) ≡ triangle
+unfolding everything
+present-runTriangle = refl
+
 abbrev runTriangle : Run 4 triangle (3 ∷ [])
 runTriangle =
     record {
@@ -47,9 +51,11 @@ runTriangle =
       nodeLimit = 4;
       storeLimit = 60;
       fits = true;
+      given = triangle;
       opening = opening-triangle;
       calls = callsTriangle;
       withoutBlossoms = blossomless-triangle;
+      present = present-runTriangle;
     }
 
 -- the edge of weight 0 grows from both sides
@@ -88,8 +94,26 @@ blossomless-right : noBlossoms (opened 3 1 20 short (2 ∷ [])) (grownAt 1) ≡ 
 unfolding everything
 blossomless-right = refl
 
+present-atLeft : withWeights short (after (opened 3 1 20 short (2 ∷ [])) (grownAt 0) .graph .weight) ≡ short
+unfolding everything
+present-atLeft = refl
+
 abbrev atLeft : Run 3 short (2 ∷ [])
-atLeft = record { edgeNumber = 2; nodeLimit = 1; storeLimit = 20; fits = true; opening = opening-short; calls = grownAt 0; withoutBlossoms = blossomless-left }
+atLeft = record {
+  edgeNumber = 2;
+  nodeLimit = 1;
+  storeLimit = 20;
+  fits = true;
+  given = short;
+  opening = opening-short;
+  calls = grownAt 0;
+  withoutBlossoms = blossomless-left;
+  present = present-atLeft;
+}
+
+present-atRight : withWeights short (after (opened 3 1 20 short (2 ∷ [])) (grownAt 1) .graph .weight) ≡ short
+unfolding everything
+present-atRight = refl
 
 abbrev atRight : Run 3 short (2 ∷ [])
 atRight =
@@ -98,9 +122,11 @@ atRight =
       nodeLimit = 1;
       storeLimit = 20;
       fits = true;
+      given = short;
       opening = opening-short;
       calls = grownAt 1;
       withoutBlossoms = blossomless-right;
+      present = present-atRight;
     }
 
 same-over-zero : growthTable (end atLeft) ≡ growthTable (end atRight)
@@ -141,8 +167,26 @@ blossomless-beyond : noBlossoms (opened 2 1 20 alone []) callsBeyond ≡ true
 unfolding everything
 blossomless-beyond = refl
 
+present-full : withWeights alone (after (opened 2 1 20 alone []) callsFull .graph .weight) ≡ alone
+unfolding everything
+present-full = refl
+
 abbrev full : Run 2 alone []
-full = record { edgeNumber = 1; nodeLimit = 1; storeLimit = 20; fits = true; opening = opening-alone; calls = callsFull; withoutBlossoms = blossomless-full }
+full = record {
+  edgeNumber = 1;
+  nodeLimit = 1;
+  storeLimit = 20;
+  fits = true;
+  given = alone;
+  opening = opening-alone;
+  calls = callsFull;
+  withoutBlossoms = blossomless-full;
+  present = present-full;
+}
+
+present-beyond : withWeights alone (after (opened 2 1 20 alone []) callsBeyond .graph .weight) ≡ alone
+unfolding everything
+present-beyond = refl
 
 abbrev beyond : Run 2 alone []
 beyond =
@@ -151,9 +195,11 @@ beyond =
       nodeLimit = 1;
       storeLimit = 20;
       fits = true;
+      given = alone;
       opening = opening-alone;
       calls = callsBeyond;
       withoutBlossoms = blossomless-beyond;
+      present = present-beyond;
     }
 
 same-without-virtual : growthTable (end full) ≡ growthTable (end beyond)

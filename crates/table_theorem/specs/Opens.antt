@@ -11,6 +11,6 @@ use Rattle.table_theorem.specs.History
 unfoldable pub everything : ℕ
 unfolding Below.everything Made.edge Reachable.after Distances.everything Answers.accepted Answers.isDone
     Answers.limitOf History.withNodeState History.withAdded History.advanceLength History.roundLength History.withRound
-    History.recorded History.historyFrom History.noBlossom History.noBlossoms History.dualAt History.natural History.dualsOf
-    OpenedGraph.openedGraph
+    History.recorded History.historyFrom History.noBlossom History.changesWeights History.noBlossoms History.dualAt History.natural History.dualsOf
+    OpenedGraph.openedGraph OpenedGraph.withWeights
 everything = 0

@@ -1,4 +1,4 @@
--- What the theorems speak of: lists of calls from an accepted opening of one graph.
+-- What the theorems speak of: lists of calls from an accepted opening, which leave one graph.
 use Prim.Native.Nat.{ℕ, _<_}
 use mathlib.Core.Path.{_≡_}
 use mathlib.Core.Bool.{Bool, true}
@@ -9,30 +9,34 @@ use Rattle.graph.specs.State.{State, defectVertex, nodeCount, classOf, growStat
 use Rattle.graph.specs.Open.{Edge, opened, openRefusal}
 use Rattle.calls.specs.Calls.{Call}
 use Rattle.reachable.specs.Reachable.{after}
+use Rattle.opened_graph.specs.OpenedGraph.{withWeights}
 use Rattle.table_theorem.specs.History.{History, entryAt, historyAfter, noBlossoms}
 
 -- ---- the calls
 
--- On one graph: an opening with some N and L that is accepted, and a list of calls in which no blossom is accepted.
+-- To one graph: an opening with some weights, N and L that is accepted, and a list of calls in which no blossom is accepted. The graph has the
+-- opened edges with the weights that stand after the calls: `edges`. Where no change of weights stands, these are the opened ones.
 pub record Run (v : ℕ) (edges : List Edge) (virtuals : List ℕ) : Type 0 where
   pub edgeNumber : ℕ  -- E
   pub nodeLimit : ℕ  -- N
   pub storeLimit : ℕ  -- L
   pub fits : Bool  -- block and scratch have their lengths
-  pub opening : openRefusal v edgeNumber nodeLimit storeLimit edges virtuals fits ≡ 0
+  pub given : List Edge  -- the edges as they are opened
+  pub opening : openRefusal v edgeNumber nodeLimit storeLimit given virtuals fits ≡ 0
   pub calls : List Call
-  pub withoutBlossoms : noBlossoms (opened v nodeLimit storeLimit edges virtuals) calls ≡ true
+  pub withoutBlossoms : noBlossoms (opened v nodeLimit storeLimit given virtuals) calls ≡ true
+  pub present : withWeights given (after (opened v nodeLimit storeLimit given virtuals) calls .graph .weight) ≡ edges
 
 module _ {v : ℕ} {edges : List Edge} {virtuals : List ℕ} (r : Run v edges virtuals) where
   abbrev pub start : State
-  start = opened v (r .nodeLimit) (r .storeLimit) edges virtuals
+  start = opened v (r .nodeLimit) (r .storeLimit) (r .given) virtuals
 
   -- the state that the calls leave, and their history
   abbrev pub end : State
-  end = after (opened v (r .nodeLimit) (r .storeLimit) edges virtuals) (r .calls)
+  end = after (opened v (r .nodeLimit) (r .storeLimit) (r .given) virtuals) (r .calls)
 
   abbrev pub history : History
-  history = historyAfter (opened v (r .nodeLimit) (r .storeLimit) edges virtuals) (r .calls)
+  history = historyAfter (opened v (r .nodeLimit) (r .storeLimit) (r .given) virtuals) (r .calls)
 
 -- ---- nodes and entries
 

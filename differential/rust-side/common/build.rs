@@ -27,7 +27,7 @@ fn main() {
         let p = if p.exists() { p } else { Path::new(&src).join(format!("{m}.rs")) };
         add(m, &p, "#[allow(warnings, clippy::all)]");
     }
-    for m in ["card", "state", "session", "rounds", "remove"] {
+    for m in ["card", "state", "session", "rounds", "remove", "erasures"] {
         add(m, &Path::new(&common).join(format!("{m}.rs")), "");
     }
     fs::write(Path::new(&env::var("OUT_DIR").unwrap()).join("fb.rs"), out).unwrap();

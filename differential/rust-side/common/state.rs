@@ -130,10 +130,12 @@ impl Card {
         let [flags, vertex_holder, vertex_grandson, first, at] = self.vertex_rows();
         let [end, growth, holder, grandson, weight] = self.edge_rows();
         let active = self.active_row();
-        let header = vec![s.v as i64, s.e as i64, s.n as i64, s.l, self.nodes.len() as i64, active.len() as i64];
+        let mark = i64::from(self.weights_changed());
+        let header = vec![s.v as i64, s.e as i64, s.n as i64, s.l, self.nodes.len() as i64, active.len() as i64, mark];
         let mut rows = vec![header, flags, vertex_holder, vertex_grandson, first, end, growth, holder, grandson, at, weight];
         rows.extend(self.node_rows());
         rows.push(active);
+        rows.push(self.original_row());
         rows
     }
 }

@@ -2,9 +2,9 @@
 // out again in the page.
 
 const near = run.vertices.map(() => []);
-run.edges.forEach(([a, b, w], e) => {
-  near[a].push([b, w, e]);
-  near[b].push([a, w, e]);
+run.edges.forEach(([a, b], e) => {
+  near[a].push([b, e]);
+  near[b].push([a, e]);
 });
 
 // A heap of [distance, vertex, vertex before, edge].
@@ -40,8 +40,8 @@ function search(start) {
     if (distance.has(v)) continue;
     distance.set(v, d);
     came.set(v, [before, edge]);
-    for (const [u, w, e] of near[v])
-      if (!distance.has(u)) push(heap, [d + w, u, v, e]);
+    for (const [u, e] of near[v])
+      if (!distance.has(u)) push(heap, [d + standing.weight[e], u, v, e]);
   }
   return { distance, came };
 }
@@ -56,13 +56,13 @@ function path(found, vertex) {
 // Why the rule says nothing here, or ''.
 function uncovered() {
   if (blossoms()) return 'A blossom is there: the table from distances covers defects alone.';
-  const zero = run.edges.findIndex(([, , w]) => w === 0);
+  const zero = standing.weight.indexOf(0);
   return zero < 0 ? '' : `Edge ${zero} has weight 0: the table from distances covers weights above 0.`;
 }
 
 // The derivation of a side: { growth, rule, defect, node, y, near, far, paths, nearest }.
 function derive(side) {
-  const [a, b, w] = run.edges[side >> 1], u = side % 2 ? b : a, v = side % 2 ? a : b;
+  const [a, b] = run.edges[side >> 1], w = standing.weight[side >> 1], u = side % 2 ? b : a, v = side % 2 ? a : b;
   const known = duals(), from = search(u);
   const reached =
       [...known].filter(([d]) => from.distance.has(d)).map(([
@@ -119,7 +119,7 @@ function sideLines(side) {
     out.push(`  defect ${d.defect} (node ${d.node}): dual variable ${d.y}`);
     for (const [end, far, way] of d.paths)
       out.push(
-          `  d(${d.defect},${end}) = ${far}: ${d.defect}` + way.map(([e, v]) => ` -${run.edges[e][2]}- ${v}`).join(''));
+          `  d(${d.defect},${end}) = ${far}: ${d.defect}` + way.map(([e, v]) => ` -${standing.weight[e]}- ${v}`).join(''));
   }
   out.push('  ' + d.rule);
   return { lines: out, edges: d.paths.flatMap(([, , way]) => way.map(([e]) => e)), right: found === d.growth };

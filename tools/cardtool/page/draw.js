@@ -106,7 +106,7 @@ function beside(parent, points, t, off, words, attributes) {
 }
 
 function drawStroke(e, whole, points, into) {
-  const [gl, gr] = [standing.growth[2 * e], standing.growth[2 * e + 1]], w = run.edges[e][2];
+  const [gl, gr] = [standing.growth[2 * e], standing.growth[2 * e + 1]], w = standing.weight[e];
   const tl = w ? Math.min(gl / w, 1) : +(gl > 0), tr = w ? Math.min(gr / w, 1) : +(gr > 0),
         thick = run.thick * (whole ? 1 : 0.7);
   const put = (t0, t1, attributes) =>
@@ -128,7 +128,7 @@ function drawStroke(e, whole, points, into) {
 // Draws the growths of an edge afresh.
 function drawEdge(e) {
   (marks[e] || []).forEach(m => m.remove());
-  const [gl, gr] = [standing.growth[2 * e], standing.growth[2 * e + 1]], w = run.edges[e][2], into = marks[e] = [];
+  const [gl, gr] = [standing.growth[2 * e], standing.growth[2 * e + 1]], w = standing.weight[e], into = marks[e] = [];
   if (!gl && !gr) return;
   run.strokes[e].forEach(([whole, points]) => drawStroke(e, whole, points, into));
   const [, points] = run.strokes[e][0] || [];
@@ -146,6 +146,7 @@ function drawEdge(e) {
 
 // Draws everything that hangs on the state.
 function drawAll() {
+  if (layers.weights.childElementCount) run.edges.forEach((_, e) => drawWeight(e));
   run.edges.forEach((_, e) => drawEdge(e));
   const defects = new Set([...duals().keys()]);
   circles.forEach((spots, v) => spots.forEach(([c, t]) => {
@@ -208,12 +209,18 @@ function around(points, margin) {
   return line([...half(ring), ...half([...ring].reverse())]) + 'Z';
 }
 
-// Weights are drawn when there is room for them for the first time.
+// Weights are drawn when there is room for them for the first time, and those that a call changed, afresh.
+const labels = run.edges.map(() => null);
+
+function drawWeight(e) {
+  if (labels[e]) labels[e].remove();
+  const [[, points] = []] = run.strokes[e], w = standing.weight[e], opened = run.edges[e][2];
+  if (points)
+    labels[e] = beside(layers.weights, points, 0.5, -1, w === opened ? w : `${w} (opened ${opened})`, { class: 'weight' });
+}
+
 function drawWeights() {
-  if (layers.weights.childElementCount) return;
-  run.strokes.forEach((strokes, e) => {
-    if (strokes.length) beside(layers.weights, strokes[0][1], 0.5, -1, run.edges[e][2], { class: 'weight' });
-  });
+  if (!layers.weights.childElementCount) run.edges.forEach((_, e) => drawWeight(e));
 }
 
 // Shows the part of the picture that is in view, with letters where they can be read.

@@ -28,7 +28,8 @@ function changes(k) {
   for (const [n, old] of step.nodes)
     if (old && standing.nodes[n] && opened(standing.nodes[n]) && !opened(old)) words.push(`node ${n}: opened`);
   for (const [s, old] of step.growth) words.push(`${sideName(s)}: ${old} → ${standing.growth[s]}`);
-  return { words, edges: [...new Set(step.growth.map(([s]) => s >> 1))] };
+  for (const [e, old] of step.weight) words.push(`edge ${e}: weight ${old} → ${standing.weight[e]}`);
+  return { words, edges: [...new Set([...step.growth.map(([s]) => s >> 1), ...step.weight.map(([e]) => e)])] };
 }
 
 function showNow(k) {
@@ -95,7 +96,7 @@ function follow() {
 }
 
 function aboutEdge(e) {
-  const [a, b, w] = run.edges[e], about = byId('about');
+  const [a, b] = run.edges[e], w = standing.weight[e], about = byId('about');
   const [gl, gr] = [standing.growth[2 * e], standing.growth[2 * e + 1]];
   about.replaceChildren();
   const pre = document.createElement('pre');
@@ -129,7 +130,7 @@ function aboutVertex(v) {
                                   '')];
   if (run.names[v]) what.push(run.names[v]);
   what.push(holder ? `held by node ${outermost(holder)}` : 'not held');
-  what.push('edges: ' + near[v].map(([u, w, e]) => `${e} to ${u} (${w})`).join(', '));
+  what.push('edges: ' + near[v].map(([u, e]) => `${e} to ${u} (${standing.weight[e]})`).join(', '));
   about.replaceChildren();
   const pre = document.createElement('pre');
   pre.textContent = what.join('\n');

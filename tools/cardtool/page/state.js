@@ -4,15 +4,16 @@
 const run = JSON.parse(document.getElementById('run').textContent);
 const STATES = ['stay', 'grow', 'shrink'];
 
-// growth and holder (a node + 1, or 0) of each side, the gap of each edge in words, as the library told it, holder of
-// each vertex, and the nodes as [vertex, first member, state, parent + 1, dual]; an opened blossom has neither vertex
-// nor first member
+// growth and holder (a node + 1, or 0) of each side, the gap of each edge in words, as the library told it, its weight,
+// holder of each vertex, and the nodes as [vertex, first member, state, parent + 1, dual]; an opened blossom has neither
+// vertex nor first member
 const standing = {
   at: 0,
   growth: new Array(2 * run.edges.length).fill(0),
   holder: new Array(2 * run.edges.length).fill(0),
   gap: run.edges.map(([, , w]) => `gap ${w}`),
   spot: new Array(run.vertices.length).fill(0),
+  weight: run.edges.map(([, , w]) => w),
   nodes: []
 };
 
@@ -32,6 +33,7 @@ function turn(step) {
   step.holder = exchange(standing.holder, step.holder);
   step.gap = exchange(standing.gap, step.gap);
   step.spot = exchange(standing.spot, step.spot);
+  step.weight = exchange(standing.weight, step.weight);
   step.nodes = nodes.map(([n, row]) => {
     const old = standing.nodes[n] || null;
     standing.nodes[n] = row;

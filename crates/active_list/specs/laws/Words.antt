@@ -64,6 +64,10 @@ module _ (b b' : List ℤ) (f : Formed b) (x : ℕ) (r : ActiveRecounted b b' x)
   unfolding header
   header-other i h = getD-set-other (row (rowsOf b) 0) 5 i x 0 (λ e. omega arith)
 
+  header-mark : getD header 6 0 ≡ getD (row (rowsOf b) 0) 6 0
+  unfolding header
+  header-mark = getD-set-other (row (rowsOf b) 0) 5 6 x 0 (λ e. omega arith)
+
   counted-packed : PackedRows (set (rowsOf b) 0 header)
   unfolding Listed rowsOf rows
   counted-packed =
@@ -83,12 +87,13 @@ module _ (b b' : List ℤ) (f : Formed b) (x : ℕ) (r : ActiveRecounted b b' x)
         sides = rw (header-other 0 (omega arith)) (g .sides);
         firsts = rw (header-other 1 (omega arith)) (g .firsts);
         weights = g .weights;
+        originals = g .originals;
       }
 
   counted-state : stateFrom (set (rowsOf b) 0 header) ≡ withActive (stateOf b) (take x (row (rowsOf b) 19))
   unfolding stateOf stateFrom withActive rowsOf rows
   counted-state =
-      rw (header-here, header-other 0 (omega arith), header-other 2 (omega arith), header-other 3 (omega arith), header-other 4 (omega arith)) refl
+      rw (header-here, header-other 0 (omega arith), header-other 2 (omega arith), header-other 3 (omega arith), header-other 4 (omega arith), header-mark) refl
 
   rows-are : rowsOf b' ≡ set (rowsOf b) 0 header
   unfolding header

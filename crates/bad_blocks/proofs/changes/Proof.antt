@@ -4,10 +4,10 @@ use Rattle.bad_blocks.proofs.changes.Statement.{statement}
 use Rattle.bad_blocks.proofs.changes.Tie as tie
 
 abbrev Inv-loop : tie.InvT-loop
-Inv-loop b s n₀ i₀ n i = (n ≤ i) × (i ≤ 55)
+Inv-loop b s n₀ i₀ n i = (n ≤ i) × (i ≤ 56)
 
 abbrev μ-loop : tie.MeasureT-loop
-μ-loop b s n₀ i₀ n i = 55 - i
+μ-loop b s n₀ i₀ n i = 56 - i
 
 sample-requires : tie.Need-sample-requires Inv-loop μ-loop
 sample-requires c κs = search needs

@@ -102,11 +102,15 @@ with-active-sound c l h a =
     && allBelow (vertexSound c) (vertexCount c) && allBelow (sideSound c) (sideCount c) in
     let nodes : Bool = allBelow (nodeSound c) (nodeCount c) in
     let nodes' : Bool = allBelow (nodeSound (withActive c l)) (nodeCount c) in
-    let h₁ : rest && nodes ≡ true = and-left (rest && nodes) (activeSound c) h in
+    let mark : Bool = leb (c .graph .reweighted) 1 in
+    let h₀ : rest && nodes && activeSound c ≡ true = and-left (rest && nodes && activeSound c) mark h in
+    let h₁ : rest && nodes ≡ true = and-left (rest && nodes) (activeSound c) h₀ in
     let k : nodes' ≡ true =
     all-below-from (nodeSound (withActive c l)) (nodeCount c)
     (λ n b. node-same c l n ∙ all-below-at (nodeSound c) (nodeCount c) n (and-right rest nodes h₁) b) in
-    both (rest && nodes') (activeSound (withActive c l)) (both rest nodes' (and-left rest nodes h₁) k) a
+    both (rest && nodes' && activeSound (withActive c l)) mark
+    (both (rest && nodes') (activeSound (withActive c l)) (both rest nodes' (and-left rest nodes h₁) k) a)
+    (and-right (rest && nodes && activeSound c) mark h)
 
 -- ---- who stands in it: every node that is not in Stay
 
@@ -136,6 +140,7 @@ pub shape-active : (c : State) (l : List ℕ) → Shape c → Shape (withActive 
 unfolding withActive
 shape-active c l z = record {
   end = z .end;
+  original = z .original;
   at = z .at;
   defect = z .defect;
   vertexHolder = z .vertexHolder;

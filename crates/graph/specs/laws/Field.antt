@@ -3,20 +3,22 @@
 use Prim.Native.Nat.{ℕ, zero, suc, _+_, _*_, _/_, _%_, _≤_, _<_}
 use native.Mathlib.Omega.{arith}
 use mathlib.Core.Path.{_≡_, refl, sym, ap, _∙_}
+use mathlib.Core.Bool.{Bool, true}
 use mathlib.Core.List.{List, [], _∷_, map}
 use lib.IntN.{ℤ}
 use lib.Dec.{ltb, leb}
 use lib.ListN.{set, getD, take, List·getD-map}
-use lib.Seq.{getD-take, take-set-lt, map-set-same}
-use borrow.Author.Tests.{lt-ltb, ltb-true, leb-true}
-use Rattle.graph.specs.laws.Members.{all-at}
-use Rattle.graph.specs.State.{defectVertex, vertexCount, edgeCount, sideCount, nodeCount, endAt, weightAt, virtualAt, defectAt, classOf, growStateOf, parentOf, dualOf, withVertices, withSides, withNodes, withGrowth, withHolder, withGrandson, withDefect, withVertexHolder, withVertexGrandson, withClass, withGrowState, withParent, withDual}
+use lib.Seq.{getD-take, take-set-lt, map-set-same, getD-set-same, getD-set-other}
+use borrow.Author.Tests.{lt-ltb, ltb-true, leb-true, le-leb}
+use Rattle.graph.specs.Basic.{all}
+use Rattle.graph.specs.laws.Members.{both, all-at, all-first, all-others}
+use Rattle.graph.specs.State.{defectVertex, vertexCount, edgeCount, sideCount, nodeCount, endAt, weightAt, virtualAt, defectAt, classOf, growStateOf, parentOf, dualOf, withGraph, withVertices, withSides, withNodes, withEdgeWeight, withReweighted, withGrowth, withHolder, withGrandson, withDefect, withVertexHolder, withVertexGrandson, withClass, withGrowState, withParent, withDual}
 use Rattle.graph.specs.Open.{weightLimit}
 use Rattle.graph.specs.Rows.{rows, offset}
 use Rattle.graph.specs.Layout.{rowsOf, row, classFrom, stateFrom, stateOf}
 use Rattle.graph.specs.Form.{Laid, Listed, Wired, Formed}
 use Rattle.graph.specs.inner.Form.{Rowed, Becomes}
-use Rattle.graph.specs.laws.Row.{header-get, becomes-row}
+use Rattle.graph.specs.laws.Row.{header-get, rows-length, becomes-row}
 
 -- ---- sides and edges
 
@@ -35,6 +37,55 @@ end-below b s f h =
 pub weight-below : (b : List ℤ) (e : ℕ) → Formed b → e < edgeCount (stateOf b) → weightAt (stateOf b) e ≤ 1000000
 unfolding Wired stateOf stateFrom
 weight-below b e f h = leb-true _ _ (all-at (λ x. leb x weightLimit) (row (rowsOf b) 10) e (f .wired .weights) h)
+
+-- a weight in range put among such
+all-set : (p : ℕ → Bool) (l : List ℕ) (i x : ℕ) → all p l ≡ true → p x ≡ true → all p (set l i x) ≡ true
+unfolding all
+all-set p [] i x h k = h
+all-set p (y ∷ l) zero x h k = both (p x) (all p l) k (all-others p y l h)
+all-set p (y ∷ l) (suc i) x h k = both (p y) (all p (set l i x)) (all-first p y l h) (all-set p l i x (all-others p y l h) k)
+
+pub weight-put : {b₀ b : List ℤ} (e x : ℕ) → Formed b₀ → x ≤ 1000000 → Rowed 10 b₀ b (set (row (rowsOf b₀) 10) e x)
+    → Becomes b₀ b (withEdgeWeight (stateOf b₀) e x)
+unfolding Listed Wired rowsOf rows stateOf stateFrom withEdgeWeight withGraph
+weight-put {b₀} {b} e x f h q =
+    let g = f .wired in
+    becomes-row q (f .listed)
+    (record {
+      ends = g .ends;
+      sides = g .sides;
+      firsts = g .firsts;
+      weights = all-set (λ z. leb z weightLimit) (row (rowsOf b₀) 10) e x (g .weights) (le-leb x weightLimit h);
+      originals = g .originals;
+    })
+    refl
+
+-- the mark of changed weights alone: the sizes and counts of the header stay
+pub mark-put : {b₀ b : List ℤ} (x : ℕ) → Formed b₀ → Rowed 0 b₀ b (set (row (rowsOf b₀) 0) 6 x)
+    → Becomes b₀ b (withReweighted (stateOf b₀) x)
+unfolding Listed Wired Laid rowsOf rows stateOf stateFrom withReweighted withGraph offset
+mark-put {b₀} {b} x f q =
+    let h : List ℕ = row (rowsOf b₀) 0 in
+    let still : (i : ℕ) → i < 6 → getD (set h 6 x) i 0 ≡ getD h i 0 = λ i k. getD-set-other h 6 i x 0 (λ z. omega arith) in
+    let here : getD (set h 6 x) 6 0 ≡ x = getD-set-same h 6 x 0 (omega (arith, rows-length b₀ 0 (omega (arith, f .laid .sized .len)))) in
+    let h₀ = still 0 (omega arith) in
+    let h₁ = still 1 (omega arith) in
+    let h₂ = still 2 (omega arith) in
+    let h₃ = still 3 (omega arith) in
+    let h₄ = still 4 (omega arith) in
+    let h₅ = still 5 (omega arith) in
+    let p = f .listed in
+    let g = f .wired in
+    becomes-row q
+    (record { count-max = rw (h₄, h₂) (p .count-max); starts = rw h₄ (p .starts); total = rw (h₄, h₃) (p .total) })
+    (record {
+      ends = rw h₀ (g .ends);
+      sides = rw h₀ (g .sides);
+      firsts = rw h₁ (g .firsts);
+      weights = g .weights;
+      originals = g .originals;
+    })
+    (rw (h₄, h₀, h₂, h₃, h₅, here))
 
 module _ {b₀ b : List ℤ} (s x : ℕ) (f : Formed b₀) where
   pub growth-put : Rowed 6 b₀ b (set (row (rowsOf b₀) 6) s x) → Becomes b₀ b (withGrowth (stateOf b₀) s x)

@@ -57,6 +57,7 @@ laid-shape b q =
     let os : length (take count (row (rowsOf b) 17)) ≡ nodeCount (stateOf b) = cut-length b (row (rowsOf b) 17) q (rows-length b 17 (omega arith)) in
     record {
       end = k .sides ∙ ap (λ e. 2 * e) (sym (k .edges));
+      original = rows-length b 20 (omega arith) ∙ sym (k .edges);
       at = length-stretches (row (rowsOf b) 4) (row (rowsOf b) 9) ∙ rows-length b 4 (omega arith) ∙ sym (k .vertices);
       defect = length-map (row (rowsOf b) 1) (λ x. x / 2) ∙ rows-length b 1 (omega arith) ∙ sym (k .vertices);
       vertexHolder = rows-length b 2 (omega arith) ∙ sym (k .vertices);

@@ -52,7 +52,7 @@ stacks-front (b ∷ bs) (o ∷ os) l i x h =
 
 -- all that the state and the tests of a block read of its rows
 record ReadAlike (r q : List (List ℕ)) : Type 0 where
-  pub header : (i : ℕ) → i < 6 → getD (row q 0) i 0 ≡ getD (row r 0) i 0
+  pub header : (i : ℕ) → i < 7 → getD (row q 0) i 0 ≡ getD (row r 0) i 0
   pub fixed : (k : ℕ) → 1 ≤ k → k ≤ 10 → row q k ≡ row r k
   pub nodes : (k : ℕ) → 11 ≤ k → k ≤ 17 → take (getD (row r 0) 4 0) (row q k) ≡ take (getD (row r 0) 4 0) (row r k)
   pub boundary : (bs os : List ℕ) → bs ≡ take (getD (row r 0) 4 0) (row r 16) → os ≡ take (getD (row r 0) 4 0) (row r 17)
@@ -60,6 +60,7 @@ record ReadAlike (r q : List (List ℕ)) : Type 0 where
   pub overgrown : (bs os : List ℕ) → bs ≡ take (getD (row r 0) 4 0) (row r 16) → os ≡ take (getD (row r 0) 4 0) (row r 17)
       → stacks bs os (row q 18) ≡ stacks bs os (row r 18)
   pub active : take (getD (row r 0) 5 0) (row q 19) ≡ take (getD (row r 0) 5 0) (row r 19)
+  pub original : row q 20 ≡ row r 20
 
 state-alike : (r q : List (List ℕ)) → ReadAlike r q → stateFrom q ≡ stateFrom r
 unfolding stateFrom
@@ -73,6 +74,7 @@ state-alike r q a =
       h 2 (omega arith),
       h 3 (omega arith),
       h 5 (omega arith),
+      h 6 (omega arith),
       f 1 (omega arith) (omega arith),
       f 2 (omega arith) (omega arith),
       f 3 (omega arith) (omega arith),
@@ -92,6 +94,7 @@ state-alike r q a =
       a .boundary _ _ refl refl,
       a .overgrown _ _ refl refl,
       a .active,
+      a .original,
     )
     refl
 
@@ -107,7 +110,7 @@ module _ (r : List (List ℕ)) (k i x : ℕ) where
   row-here : (j : ℕ) → j ≡ k → j < length r → row with j ≡ set (row r j) i x
   row-here j e h = rw (← e) (getD-set-same r j (set (row r j) i x) [] h)
 
-  header-alike : k ≡ 0 → 6 ≤ i → 0 < length r → ReadAlike r with
+  header-alike : k ≡ 0 → 7 ≤ i → 0 < length r → ReadAlike r with
   header-alike e h l = record {
     header = λ j b. ap (λ z. getD z j 0) (row-here 0 (sym e) l) ∙ getD-set-other (row r 0) i j x 0 (λ z. omega arith);
     fixed = λ j b d. row-other j (λ z. omega arith);
@@ -115,6 +118,7 @@ module _ (r : List (List ℕ)) (k i x : ℕ) where
     boundary = λ bs os p q. ap (boundaries bs os) (row-other 18 (λ z. omega arith));
     overgrown = λ bs os p q. ap (stacks bs os) (row-other 18 (λ z. omega arith));
     active = ap (take (getD (row r 0) 5 0)) (row-other 19 (λ z. omega arith));
+    original = row-other 20 (λ z. omega arith);
   }
 
   nodes-alike : 11 ≤ k → k ≤ 17 → getD (row r 0) 4 0 ≤ i → k < length r → ReadAlike r with
@@ -128,6 +132,7 @@ module _ (r : List (List ℕ)) (k i x : ℕ) where
     boundary = λ bs os p q. ap (boundaries bs os) (row-other 18 (λ z. omega arith));
     overgrown = λ bs os p q. ap (stacks bs os) (row-other 18 (λ z. omega arith));
     active = ap (take (getD (row r 0) 5 0)) (row-other 19 (λ z. omega arith));
+    original = row-other 20 (λ z. omega arith);
   }
 
   store-alike : k ≡ 18 → sumOfLists (take (getD (row r 0) 4 0) (row r 16)) (take (getD (row r 0) 4 0) (row r 17)) ≤ i → k < length r → ReadAlike r with
@@ -138,6 +143,7 @@ module _ (r : List (List ℕ)) (k i x : ℕ) where
     boundary = λ bs os p q. ap (boundaries bs os) (row-here 18 (sym e) (omega arith)) ∙ boundaries-front bs os (row r 18) i x (rw (p, q) h);
     overgrown = λ bs os p q. ap (stacks bs os) (row-here 18 (sym e) (omega arith)) ∙ stacks-front bs os (row r 18) i x (rw (p, q) h);
     active = ap (take (getD (row r 0) 5 0)) (row-other 19 (λ z. omega arith));
+    original = row-other 20 (λ z. omega arith);
   }
 
   active-alike : k ≡ 19 → getD (row r 0) 5 0 ≤ i → k < length r → ReadAlike r with
@@ -148,18 +154,19 @@ module _ (r : List (List ℕ)) (k i x : ℕ) where
     boundary = λ bs os p q. ap (boundaries bs os) (row-other 18 (λ z. omega arith));
     overgrown = λ bs os p q. ap (stacks bs os) (row-other 18 (λ z. omega arith));
     active = ap (take (getD (row r 0) 5 0)) (row-here 19 (sym e) (omega arith)) ∙ take-set-le (getD (row r 0) 5 0) (row r 19) i x h;
+    original = row-other 20 (λ z. omega arith);
   }
 
 free-alike : (b : List ℤ) → Formed b → (k i x : ℕ) → freePlace b k i ≡ true → ReadAlike (rowsOf b) (rowsWith b k i x)
 unfolding freePlace
 free-alike b f k i x h =
-    let n : length (rowsOf b) ≡ 20 = rows-count b in
+    let n : length (rowsOf b) ≡ 21 = rows-count b in
     let c : getD (row (rowsOf b) 0) 4 0 ≡ countOf b = header-get b 4 (omega arith) in
     let m : getD (row (rowsOf b) 0) 5 0 ≡ activeCountOf b = header-get b 5 (omega arith) in
-    or-cases (eqb k 0 && leb 6 i) _ h
+    or-cases (eqb k 0 && leb 7 i) _ h
     (λ e.
     let k₀ = eqb-true k 0 (and-left (eqb k 0) _ e) in
-    header-alike (rowsOf b) k i x k₀ (leb-true 6 i (and-right (eqb k 0) _ e)) (omega arith))
+    header-alike (rowsOf b) k i x k₀ (leb-true 7 i (and-right (eqb k 0) _ e)) (omega arith))
     (λ e.
     or-cases (leb 11 k && (leb k 17 && leb (countOf b) i)) _ e
     (λ d.
@@ -182,10 +189,10 @@ free-alike b f k i x h =
     count-nodes : (b : List ℤ) → Formed b → countOf b ≡ nodeCount (stateOf b)
     count-nodes b f = unfold Laid in (sym (f .laid .counted .nodes))
 
--- a free place stands behind the six numbers of the header
-free-behind : (b : List ℤ) (k i p : ℕ) → p ≡ offset (sizesOf b) k + i → freePlace b k i ≡ true → 6 ≤ p
+-- a free place stands behind the seven numbers of the header
+free-behind : (b : List ℤ) (k i p : ℕ) → p ≡ offset (sizesOf b) k + i → freePlace b k i ≡ true → 7 ≤ p
 unfolding freePlace offset
-free-behind b zero i p e h = let l = leb-true 6 i (first (leb 6 i) h) in omega arith
+free-behind b zero i p e h = let l = leb-true 7 i (first (leb 7 i) h) in omega arith
   where
     first : (t : Bool) → t || false ≡ true → t ≡ true
     first true h = refl
@@ -195,7 +202,7 @@ free-behind b (suc k) i p e h = omega arith
 -- ---- the block
 
 module _ (b : List ℤ) (f : Formed b) (k i p : ℕ) (s : InRow b k i p) (free : freePlace b k i ≡ true) (z : ℤ) where
-  behind : 6 ≤ p
+  behind : 7 ≤ p
   behind = free-behind b k i p (s .place) free
 
   alike : ReadAlike (rowsOf b) (rowsOf (set b p z))
@@ -205,7 +212,7 @@ module _ (b : List ℤ) (f : Formed b) (k i p : ℕ) (s : InRow b k i p) (free :
   unfolding stateOf
   free-word-state = state-alike (rowsOf b) (rowsOf (set b p z)) alike
 
-  word-same : (j : ℕ) → j < 6 → wordAt (set b p z) j ≡ wordAt b j
+  word-same : (j : ℕ) → j < 7 → wordAt (set b p z) j ≡ wordAt b j
   word-same j h = word-other b p j z (λ q. omega (arith, behind))
 
   pub free-word-sized : sized (set b p z) ≡ sized b

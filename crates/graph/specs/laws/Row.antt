@@ -119,7 +119,7 @@ pub rows-length : (b : List ℤ) (k : ℕ) → offset (sizesOf b) k + getD (size
 unfolding rowsOf
 rows-length b k h = row-length (sizesOf b) (map toNat b) k (rw (length-map b toNat) h)
 
-pub rows-count : (b : List ℤ) → length (rowsOf b) ≡ 20
+pub rows-count : (b : List ℤ) → length (rowsOf b) ≡ 21
 unfolding rowsOf rows
 rows-count b = refl
 
@@ -145,6 +145,11 @@ counted-of b z h a =
 pub laid-of : (b : List ℤ) → Sized b → countOf b ≤ nOf b → activeCountOf b ≤ nOf b → Laid b
 unfolding Laid
 laid-of b z h a = record { sized = z; counted = counted-of b z h a }
+
+-- the limits of the sizes, without the length of the block
+pub laid-sizes : (b : List ℤ) → Laid b → (vOf b ≤ 1024) × (eOf b ≤ 4096) × (nOf b ≤ 1024) × (lOf b ≤ 65536) × (stateOf b .nodeLimit ≡ nOf b)
+unfolding Laid
+laid-sizes b q = (q .sized .v-max, q .sized .e-max, q .sized .n-max, q .sized .l-max, q .counted .node-limit)
 
 pub formed-of : (b : List ℤ) → Laid b → PackedRows (rowsOf b) → GraphRows (rowsOf b) → Formed b
 unfolding Laid Listed Wired
@@ -216,12 +221,16 @@ module _ (b : List ℤ) (z : Sized b) where
   unfolding offset
   active-found j i = found (record { place = omega arith; within = i }) (omega arith)
 
+  pub original-found : (e : ℕ) → e < eOf b → Found b 20 e (16 + 4 * vOf b + 11 * eOf b + 8 * nOf b + lOf b + e)
+  unfolding offset
+  original-found e i = found (record { place = omega arith; within = i }) (omega arith)
+
 -- ---- a write
 
--- a word put at place i of row k
-pub rowed-put : (b : List ℤ) (k i p x : ℕ) → Laid b → Found b k i p → Rowed k b (set b p (pos x)) (set (row (rowsOf b) k) i x)
+-- a word put at place i of row k, behind the header's sizes and counts
+rowed-at : (b : List ℤ) (k i p x : ℕ) → Laid b → InRow b k i p → 6 ≤ p → Rowed k b (set b p (pos x)) (set (row (rowsOf b) k) i x)
 unfolding Laid
-rowed-put b k i p x q s =
+rowed-at b k i p x q s h =
     let w₀ = word-other b p 0 (pos x) (omega arith) in
     let w₁ = word-other b p 1 (pos x) (omega arith) in
     let w₂ = word-other b p 2 (pos x) (omega arith) in
@@ -232,7 +241,7 @@ rowed-put b k i p x q s =
     let t : Counted (set b p (pos x)) = counted-of (set b p (pos x)) z (omega arith) (omega arith) in
     record {
       laid = record { sized = z; counted = t };
-      rows = rows-put b k i p x (s .stands) (omega arith);
+      rows = rows-put b k i p x s (omega arith);
       vertices = omega arith;
       edges = omega arith;
       sides = omega arith;
@@ -241,6 +250,14 @@ rowed-put b k i p x q s =
       store-limit = omega arith;
       len = length-set b p (pos x);
     }
+
+pub rowed-put : (b : List ℤ) (k i p x : ℕ) → Laid b → Found b k i p → Rowed k b (set b p (pos x)) (set (row (rowsOf b) k) i x)
+rowed-put b k i p x q s = rowed-at b k i p x q (s .stands) (omega (arith, s .behind))
+
+-- the mark of changed weights, word 6 of the header
+pub rowed-mark : (b : List ℤ) (x : ℕ) → Laid b → Rowed 0 b (set b 6 (pos x)) (set (row (rowsOf b) 0) 6 x)
+unfolding offset
+rowed-mark b x q = rowed-at b 0 6 6 x q (record { place = omega arith; within = omega arith }) (omega arith)
 
 pub state-of-rows : (b : List ℤ) (r : List (List ℕ)) → rowsOf b ≡ r → stateOf b ≡ stateFrom r
 unfolding stateOf
@@ -276,7 +293,7 @@ becomes-then p q =
 pub becomes-none : (b : List ℤ) (c : State) → Formed b → stateOf b ≡ c → Becomes b b c
 becomes-none b c f e = record { formed = f; state = e; vertices = refl; edges = refl; sides = refl; nodes = refl; len = refl }
 
-pub rowed-row : {k : ℕ} {b₀ b : List ℤ} {l : List ℕ} → k < 20 → Rowed k b₀ b l → row (rowsOf b) k ≡ l
+pub rowed-row : {k : ℕ} {b₀ b : List ℤ} {l : List ℕ} → k < 21 → Rowed k b₀ b l → row (rowsOf b) k ≡ l
 rowed-row {k} {b₀} {b} {l} h r = ap (λ z. row z k) (r .rows) ∙ getD-set-same (rowsOf b₀) k l [] (omega (arith, rows-count b₀))
 
 pub rowed-then : {k : ℕ} {b₀ b₁ b₂ : List ℤ} {l₁ l₂ : List ℕ} → Rowed k b₀ b₁ l₁ → Rowed k b₁ b₂ l₂ → Rowed k b₀ b₂ l₂

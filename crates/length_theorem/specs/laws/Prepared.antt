@@ -20,6 +20,8 @@ use Rattle.reachable.specs.Reachable.{after}
 use Rattle.table_theorem.specs.History.{recorded, historyFrom, noBlossom, noBlossoms}
 use Rattle.table_theorem.specs.Runs.{Run, start, end, history, SameNodes}
 use Rattle.table_theorem.specs.Theorems.{nodes-are-recorded}
+use Rattle.opened_graph.specs.OpenedGraph.{withWeights}
+use Rattle.table_theorem.specs.laws.Kept.{Fixed, reweighs, call-fixed}
 use Rattle.table_theorem.specs.laws.Append.{after-append, history-append, blossoms-append}
 use Rattle.length_theorem.specs.Meaning.{growingLength}
 
@@ -34,15 +36,23 @@ module _ {v : ℕ} {edges : List Edge} {virtuals : List ℕ} (r : Run v edges vi
   unfolding noBlossoms noBlossom
   no-more-blossoms = blossoms-append (start r) (r .calls) (Prepare n up ∷ []) ∙ rw (r .withoutBlossoms) refl
 
+  pub still-present : withWeights (r .given) (after (start r) (r .calls ++ (Prepare n up ∷ [])) .graph .weight) ≡ edges
+  unfolding after reweighs
+  still-present =
+      ap (λ (c : State). withWeights (r .given) (c .graph .weight)) (after-append (start r) (r .calls) (Prepare n up ∷ []))
+      ∙ ap (λ (x : Fixed). withWeights (r .given) (x .graph .weight)) (call-fixed (end r) (Prepare n up) refl) ∙ r .present
+
   abbrev pub prepared : Run v edges virtuals
   prepared = record {
     edgeNumber = r .edgeNumber;
     nodeLimit = r .nodeLimit;
     storeLimit = r .storeLimit;
     fits = r .fits;
+    given = r .given;
     opening = r .opening;
     calls = r .calls ++ (Prepare n up ∷ []);
     withoutBlossoms = no-more-blossoms;
+    present = still-present;
   }
 
   history-same : history prepared ≡ history r

@@ -22,6 +22,7 @@ use Rattle.graph.specs.Layout.{eOf, nOf, countOf, activeCountOf, rowsOf, row, s
 use Rattle.graph.specs.Form.{GraphRows, Laid, Listed, Formed}
 use Rattle.graph.specs.inner.SidesAt.{Rising}
 use Rattle.graph.specs.laws.Row.{header-get, rows-length, laid-of, formed-of}
+use Rattle.graph.specs.laws.Form.{laid-shape}
 use Rattle.graph.specs.laws.Size.{sized-of}
 use Rattle.graph.specs.laws.Scan.{list-from, ends-of}
 use Rattle.memory_tests.specs.laws.Pack.{packed-of}
@@ -29,12 +30,12 @@ use Rattle.graph.specs.laws.Used.{entries-within}
 
 -- ---- the parts of the test
 
--- where the counts are in range, soundness is that of edges, vertices, sides, nodes and the active list
+-- where the counts are in range, soundness is that of edges, vertices, sides, nodes, the active list and the mark
 pub sound-parts : (b : List ℤ) → Laid b → Listed b
     → sound (stateOf b)
     ≡ allBelow (edgeSound (stateOf b)) (edgeCount (stateOf b)) && allBelow (vertexSound (stateOf b)) (vertexCount (stateOf b))
     && allBelow (sideSound (stateOf b)) (sideCount (stateOf b)) && allBelow (nodeSound (stateOf b)) (nodeCount (stateOf b))
-    && activeSound (stateOf b)
+    && activeSound (stateOf b) && leb (stateOf b .graph .reweighted) 1
 unfolding sound Laid
 sound-parts b q p =
     rw (
@@ -75,6 +76,13 @@ module _ (b : List ℤ) (q : Laid b) (h : sound (stateOf b) ≡ true) where
       (λ e k. le-leb (getD (row (rowsOf b) 10) e 0) weightLimit
       (edge-facts (stateOf b) e (sound-edge (stateOf b) h e k) .weight))
 
+  originals-in : all (λ x. leb x weightLimit) (row (rowsOf b) 20) ≡ true
+  unfolding stateOf stateFrom
+  originals-in =
+      list-from (λ x. leb x weightLimit) (row (rowsOf b) 20) 0
+      (λ e k. le-leb (getD (row (rowsOf b) 20) e 0) weightLimit
+      (edge-facts (stateOf b) e (sound-edge (stateOf b) h e (omega (arith, k, laid-shape b q .original))) .original))
+
   sides-right : stretches (row (rowsOf b) 4) (row (rowsOf b) 9) ≡ map (sidesOf (row (rowsOf b) 5)) (below (getD (row (rowsOf b) 0) 0 0))
   unfolding stateOf stateFrom Laid offset
   sides-right =
@@ -91,7 +99,7 @@ module _ (b : List ℤ) (q : Laid b) (h : sound (stateOf b) ≡ true) where
       vertex-facts (stateOf b) i (sound-vertex (stateOf b) h i j) .sides ∙ sym (getD-tabled (sidesOf (row (rowsOf b) 5)) v i [] (omega (arith, j, header-v))))
 
   wired-of : risingTo (row (rowsOf b) 4) (2 * eOf b) ≡ true → GraphRows (rowsOf b)
-  wired-of r = record { ends = ends-in; sides = sides-right; firsts = rw (header-get b 1 (omega arith)) r; weights = weights-in }
+  wired-of r = record { ends = ends-in; sides = sides-right; firsts = rw (header-get b 1 (omega arith)) r; weights = weights-in; originals = originals-in }
 
   -- lists and stretches in order, and a sound state: the block is in form
   pub sound-formed : Listed b → Rising b → Formed b

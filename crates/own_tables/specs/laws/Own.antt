@@ -39,7 +39,7 @@ use Rattle.table_theorem.specs.Runs.{Run, end, history}
 use Rattle.table_theorem.specs.Theorems.{table-is-from-distances}
 use Rattle.table_theorem.specs.laws.Depth.{DefectsOnly, vertex-inside, far-off}
 use Rattle.table_theorem.specs.laws.Feasible.{nodes-apart}
-use Rattle.table_theorem.specs.laws.Runs.{defects-only, end-matches}
+use Rattle.table_theorem.specs.laws.Runs.{present-opening, defects-only, end-matches}
 use Rattle.table_check.specs.declared.Verdict.the-variants.{Yes}
 use Rattle.table_check.specs.Handed.{distanceLimit, distanceOf, distanceIn, rowOf, Handed, handed}
 use Rattle.table_check.specs.Verdict.{givenDualOf as dualByVertex, dualsByVertex, Right, sizesRight, lengthsRight, graphInRange, defectsInRange, distancesInRange, numbersRight, tableRefusal, tableVerdict}
@@ -211,7 +211,7 @@ module _ {v : ℕ} {edges : List Edge} {virtuals : List ℕ} (positive : Positiv
   -- ---- nothing refuses it
 
   opened-facts : OpeningAccepted v (r .edgeNumber) (r .nodeLimit) (r .storeLimit) edges virtuals (r .fits)
-  opened-facts = accepted v (r .edgeNumber) (r .nodeLimit) (r .storeLimit) edges virtuals (r .fits) (r .opening)
+  opened-facts = accepted v (r .edgeNumber) (r .nodeLimit) (r .storeLimit) edges virtuals (r .fits) (present-opening r)
 
   sizes : SizesIn v (r .edgeNumber) (r .nodeLimit) (r .storeLimit)
   sizes = sizes-in v (r .edgeNumber) (r .nodeLimit) (r .storeLimit) (opened-facts .sizes)

@@ -6,10 +6,10 @@ use Rattle.graph.specs.Basic.{if_then_else_}
 use Rattle.graph.specs.State.{State}
 
 -- how many entries are 0
-unfoldable pub zeros : List ℕ → ℕ
-zeros [] = 0
-zeros (x ∷ xs) = if eqb x 0 then suc (zeros xs) else zeros xs
+unfoldable pub zeroCount : List ℕ → ℕ
+zeroCount [] = 0
+zeroCount (x ∷ xs) = if eqb x 0 then suc (zeroCount xs) else zeroCount xs
 
 -- how many vertices are free
 abbrev pub freeCount : State → ℕ
-freeCount c = zeros (c .vertices .vertexHolder)
+freeCount c = zeroCount (c .vertices .vertexHolder)

@@ -18,30 +18,30 @@ use Rattle.pass.specs.Grow.{reaches, growStep, takeSide, takeVertex, tak
 use Rattle.pass.specs.Shrink.{emptyTops, dropSide, dropStep, shrinkStep, closed, releaseSide, releaseStep, dropped, shrinkScanned, shrinkPass}
 use Rattle.pass.specs.laws.Passes.{Keeps, keeps-take-step, grow-scanned-keeps}
 use Rattle.pass.specs.inner.Ends.{EndsIn}
-use Rattle.pass.specs.inner.Free.{zeros, freeCount}
+use Rattle.pass.specs.inner.Free.{zeroCount, freeCount}
 
 -- ---- counting
 
-pub zeros-le : (l : List ℕ) → zeros l ≤ length l
-unfolding zeros
+pub zeros-le : (l : List ℕ) → zeroCount l ≤ length l
+unfolding zeroCount
 zeros-le [] = omega arith
-zeros-le (x ∷ xs) = let ih : zeros xs ≤ length xs = zeros-le xs in by-test (eqb x 0) (λ e. rw e (omega arith)) (λ e. rw e (omega arith))
+zeros-le (x ∷ xs) = let ih : zeroCount xs ≤ length xs = zeros-le xs in by-test (eqb x 0) (λ e. rw e (omega arith)) (λ e. rw e (omega arith))
 
 -- a 0 is overwritten, and a 0 is written
-pub zeros-taken : (l : List ℕ) (i h : ℕ) → i < length l → getD l i 0 ≡ 0 → suc (zeros (set l i (h + 1))) ≡ zeros l
-unfolding zeros
+pub zeros-taken : (l : List ℕ) (i h : ℕ) → i < length l → getD l i 0 ≡ 0 → suc (zeroCount (set l i (h + 1))) ≡ zeroCount l
+unfolding zeroCount
 zeros-taken [] i h b e = absurd (omega arith)
 zeros-taken (x ∷ xs) zero h b e = rw (eq-eqb x 0 e, ne-eqb (h + 1) 0 (omega arith))
 zeros-taken (x ∷ xs) (suc i) h b e =
-    let ih : suc (zeros (set xs i (h + 1))) ≡ zeros xs = zeros-taken xs i h (omega arith) e in
+    let ih : suc (zeroCount (set xs i (h + 1))) ≡ zeroCount xs = zeros-taken xs i h (omega arith) e in
     by-test (eqb x 0) (λ q. rw q (ap suc ih)) (λ q. rw q ih)
 
-pub zeros-freed : (l : List ℕ) (i : ℕ) → getD l i 0 ≢ 0 → zeros (set l i 0) ≡ suc (zeros l)
-unfolding zeros
+pub zeros-freed : (l : List ℕ) (i : ℕ) → getD l i 0 ≢ 0 → zeroCount (set l i 0) ≡ suc (zeroCount l)
+unfolding zeroCount
 zeros-freed [] i e = absurd (e refl)
 zeros-freed (x ∷ xs) zero e = rw (ne-eqb x 0 e)
 zeros-freed (x ∷ xs) (suc i) e =
-    let ih : zeros (set xs i 0) ≡ suc (zeros xs) = zeros-freed xs i e in
+    let ih : zeroCount (set xs i 0) ≡ suc (zeroCount xs) = zeros-freed xs i e in
     by-test (eqb x 0) (λ q. rw q (ap suc ih)) (λ q. rw q ih)
 
 -- 1 for a pass that calls for another, or 0
@@ -102,7 +102,7 @@ fewer-take-vertex z n g w v h e p =
     let less : suc (freeCount (first .state)) ≡ freeCount (w .state) =
     unfold onState heldVertex withVertexGrandson withVertexHolder withVertices in
     (zeros-taken (w .state .vertices .vertexHolder) v n h e) in
-    let eq : freeCount (after .state) ≡ freeCount (first .state) = ap (λ x. zeros (x .vertexHolder)) same in
+    let eq : freeCount (after .state) ≡ freeCount (first .state) = ap (λ x. zeroCount (x .vertexHolder)) same in
     let q : Fewer z after = omega (arith, one-le (after .another)) in
     if-both (Fewer z) (eqb (length (after .kept)) (length (w .kept))) q q
 
@@ -144,7 +144,7 @@ more-released z w after v h same p =
     let more : freeCount (onState w (freeVertex (w .state) v) .state) ≡ suc (freeCount (w .state)) =
     unfold onState freeVertex withVertexGrandson withVertexHolder withVertices in
     (zeros-freed (w .state .vertices .vertexHolder) v h) in
-    let eq : freeCount (after .state) ≡ freeCount (onState w (freeVertex (w .state) v) .state) = ap (λ x. zeros (x .vertexHolder)) same in
+    let eq : freeCount (after .state) ≡ freeCount (onState w (freeVertex (w .state) v) .state) = ap (λ x. zeroCount (x .vertexHolder)) same in
     omega (arith, one-le (after .another))
 
 more-drop-step : (z n : ℕ) (w : Work) (v : ℕ) → More z w → More z (dropStep n w v)

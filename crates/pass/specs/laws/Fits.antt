@@ -312,13 +312,6 @@ pub noted-drop-step : (n : ℕ) (l : List ℕ) (w : Work) (v : ℕ) → Noted l 
 unfolding dropStep
 noted-drop-step n l w v p = if-both (Noted l) (eqb (vertexHolderAt (w .state) v) (n + 1)) (fold-keeps dropSide (Noted l) (noted-drop-side l) (onState w (freeVertex (w .state) v)) (sidesAt (w .state) v) (unfold onState in p)) p
 
-pub count-shrink-step : (k : ℕ) (w : Work) (s : ℕ) (r : List ℕ) → length (w .noted) + suc (length r) ≤ k → length (shrinkStep w s .noted) + length r ≤ k
-unfolding shrinkStep note
-count-shrink-step k w s r h =
-    if-both (λ (x : Work). length (x .noted) + length r ≤ k) (eqb (growthAt (w .state) s) 0 && eqb (defectAt (w .state) (endAt (w .state) s)) 0)
-    (omega (arith, length-append (w .noted) (endAt (w .state) s ∷ [])))
-    (rw (noted-keep-once (w .noted) w s refl) (omega arith))
-
 pub below-tops-le : (o : List Overgrown) → length (belowTops o) ≤ length o
 unfolding belowTops
 below-tops-le [] = omega arith

@@ -13,7 +13,7 @@ use Rattle.pass.specs.Work.{Work, finishPass}
 use Rattle.pass.specs.Grow.{growPass}
 use Rattle.pass.specs.Shrink.{shrinkPass}
 use Rattle.pass.specs.laws.Passes.{Passed, passed-refl, passed-trans, grow-passed, shrink-passed}
-use Rattle.pass.specs.inner.Free.{zeros, freeCount}
+use Rattle.pass.specs.inner.Free.{zeroCount, freeCount}
 use Rattle.pass.specs.laws.Counts.{zeros-le, one, grow-pass-fewer, shrink-pass-more}
 use Rattle.pass.specs.inner.Ends.{EndsIn}
 use Rattle.pass.specs.Prepare.{onePass, Prepared, prepareFrom, prepareNode}
@@ -84,7 +84,7 @@ one-down c n d e = rw e
 pub pass-falls : (c : State) (n d : ℕ) → EndsIn c → onePass c n d .another ≡ true → left d (passState c n d) < left d c
 unfolding left one
 pass-falls c n d ends h =
-    let same : freeCount (passState c n d) ≡ freeCount (onePass c n d .state) = ap (λ x. zeros (x .vertexHolder)) (finish-vertices (onePass c n d) n) in
+    let same : freeCount (passState c n d) ≡ freeCount (onePass c n d .state) = ap (λ x. zeroCount (x .vertexHolder)) (finish-vertices (onePass c n d) n) in
     let len : length (passState c n d .vertices .vertexHolder) ≡ length (c .vertices .vertexHolder) = one-passed c n d .vertexHolder in
     let called : one (onePass c n d .another) ≡ 1 = ap one h in
     by-test (eqb d up)

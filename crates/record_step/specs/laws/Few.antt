@@ -12,7 +12,7 @@ use Rattle.graph.specs.Basic.{only, below}
 use Rattle.graph.specs.State.{State, edgeCount}
 use Rattle.graph.specs.Layout.{stateOf}
 use Rattle.graph.specs.laws.Members.{by-test, length-below, length-only}
-use Rattle.calls.specs.Calls.{Call, InsertDefect, InsertBlossom, SetGrowState, Prepare, MaxUpdateLength, Grow, ReadTable, Advance, Contacts, RepresentativeVertex, Clear, RenewActiveList, PrepareAll, GroupLength, Round, RemoveBlossom, growthTable, response, respond}
+use Rattle.calls.specs.Calls.{Call, InsertDefect, InsertBlossom, SetGrowState, Prepare, MaxUpdateLength, Grow, ReadTable, Advance, Contacts, RepresentativeVertex, Clear, RenewActiveList, PrepareAll, GroupLength, Round, RemoveBlossom, growthTable, response, respond, LoadEdgeModifier}
 use Rattle.calls.specs.Contacts.{isContact, contactOf, contacts}
 use Rattle.records.specs.Record.{Record, sizes, anEdge, aVirtual, ask, illFormed}
 use Rattle.records.specs.Lines.{edgeLines, contactLine, linesFor, joinedLines}
@@ -58,6 +58,7 @@ outcome-few k c PrepareAll g e = omega arith
 outcome-few k c GroupLength g e = omega arith
 outcome-few k c (Round l) g e = omega arith
 outcome-few k c (RemoveBlossom n) g e = omega arith
+outcome-few k c (LoadEdgeModifier pairs) g e = omega arith
 
 -- of a call on the opened graph
 asked-few : (k : ℕ) (a : Call) {s : Setup} {block : List ℤ} → Runs s block → length (linesFor k (respond (stateOf (partOf s block)) a .outcome)) ≤ 128

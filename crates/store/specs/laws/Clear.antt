@@ -6,7 +6,7 @@ use mathlib.Core.List.{List, [], _∷_, map}
 use lib.IntN.{ℤ, pos}
 use lib.ListN.{length, getD, set, length-set, length-map}
 use lib.Seq.{getD-set-same, getD-set-other}
-use Rattle.graph.specs.Open.{blankState, cleared}
+use Rattle.graph.specs.Open.{blankState, withOriginals, cleared}
 use Rattle.graph.specs.Rows.{rows, offset}
 use Rattle.graph.specs.Word.{wordAt, toNat}
 use Rattle.graph.specs.Layout.{countOf, activeCountOf, rowsOf, row, boundaries, stacks, stateFrom, stateOf}
@@ -111,21 +111,34 @@ flags-none (x ∷ l) = let z : x % 2 / 2 ≡ 0 = omega arith in rw (z, flags-non
 
 -- ---- the state, and the form
 
-module _ (r : List (List ℕ)) (h : 5 < length (row r 0)) where
+module _ (r : List (List ℕ)) (h : 6 < length (row r 0)) where
   header : List ℕ
-  header = set (set (row r 0) 4 0) 5 0
+  header = set (set (set (row r 0) 4 0) 5 0) 6 0
+
+  counts : List ℕ
+  counts = set (set (row r 0) 4 0) 5 0
+
+  before-mark : (i : ℕ) → i < 6 → getD header i 0 ≡ getD counts i 0
+  unfolding header counts
+  before-mark i k = getD-set-other (set (set (row r 0) 4 0) 5 0) 6 i 0 0 (λ q. omega arith)
+
+  mark-none : _≡_ {A = ℕ} (getD header 6 0) 0
+  unfolding header
+  mark-none =
+      getD-set-same (set (set (row r 0) 4 0) 5 0) 6 0 0
+      (omega (arith, length-set (set (row r 0) 4 0) 5 0, length-set (row r 0) 4 0))
 
   count-none : _≡_ {A = ℕ} (getD header 4 0) 0
-  unfolding header
-  count-none = getD-set-other (set (row r 0) 4 0) 5 4 0 0 (λ q. omega arith) ∙ getD-set-same (row r 0) 4 0 0 (omega arith)
+  unfolding counts
+  count-none = before-mark 4 (omega arith) ∙ getD-set-other (set (row r 0) 4 0) 5 4 0 0 (λ q. omega arith) ∙ getD-set-same (row r 0) 4 0 0 (omega arith)
 
   active-none : _≡_ {A = ℕ} (getD header 5 0) 0
-  unfolding header
-  active-none = getD-set-same (set (row r 0) 4 0) 5 0 0 (omega (arith, length-set (row r 0) 4 0))
+  unfolding counts
+  active-none = before-mark 5 (omega arith) ∙ getD-set-same (set (row r 0) 4 0) 5 0 0 (omega (arith, length-set (row r 0) 4 0))
 
   size-still : (i : ℕ) → i < 4 → getD header i 0 ≡ getD (row r 0) i 0
-  unfolding header
-  size-still i k = getD-set-other (set (row r 0) 4 0) 5 i 0 0 (λ q. omega arith) ∙ getD-set-other (row r 0) 4 i 0 0 (λ q. omega arith)
+  unfolding counts
+  size-still i k = before-mark i (omega arith) ∙ getD-set-other (set (row r 0) 4 0) 5 i 0 0 (λ q. omega arith) ∙ getD-set-other (row r 0) 4 i 0 0 (λ q. omega arith)
 
   cleared-packed : PackedRows (clearedRows r)
   unfolding header clearedRows startsFrom totalFrom
@@ -138,17 +151,19 @@ module _ (r : List (List ℕ)) (h : 5 < length (row r 0)) where
         ends = rw (size-still 0 (omega arith)) (g .ends);
         sides = rw (size-still 0 (omega arith)) (g .sides);
         firsts = rw (size-still 1 (omega arith)) (g .firsts);
-        weights = g .weights;
+        weights = g .originals;
+        originals = g .originals;
       }
 
   cleared-state : length (row r 2) ≡ length (row r 1) → length (row r 3) ≡ length (row r 1)
       → length (row r 6) ≡ length (row r 5) → length (row r 7) ≡ length (row r 5) → length (row r 8) ≡ length (row r 5)
       → stateFrom (clearedRows r) ≡ cleared (stateFrom r)
-  unfolding header clearedRows stateFrom cleared blankState boundaries stacks
+  unfolding header clearedRows stateFrom cleared withOriginals blankState boundaries stacks
   cleared-state l₂ l₃ l₆ l₇ l₈ =
       rw (
         count-none,
         active-none,
+        mark-none,
         size-still 2 (omega arith),
         size-still 3 (omega arith),
         flags-twice (row r 1),
@@ -162,18 +177,27 @@ module _ (r : List (List ℕ)) (h : 5 < length (row r 0)) where
       )
 
 module _
-    (b₀ b₁ b₂ b₃ b : List ℤ)
+    (b₀ b₁ b₂ b₃ b₄ b₅ b : List ℤ)
     (f : Formed b₀)
     (p : Recounted b₀ b₁ 0)
     (a : ActiveRecounted b₁ b₂ 0)
-    (q : Rewritten b₂ b₃ (clearedVertices (rowsOf b₂)))
-    (r : Rewritten b₃ b (clearedSides (rowsOf b₃)))
+    (m : Rowed 0 b₂ b₃ (set (row (rowsOf b₂) 0) 6 0))
+    (w : Rowed 10 b₃ b₄ (row (rowsOf b₃) 20))
+    (q : Rewritten b₄ b₅ (clearedVertices (rowsOf b₄)))
+    (r : Rewritten b₅ b (clearedSides (rowsOf b₅)))
   where
     rows-cleared : rowsOf b ≡ clearedRows (rowsOf b₀)
     unfolding clearedRows clearedVertices clearedSides rowsOf rows
-    rows-cleared = r .rows ∙ ap clearedSides (q .rows ∙ ap clearedVertices (a .rows ∙ ap (λ z. set z 0 (set (row z 0) 5 0)) (p .rows)))
+    rows-cleared =
+        r .rows
+        ∙ ap clearedSides
+        (q .rows
+        ∙ ap clearedVertices
+        (w .rows
+        ∙ ap (λ z. set z 10 (row z 20))
+        (m .rows ∙ ap (λ z. set z 0 (set (row z 0) 6 0)) (a .rows ∙ ap (λ z. set z 0 (set (row z 0) 5 0)) (p .rows)))))
 
-    header-length : 5 < length (row (rowsOf b₀) 0)
+    header-length : 6 < length (row (rowsOf b₀) 0)
     unfolding Laid offset
     header-length =
         let z : LaidOut b₀ = f .laid in
@@ -201,9 +225,9 @@ module _
       formed = formed-cleared;
       state = state-cleared;
       rows = rows-cleared;
-      vertices = r .kept .vertices ∙ q .kept .vertices ∙ a .vertices ∙ p .vertices;
-      edges = r .kept .edges ∙ q .kept .edges ∙ a .edges ∙ p .edges;
-      sides = r .kept .sides ∙ q .kept .sides ∙ a .sides ∙ p .sides;
-      nodes = r .kept .nodes ∙ q .kept .nodes ∙ a .nodes ∙ p .nodes;
-      len = r .kept .len ∙ q .kept .len ∙ a .len ∙ p .len;
+      vertices = r .kept .vertices ∙ q .kept .vertices ∙ w .vertices ∙ m .vertices ∙ a .vertices ∙ p .vertices;
+      edges = r .kept .edges ∙ q .kept .edges ∙ w .edges ∙ m .edges ∙ a .edges ∙ p .edges;
+      sides = r .kept .sides ∙ q .kept .sides ∙ w .sides ∙ m .sides ∙ a .sides ∙ p .sides;
+      nodes = r .kept .nodes ∙ q .kept .nodes ∙ w .nodes ∙ m .nodes ∙ a .nodes ∙ p .nodes;
+      len = r .kept .len ∙ q .kept .len ∙ w .len ∙ m .len ∙ a .len ∙ p .len;
     }

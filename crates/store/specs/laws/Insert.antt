@@ -164,6 +164,7 @@ module _ (b₀ b₁ b₂ : List ℤ) (n class x a : ℕ) (f : Formed b₀) (is-c
         sides = rw (header-other 0 (λ e. omega arith)) (g .sides);
         firsts = rw (header-other 1 (λ e. omega arith)) (g .firsts);
         weights = g .weights;
+        originals = g .originals;
       }
 
   vertices-then : getD header 0 0 ≡ vertexCount (stateOf b₀)
@@ -179,6 +180,7 @@ module _ (b₀ b₁ b₂ : List ℤ) (n class x a : ℕ) (f : Formed b₀) (is-c
         header-other 2 (λ e. omega arith),
         header-other 3 (λ e. omega arith),
         header-other 5 (λ e. omega arith),
+        header-other 6 (λ e. omega arith),
         one-more 0 class (omega arith),
         one-more 1 x (omega arith),
         one-more 2 0 (omega arith),

@@ -22,7 +22,7 @@ pub wrote-none : (k : ℕ) (b : List ℤ) (lo hi : ℕ) (f : ℕ → ℕ) → La
 wrote-none k b lo hi f q h = record { still = rowed-none k b q; inside = h; below = λ p x. refl; above = λ p x. refl; size = refl }
 
 -- a word next to the stretch
-pub wrote-more : {k lo hi : ℕ} {b₀ b b' : List ℤ} {f : ℕ → ℕ} (lo' hi' q x : ℕ) → k < 20 → Wrote k b₀ b lo hi f
+pub wrote-more : {k lo hi : ℕ} {b₀ b b' : List ℤ} {f : ℕ → ℕ} (lo' hi' q x : ℕ) → k < 21 → Wrote k b₀ b lo hi f
     → Rowed k b b' (set (row (rowsOf b) k) q x) → q < length (row (rowsOf b₀) k) → x ≡ f q → lo ≤ q + 1 → q ≤ hi
     → lo' ≡ min lo q → hi' ≡ max hi (q + 1) → Wrote k b₀ b' lo' hi' f
 wrote-more {k} {lo} {hi} {b₀} {b} {b'} {f} lo' hi' q x h a r j e u v y z =

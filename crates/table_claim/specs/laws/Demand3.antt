@@ -25,6 +25,7 @@ use Rattle.table_claim.specs.PrintedTheorems.{printed-on-graph, printed-
 use Rattle.table_claim.specs.laws.EveryRun.{first-state, first-whole, list-answer, last-history}
 use Rattle.table_claim.specs.laws.Lent.{lent-formed, lent-carries, lent-natural, lent-feasible, lent-table, lent-tables-tell-carried}
 use Rattle.table_claim.specs.laws.Hosted.{host-steps, told-done, done-told, host-reports, lentOf}
+use Rattle.table_claim.specs.laws.Plain.{plain-at}
 use Rattle.table_claim.specs.laws.Tables.{history-formed, history-feasible, history-natural}
 use Rattle.table_claim.specs.laws.Program.{program-writes, program-tables-tell}
 
@@ -56,7 +57,7 @@ module _ (v : ℕ) (edges : List Edge) (virtuals : List ℕ) where
     after-lent r h = record {
       answer = λ t list list' a p. list-answer r 2 t list list' _ a p;
       table = lent-table virtuals same r h (g .positive);
-      worked-out = worked-out (lentHistory r) (lent-formed virtuals same r) (lent-feasible virtuals same r h (g .positive)) (lent-natural virtuals same r h);
+      worked-out = worked-out (lentHistory r) (lent-formed virtuals same r h) (lent-feasible virtuals same r h (g .positive)) (lent-natural virtuals same r h);
       carries = lent-carries virtuals same r h;
       told = last-history r;
     }
@@ -109,8 +110,8 @@ claimed v edges virtuals g = record {
   equal-exported = equal-hosted g;
   printed-table = λ t x. (
     printed-on-graph (g .positive) t (x .on) (x .is-open),
-    worked-out v edges virtuals (historyAt t) (history-formed (t .before) (x .on) (x .is-open))
-        (history-feasible (t .before) (x .on) (x .is-open) (g .positive)) (history-natural (t .before) (x .on) (x .is-open)),
+    worked-out v edges virtuals (historyAt t) (history-formed (t .before) (x .on) (plain-at t (x .is-open)))
+        (history-feasible (t .before) (x .on) (plain-at t (x .is-open)) (g .positive)) (history-natural (t .before) (x .on) (plain-at t (x .is-open))),
   );
   printed-growths = λ t x. printed-growths-are-from-distances (g .positive) t (x .on) (x .is-open);
   equal-printed = λ t u x y. printed-tables-equal-exactly-when-duals-are (g .positive) (g .reach) t u (x .on) (y .on) (x .is-open) (y .is-open);

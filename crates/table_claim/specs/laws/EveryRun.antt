@@ -11,7 +11,7 @@ use Rattle.graph.specs.Word.{toNat}
 use Rattle.graph.specs.Basic.{below}
 use Rattle.graph.specs.State.{State, vertexCount, edgeCount, up}
 use Rattle.graph.specs.Open.{Edge, flagIn, graphOf, blankState, opened, openRefusal}
-use Rattle.graph.specs.Opening.{fits, openedWords}
+use Rattle.graph.specs.Opening.{fits, openedWords, edgesFrom}
 use Rattle.graph.specs.Layout.{stateOf, sized, blockSound, memoryRefusal, listRefusal}
 use Rattle.graph.specs.Form.{Formed}
 use Rattle.graph.specs.laws.Members.{by-test, clash, length-below}
@@ -33,14 +33,14 @@ use Rattle.reachable.specs.laws.past.Calls.{opened-past}
 use Rattle.distance.specs.Table.{tableFromDistances}
 use Rattle.distance.specs.Feasible.{Feasible}
 use Rattle.distance.specs.Nearest.{ReachesVirtual}
-use Rattle.opened_graph.specs.OpenedGraph.{openedGraph, SameVertices, PositiveWeights}
+use Rattle.opened_graph.specs.OpenedGraph.{openedGraph, withWeights, SameVertices, PositiveWeights}
 use Rattle.table_theorem.specs.Answers.{accepted as isAccepted, isDone}
 use Rattle.table_theorem.specs.History.{History, dualAt, dualsOf, recorded, historyFrom}
 use Rattle.table_theorem.specs.Runs.{Run, end, SameNodes}
 use Rattle.table_theorem.specs.laws.Append.{history-append}
 use Rattle.table_theorem.specs.laws.Runs.{end-matches, end-table, end-feasible, tables-tell-duals}
-use Rattle.table_claim.specs.Lent.{LentCall, lentOpen, lentDefect, lentBlossom, lentState, lentPrepare, lentLength, lentGrow, lentTable, lentAdvance, lentContacts, lentVertex, lentClear, lentRenew, lentPrepareAll, lentGroup, lentRound, lentRemove, Returned, Exchange, lentSheet, lentNode, lentGap}
-use Rattle.table_claim.specs.Run.{Sizes, scratchFits, listFits, callsOf, fedOne, fed, orRefused, returned, returnedFrom, answerIn, recordedBy, historyBy, LentRun, runSizes, runStart, runCalls, lentHistory, WithoutBlossoms, trialFits, groupFits}
+use Rattle.table_claim.specs.Lent.{LentCall, lentOpen, lentDefect, lentBlossom, lentState, lentPrepare, lentLength, lentGrow, lentTable, lentAdvance, lentContacts, lentVertex, lentClear, lentRenew, lentPrepareAll, lentGroup, lentRound, lentRemove, Returned, Exchange, lentSheet, lentNode, lentGap, lentWeights}
+use Rattle.table_claim.specs.Run.{Sizes, scratchFits, listFits, callsOf, fedOne, fed, orRefused, returned, returnedFrom, answerIn, recordedBy, historyBy, LentRun, runSizes, runStart, runCalls, lentHistory, WithoutBlossoms, trialFits, groupFits, pairsFit}
 use Rattle.table_claim.specs.laws.Steps.{Whole, whole-sound, memory-fits, list-fits, Follows, follows-whole, steps-follow, steps-return}
 
 -- ---- lists
@@ -71,6 +71,7 @@ one-recorded z c h (lentDefect t v x) = by-test (scratchFits z t) (λ e. rw e re
 one-recorded z c h (lentBlossom t x circle) = by-test (scratchFits z t) (λ e. rw e refl) (λ e. rw e refl)
 one-recorded z c h (lentState t n x) = by-test (scratchFits z t) (λ e. rw e refl) (λ e. rw (recorded-refused e _ .0, e) refl)
 one-recorded z c h (lentPrepare t n d) = by-test (scratchFits z t) (λ e. rw e refl) (λ e. rw e refl)
+one-recorded z c h (lentWeights t pairs) = by-test (pairsFit z t pairs) (λ e. rw e refl) (λ e. rw e refl)
 one-recorded z c h (lentRemove t n) = by-test (scratchFits z t) (λ e. rw e refl) (λ e. rw e refl)
 one-recorded z c h (lentNode t n) = refl
 one-recorded z c h (lentGap t e) = refl
@@ -102,26 +103,30 @@ answers-history z c h (x ∷ xs) e =
 -- ---- the opening
 
 module _ {v : ℕ} {edges : List Edge} {virtuals : List ℕ} (r : LentRun v edges virtuals) where
+  -- the edges as they are opened
+  abbrev given : List Edge
+  given = edgesFrom (r .edgeWords)
+
   abbrev pub fit : Bool
   fit = fits (r .before) (r .scratch) v (r .edgeNumber) (r .nodeLimit) (r .storeLimit)
 
-  pub opening-accepted : openRefusal v (r .edgeNumber) (r .nodeLimit) (r .storeLimit) edges virtuals fit ≡ 0
-  opening-accepted = rw (r .edges-are, r .virtuals-are) at (sym (r .opening-is .0))
+  pub opening-accepted : openRefusal v (r .edgeNumber) (r .nodeLimit) (r .storeLimit) given virtuals fit ≡ 0
+  opening-accepted = rw (r .virtuals-are) at (sym (r .opening-is .0))
 
-  passed : OpeningAccepted v (r .edgeNumber) (r .nodeLimit) (r .storeLimit) edges virtuals fit
-  passed = accepted v (r .edgeNumber) (r .nodeLimit) (r .storeLimit) edges virtuals fit opening-accepted
+  passed : OpeningAccepted v (r .edgeNumber) (r .nodeLimit) (r .storeLimit) given virtuals fit
+  passed = accepted v (r .edgeNumber) (r .nodeLimit) (r .storeLimit) given virtuals fit opening-accepted
 
-  first-words : r .first ≡ map pos (openedWords v (r .edgeNumber) (r .nodeLimit) (r .storeLimit) edges virtuals)
+  first-words : r .first ≡ map pos (openedWords v (r .edgeNumber) (r .nodeLimit) (r .storeLimit) given virtuals)
   first-words =
-      rw (r .edges-are, r .virtuals-are) at (r .opening-is .1)
-      ∙ opened-block v (r .edgeNumber) (r .nodeLimit) (r .storeLimit) edges virtuals fit (r .before) opening-accepted
+      rw (r .virtuals-are) at (r .opening-is .1)
+      ∙ opened-block v (r .edgeNumber) (r .nodeLimit) (r .storeLimit) given virtuals fit (r .before) opening-accepted
 
-  pub first-state : stateOf (r .first) ≡ opened v (r .nodeLimit) (r .storeLimit) edges virtuals
-  first-state = ap stateOf first-words ∙ opened-state v (r .edgeNumber) (r .nodeLimit) (r .storeLimit) edges virtuals fit passed
+  pub first-state : stateOf (r .first) ≡ opened v (r .nodeLimit) (r .storeLimit) given virtuals
+  first-state = ap stateOf first-words ∙ opened-state v (r .edgeNumber) (r .nodeLimit) (r .storeLimit) given virtuals fit passed
 
   opened-edges : edgeCount (runStart r) ≡ r .edgeNumber
   unfolding opened blankState graphOf
-  opened-edges = length-map edges (λ (e : Edge). e .weight) ∙ passed .count
+  opened-edges = length-map given (λ (e : Edge). e .weight) ∙ passed .count
 
   opened-vertices : vertexCount (runStart r) ≡ v
   unfolding opened blankState graphOf
@@ -129,15 +134,15 @@ module _ {v : ℕ} {edges : List Edge} {virtuals : List ℕ} (r : LentRun v edge
 
   pub first-whole : Whole (runSizes r) (r .first)
   first-whole = record {
-    formed = subst Formed (sym first-words) (opened-formed v (r .edgeNumber) (r .nodeLimit) (r .storeLimit) edges virtuals fit passed);
+    formed = subst Formed (sym first-words) (opened-formed v (r .edgeNumber) (r .nodeLimit) (r .storeLimit) given virtuals fit passed);
     log = λ n. runStart r;
     good =
         subst (PastInvariant (λ n. runStart r)) (sym first-state)
-        (opened-past v (r .edgeNumber) (r .nodeLimit) (r .storeLimit) edges virtuals fit opening-accepted);
+        (opened-past v (r .edgeNumber) (r .nodeLimit) (r .storeLimit) given virtuals fit opening-accepted);
     vertices-are = ap (λ (c : State). vertexCount c) first-state ∙ opened-vertices;
     edges-are = ap (λ (c : State). edgeCount c) first-state ∙ opened-edges;
     nodes-are = ap (λ (c : State). c .nodeLimit) first-state ∙ unfold opened blankState in refl;
-    size = ap length first-words ∙ opened-length v (r .edgeNumber) (r .nodeLimit) (r .storeLimit) edges virtuals fit passed;
+    size = ap length first-words ∙ opened-length v (r .edgeNumber) (r .nodeLimit) (r .storeLimit) given virtuals fit passed;
   }
 
   -- ---- the last block
@@ -184,9 +189,11 @@ module _ {v : ℕ} {edges : List Edge} {virtuals : List ℕ} (r : LentRun v edge
           nodeLimit = r .nodeLimit;
           storeLimit = r .storeLimit;
           fits = fit;
+          given = given;
           opening = opening-accepted;
           calls = runCalls r;
           withoutBlossoms = h;
+          present = ap (λ (c : State). withWeights given (c .graph .weight)) (sym last-state) ∙ r .present;
         }
 
     -- a growing length that is told is that of the definitions

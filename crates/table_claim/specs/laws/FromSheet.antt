@@ -5,6 +5,9 @@ use mathlib.Core.Path.{_≡_, refl}
 use mathlib.Core.List.{List, [], _∷_}
 use lib.IntN.{ℤ}
 use lib.ListN.{drop, getD}
+use Rattle.graph.specs.Open.{Edge}
+use Rattle.graph.specs.Layout.{stateOf}
+use Rattle.opened_graph.specs.OpenedGraph.{withWeights}
 use Rattle.graph.specs.Opening.{edgesFrom, virtualsFrom, OpenCalled}
 use Rattle.c_api.specs.Words.{answerNumbers, openAnswer, Tells}
 use Rattle.c_api.specs.Told.{OpenTold}
@@ -39,8 +42,9 @@ opening-tells b t v e n l edges virtuals b' p = told-all (omega arith) 0 p (reco
 
 -- The run of exported calls behind an accepted opening: behind fb_open, with a list of five words for its answer.
 abbrev pub host-run-from : (b t : List ℤ) (v e n l : ℕ) (edges virtuals : List ℤ) {b₁ b₂ : List ℤ} {xs : List HostExchange}
-    → OpenCalled b t v e n l edges virtuals b₁ 0 → HostSteps b₁ xs b₂ → HostRun v (edgesFrom edges) (virtualsFrom virtuals)
-host-run-from b t v e n l edges virtuals {b₁} {b₂} {xs} p q = record {
+    → OpenCalled b t v e n l edges virtuals b₁ 0 → HostSteps b₁ xs b₂
+    → {standing : List Edge} → withWeights (edgesFrom edges) (stateOf b₂ .graph .weight) ≡ standing → HostRun v standing (virtualsFrom virtuals)
+host-run-from b t v e n l edges virtuals {b₁} {b₂} {xs} p q w = record {
   edgeNumber = e;
   nodeLimit = n;
   storeLimit = l;
@@ -48,7 +52,6 @@ host-run-from b t v e n l edges virtuals {b₁} {b₂} {xs} p q = record {
   scratch = t;
   edgeWords = edges;
   virtualWords = virtuals;
-  edges-are = refl;
   virtuals-are = refl;
   first = b₁;
   answer = five;
@@ -59,4 +62,5 @@ host-run-from b t v e n l edges virtuals {b₁} {b₂} {xs} p q = record {
   exchanges = xs;
   last = b₂;
   steps = q;
+  present = w;
 }

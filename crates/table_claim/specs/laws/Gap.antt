@@ -10,6 +10,7 @@ use lib.ListN.{length, getD}
 use borrow.Author.Tests.{leb-false}
 use Rattle.graph.specs.State.{State, edgeCount}
 use Rattle.graph.specs.Open.{Edge}
+use Rattle.graph.specs.Opening.{edgesFrom}
 use Rattle.graph.specs.Layout.{stateOf, memoryRefusal}
 use Rattle.graph.specs.laws.Members.{by-test, clash}
 use Rattle.gap.specs.declared.Gap.{Gap}
@@ -52,7 +53,7 @@ module _ {v : ℕ} {edges : List Edge} {virtuals : List ℕ} (r : LentRun v edge
     edgeNumber = r .edgeNumber;
     nodes = r .nodeLimit;
     store = r .storeLimit;
-    edges = edges;
+    edges = edgesFrom (r .edgeWords);
     virtuals = virtuals;
     fits = fit r;
     accepted-opening = opening-accepted r;

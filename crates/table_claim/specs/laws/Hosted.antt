@@ -16,10 +16,10 @@ use Rattle.update_length.specs.declared.Answer.the-variants.{NonZeroGrow, Unlim
 use Rattle.c_api.specs.Words.{answerNumbers, openAnswer, openNumbers, shortList, shortCount, Tells, Told}
 use Rattle.table_theorem.specs.Answers.{isDone}
 use Rattle.reachable.specs.Reachable.{after}
-use Rattle.table_claim.specs.Lent.{LentCall, Returned, opening, returns, returnsList, returnsCount, Exchange, Step, open-refused, insert-defect, insert-blossom, set-grow-state, prepare, max-update-length, grow, read-table, advance, contacts, representative-vertex, clear, Steps, none, next, lentSheet, openingSheet, sheet-refused, renew-active-list, prepare-all, group-length, round, remove-blossom, returnsGroup, read-node, returnsNode, edge-gap, returnsGap}
+use Rattle.table_claim.specs.Lent.{LentCall, Returned, opening, returns, returnsList, returnsCount, Exchange, Step, open-refused, insert-defect, insert-blossom, set-grow-state, prepare, max-update-length, grow, read-table, advance, contacts, representative-vertex, clear, Steps, none, next, lentSheet, openingSheet, sheet-refused, renew-active-list, prepare-all, group-length, round, remove-blossom, returnsGroup, read-node, returnsNode, edge-gap, returnsGap, load-edge-modifier}
 use Rattle.table_claim.specs.Run.{Sizes, callsOf, fedOne, returned, LentRun}
 use Rattle.table_claim.specs.Hosted
-use Rattle.table_claim.specs.Hosted.{SaysDone, Reported, HostStep, fb-open, fb-insert-defect, fb-insert-blossom, fb-set-grow-state, fb-prepare, fb-max-update-length, fb-grow, fb-advance, fb-clear, fb-representative-vertex, fb-read-table, fb-contacts, HostExchange, HostSteps, no-more, one-more, hasRoom, made, numbersIn, wordsIn, lentWords, reported, reportedFrom, HostRun, SaysOpened, fb-open-sheet, fb-renew-active-list, fb-prepare-all, fb-grow-all, fb-remove-blossom, fb-group-max-update-length, fb-read-node, fb-gap}
+use Rattle.table_claim.specs.Hosted.{SaysDone, Reported, HostStep, fb-open, fb-insert-defect, fb-insert-blossom, fb-set-grow-state, fb-prepare, fb-max-update-length, fb-grow, fb-advance, fb-clear, fb-representative-vertex, fb-read-table, fb-contacts, HostExchange, HostSteps, no-more, one-more, hasRoom, made, numbersIn, wordsIn, lentWords, reported, reportedFrom, HostRun, SaysOpened, fb-open-sheet, fb-renew-active-list, fb-prepare-all, fb-grow-all, fb-remove-blossom, fb-group-max-update-length, fb-read-node, fb-gap, fb-load-edge-modifier}
 use Rattle.table_claim.specs.laws.Steps.{Whole, Follows, step-follows, step-returns, follows-whole}
 use Rattle.sheet.specs.declared.SheetOpened.{SheetOpened}
 use Rattle.sheet.specs.declared.SheetOpened.the-variants.{Opened, Refused as SheetRefused}
@@ -136,6 +136,8 @@ host-made (fb-renew-active-list p) r =
     let s = p .told r in
     record { got = returns (s .answer); step = renew-active-list (s .says); tells = s .tells; words = refl }
 host-made (fb-prepare-all p) r = let s = p .told r in record { got = returns (s .answer); step = prepare-all (s .says); tells = s .tells; words = refl }
+host-made (fb-load-edge-modifier p) r = let s = p .told r in
+    record { got = returns (s .answer); step = load-edge-modifier (s .says); tells = s .tells; words = refl }
 host-made (fb-remove-blossom p) r = let s = p .told r in record { got = returns (s .answer); step = remove-blossom (s .says); tells = s .tells; words = refl }
 host-made (fb-read-node p) r =
     let s = p .told r in
@@ -163,6 +165,7 @@ host-kept (fb-contacts p) r = let s = p .short r in record { block = refl; told 
 host-kept (fb-open-sheet p n) r = let s = p .short r in record { block = s .2 .0; told = s .1; count = s .0; words = s .2 .1 }
 host-kept (fb-renew-active-list p) r = let s = p .short r in record { block = s .2; told = s .1; count = s .0; words = refl }
 host-kept (fb-prepare-all p) r = let s = p .short r in record { block = s .2 .0; told = s .1; count = s .0; words = refl }
+host-kept (fb-load-edge-modifier p) r = let s = p .short r in record { block = s .2; told = s .1; count = s .0; words = refl }
 host-kept (fb-remove-blossom p) r = let s = p .short r in record { block = s .2 .0; told = s .1; count = s .0; words = refl }
 host-kept (fb-read-node p) r = let s = p .short r in record { block = refl; told = s .1; count = s .0; words = refl }
 host-kept (fb-gap p) r = let s = p .short r in record { block = refl; told = s .1; count = s .0; words = refl }
@@ -232,11 +235,11 @@ lentOf r = record {
   scratch = r .scratch;
   edgeWords = r .edgeWords;
   virtualWords = r .virtualWords;
-  edges-are = r .edges-are;
   virtuals-are = r .virtuals-are;
   first = r .first;
   opening-is = opened-done _ (r .opening-is) (r .done);
   exchanges = host-steps (r .steps) .exchanges;
   last = r .last;
   steps = host-steps (r .steps) .steps;
+  present = r .present;
 }

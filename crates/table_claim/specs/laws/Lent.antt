@@ -4,8 +4,7 @@ use mathlib.Core.Path.{_≡_, refl, sym, ap, _∙_}
 use mathlib.Core.Logic.{_↔_}
 use mathlib.Core.List.{List, map}
 use lib.IntN.{ℤ, pos}
-use Rattle.graph.specs.Open.{Edge, openRefusal}
-use Rattle.graph.specs.Opening.{fits}
+use Rattle.graph.specs.Open.{Edge}
 use Rattle.graph.specs.Layout.{stateOf}
 use Rattle.update_length.specs.declared.Answer.the-variants.{Done}
 use Rattle.dual_module_read.specs.Read.{TableRead}
@@ -15,24 +14,22 @@ use Rattle.distance.specs.Feasible.{Feasible}
 use Rattle.distance.specs.Nearest.{ReachesVirtual}
 use Rattle.opened_graph.specs.OpenedGraph.{openedGraph, SameVertices, PositiveWeights}
 use Rattle.opened_graph.specs.laws.Opening.{one-graph, well-formed}
+use Rattle.table_theorem.specs.laws.Runs.{present-opening}
 use Rattle.table_theorem.specs.History.{dualAt, natural, dualsOf}
 use Rattle.table_claim.specs.Run.{LentRun, lentHistory, WithoutBlossoms}
-use Rattle.table_claim.specs.laws.EveryRun.{last-nodes, last-feasible, last-table, tables-read-tell}
+use Rattle.table_claim.specs.laws.EveryRun.{asRun, last-nodes, last-feasible, last-table, tables-read-tell}
 use Rattle.table_claim.specs.Carried.{carried}
 use Rattle.table_claim.specs.laws.Carried.{carried-is}
 
 module _ {v : ℕ} {edges : List Edge} (virtuals : List ℕ) {others : List ℕ} (same : SameVertices v virtuals others) (r : LentRun v edges others) where
-  opening-accepted : openRefusal v (r .edgeNumber) (r .nodeLimit) (r .storeLimit) edges others
-      (fits (r .before) (r .scratch) v (r .edgeNumber) (r .nodeLimit) (r .storeLimit))
-      ≡ 0
-  opening-accepted = rw (r .edges-are, r .virtuals-are) at (sym (r .opening-is .0))
-
-  pub lent-formed : WellFormed (openedGraph v edges virtuals)
-  lent-formed = rw (one-graph v edges virtuals others same) (well-formed v edges others (r .edgeNumber) (r .nodeLimit) (r .storeLimit) _ opening-accepted)
-
   module _ (h : WithoutBlossoms r) where
     pub lent-carries : (a : ℕ) → pos (carried (stateOf (r .last)) a) ≡ dualAt (lentHistory r) a
     lent-carries = carried-is (stateOf (r .last)) (lentHistory r) (last-nodes r h)
+
+    pub lent-formed : WellFormed (openedGraph v edges virtuals)
+    lent-formed =
+        rw (one-graph v edges virtuals others same)
+        (well-formed v edges others (r .edgeNumber) (r .nodeLimit) (r .storeLimit) _ (present-opening (asRun r h)))
 
     pub lent-natural : (a : ℕ) → dualAt (lentHistory r) a ≡ pos (natural (dualAt (lentHistory r) a))
     unfolding natural

@@ -45,9 +45,9 @@ dualTold (Blossom m x p y) = y
 dualTold (Refused k) = 0
 
 -- of a state that matches its history
-matching-read : (q : Graph) (c : State) (h : History) → Matches q c h → (n : ℕ) → readNode c n ≡ recordedNode h n
+matching-read : (c : State) (h : History) → Matches c h → (n : ℕ) → readNode c n ≡ recordedNode h n
 unfolding readNode nodeTold recordedNode badNode isRemoved natural
-matching-read q c h m n =
+matching-read c h m n =
     elim (decLt n (nodeCount c)) [
       | yes b ↦
           let a = m .nodes .agrees n b in
@@ -57,16 +57,15 @@ matching-read q c h m n =
     ]
 
 module _ {v : ℕ} {edges : List Edge} {virtuals : List ℕ} (r : LentRun v edges virtuals) (h : WithoutBlossoms r) where
-  last-matches : Matches (graphOf v edges virtuals) (stateOf (r .last)) (lentHistory r)
-  last-matches =
-      subst (λ c. Matches (graphOf v edges virtuals) c (lentHistory r)) (sym (last-state r)) (end-matches (asRun r h))
+  last-matches : Matches (stateOf (r .last)) (lentHistory r)
+  last-matches = subst (λ c. Matches c (lentHistory r)) (sym (last-state r)) (end-matches (asRun r h))
 
   pub node-recorded : (t : List ℤ) (n : ℕ) (a : NodeRead) → ReadNodeCalled (r .last) t n a
       → a ≡ (if scratchFits (runSizes r) t then recordedNode (lentHistory r) n else Refused 1)
   node-recorded t n a p =
       node-answered (scratchFits (runSizes r) t) (stateOf (r .last)) n (memory-fits (last-whole r) t) p
       ∙ ap (λ x. if scratchFits (runSizes r) t then x else Refused 1)
-      (matching-read (graphOf v edges virtuals) (stateOf (r .last)) (lentHistory r) last-matches n)
+      (matching-read (stateOf (r .last)) (lentHistory r) last-matches n)
 
   pub dual-recorded : (t : List ℤ) (n vertex x p y : ℕ) → ReadNodeCalled (r .last) t n (Defect vertex x p y)
       → pos y ≡ entryAt (lentHistory r) n .y

@@ -19,6 +19,7 @@ use Rattle.table_claim.specs.Tables.{OnGraph, historyBehind, OpenAfter, 
 use Rattle.table_claim.specs.Reading.{growthsIn, textLines}
 use Rattle.table_claim.specs.Program.{Taken, none-taken, one-taken, said, TableWritten}
 use Rattle.table_claim.specs.laws.Reading.{table-lines}
+use Rattle.table_claim.specs.laws.Plain.{plain-said}
 use Rattle.table_claim.specs.laws.Tables.{told-from-distances, told-growths-tell}
 
 taken-stands : {k : ℕ} {m m' : Memory} {bodies : List (List ℕ)} → Taken k m bodies m' → (s : Stage) → Stands m s → Stands m' (stageFrom k s (said bodies))
@@ -46,12 +47,13 @@ module _ {bodies : List (List ℕ)} {out : List ℕ} (w : TableWritten bodies ou
 
     pub program-writes : out ≡ joinedLines (edgeLines (length bodies + 1) 0 rows)
     program-writes =
-        program-lines ∙ ap joinedLines (told-from-distances (said bodies) g o positive ∙ ap (λ (n : ℕ). edgeLines (n + 1) 0 rows) (length-map bodies decoded))
+        program-lines ∙ ap joinedLines (told-from-distances (said bodies) g (plain-said bodies o) positive
+        ∙ ap (λ (n : ℕ). edgeLines (n + 1) 0 rows) (length-map bodies decoded))
 
     -- the growths are read back from the bytes
     pub program-growths : growthsIn (textLines out) ≡ growthsIn (tableLines (said bodies))
     program-growths =
-        let t = told-from-distances (said bodies) g o positive in
+        let t = told-from-distances (said bodies) g (plain-said bodies o) positive in
         ap growthsIn (ap textLines (program-lines ∙ ap joinedLines t) ∙ table-lines (length (said bodies) + 1) 0 rows ∙ sym t)
 
 module _ {v : ℕ} {edges : List Edge} {virtuals : List ℕ} (positive : PositiveWeights edges)
@@ -63,5 +65,5 @@ module _ {v : ℕ} {edges : List Edge} {virtuals : List ℕ} (positive : Positiv
   program-tables-tell w k g h o u =
       let x = program-growths w positive g o in
       let y = program-growths k positive h u in
-      let tell = told-growths-tell positive reach (said bodies) (said others) g h o u in
+      let tell = told-growths-tell positive reach (said bodies) (said others) g h (plain-said bodies o) (plain-said others u) in
       (λ z. tell .0 (sym x ∙ z ∙ y), λ z. x ∙ tell .1 z ∙ sym y)

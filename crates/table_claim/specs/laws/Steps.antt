@@ -1,5 +1,5 @@
 -- What a list of steps leaves and returns: in a block in form the state that the definitions give for the calls that they were asked, and their answers.
-use Prim.Native.Nat.{ℕ}
+use Prim.Native.Nat.{ℕ, _%_}
 use mathlib.Core.Path.{_≡_, refl, sym, ap, subst, _∙_}
 use mathlib.Core.Logic.{_⊎_, inl, inr, ⊎-elim}
 use mathlib.Core.Bool.{Bool, true, false}
@@ -19,7 +19,7 @@ use Rattle.update_length.specs.declared.Answer.{Answer}
 use Rattle.update_length.specs.declared.Answer.the-variants.{Done}
 use Rattle.update_length.specs.Answer.{Reply, says}
 use Rattle.calls.specs.Refuse.{unless}
-use Rattle.calls.specs.Calls.{Call, InsertDefect, InsertBlossom, SetGrowState, Prepare, MaxUpdateLength, Grow, ReadTable, Advance, Contacts, RepresentativeVertex, Clear, respond, response, contacts as contactsOf, representativeVertex, RenewActiveList, PrepareAll, GroupLength, Round, RemoveBlossom}
+use Rattle.calls.specs.Calls.{Call, InsertDefect, InsertBlossom, SetGrowState, Prepare, MaxUpdateLength, Grow, ReadTable, Advance, Contacts, RepresentativeVertex, Clear, respond, response, contacts as contactsOf, representativeVertex, RenewActiveList, PrepareAll, GroupLength, Round, RemoveBlossom, LoadEdgeModifier}
 use Rattle.dual_module.specs.Called.{Called}
 use Rattle.dual_module_read.specs.Read.{ListRead}
 use Rattle.reachable.specs.Reachable.{after}
@@ -28,10 +28,15 @@ use Rattle.reachable.specs.Past.{PastInvariant}
 use Rattle.reachable.specs.laws.state.Live.{invariant-sound}
 use Rattle.reachable.specs.laws.past.Calls.{after-past}
 use Rattle.reachable.specs.Opening.{afterLog}
-use Rattle.table_theorem.specs.laws.Kept.{Fixed, fixedOf, call-fixed}
+use Rattle.table_theorem.specs.laws.Kept.{Wiring, calls-wired}
+use Rattle.graph.specs.laws.Form.{formed-shape}
+use Rattle.graph.specs.laws.Members.{by-test}
+use Rattle.opened_graph.specs.OpenedGraph.{withWeights}
+use Rattle.calls.specs.Erasures.{pairsFrom}
+use Rattle.dual_module_modifier.specs.Called.{pairsRefusal}
 use Rattle.table_theorem.specs.laws.Append.{after-append}
-use Rattle.table_claim.specs.Lent.{LentCall, lentOpen, Step, open-refused, insert-defect, insert-blossom, set-grow-state, prepare, max-update-length, grow, read-table, advance, contacts, representative-vertex, clear, Returned, opening, returns, Exchange, Steps, none, next, AnySteps, no-call, one-call, one-opening, lentSheet, sheet-refused, openingSheet, one-sheet, renew-active-list, prepare-all, group-length, round, remove-blossom, read-node, returnsNode, edge-gap, returnsGap}
-use Rattle.table_claim.specs.Run.{Sizes, scratchFits, listFits, callsOf, ifFits, fedOne, fed, orRefused, returned, returnedFrom, SinceOpening, lentRunFrom, Begins, with-open, with-sheet, trialFits, groupFits}
+use Rattle.table_claim.specs.Lent.{LentCall, lentOpen, Step, open-refused, insert-defect, insert-blossom, set-grow-state, prepare, max-update-length, grow, read-table, advance, contacts, representative-vertex, clear, Returned, opening, returns, Exchange, Steps, none, next, AnySteps, no-call, one-call, one-opening, lentSheet, sheet-refused, openingSheet, one-sheet, renew-active-list, prepare-all, group-length, round, remove-blossom, read-node, returnsNode, edge-gap, returnsGap, load-edge-modifier}
+use Rattle.table_claim.specs.Run.{Sizes, scratchFits, listFits, callsOf, ifFits, fedOne, fed, orRefused, returned, returnedFrom, SinceOpening, lentRunFrom, Begins, with-open, with-sheet, trialFits, groupFits, pairsFit}
 use Rattle.sheet.specs.declared.SheetOpened.the-variants.{Opened}
 use Rattle.sheet.specs.Theorems.{refused-leaves-all, sheet-opens}
 use Rattle.calls.specs.declared.group.GroupMaxUpdateLength.{GroupMaxUpdateLength as Group}
@@ -46,11 +51,6 @@ use Rattle.dual_module_gap.specs.GapRead.{gapTold}
 use Rattle.table_claim.specs.laws.Rounds.{Ends, trial-ends, round-ends, group-answers, group-kept}
 
 -- ---- lists of calls
-
-after-fixed : (c : State) (ks : List Call) → fixedOf (after c ks) ≡ fixedOf c
-unfolding after
-after-fixed c [] = refl
-after-fixed c (k ∷ ks) = after-fixed (respond c k .state) ks ∙ call-fixed c k
 
 -- ---- a block between two calls
 
@@ -74,6 +74,10 @@ module _ {z : Sizes} {b : List ℤ} (w : Whole z b) where
 
   pub list-fits : (t list : List ℤ) (m : ℕ) → listRefusal b t (length list) m ≡ (if listFits z m t list then 0 else 1)
   list-fits t list m = rw (w .vertices-are, w .edges-are) at (list-by-length b t (length list) m (w .formed) whole-sound)
+
+  pub pairs-fit : (t pairs : List ℤ) → pairsRefusal b t (length pairs) ≡ (if pairsFit z t pairs then 0 else 1)
+  unfolding pairsRefusal
+  pairs-fit t pairs = by-test (eqb (length pairs % 2) 0) (λ e. rw e (memory-fits t)) (λ e. rw e refl)
 
   edges-of : eOf b ≡ z .edges
   unfolding Laid
@@ -172,6 +176,8 @@ step-follows {z} w (renew-active-list p) = called-follows w true (alone-fits w) 
 step-follows {z} w (remove-blossom {t} {n = n} p) = called-follows w (scratchFits z t) (memory-fits w t) (p .block) (RemoveBlossom n) refl
 step-follows {z} w (read-node p) = unchanged-follows w refl
 step-follows {z} w (edge-gap p) = unchanged-follows w refl
+step-follows {z} w (load-edge-modifier {t} {pairs} p) =
+    called-follows w (pairsFit z t pairs) (pairs-fit w t pairs) p (LoadEdgeModifier (pairsFrom pairs)) refl
 step-follows {z} w (prepare-all {s} {t} p) = ends-follows w (trialFits z s t) (trial-ends (trialFits z s t) (trial-fits w s t) p) PrepareAll refl
 step-follows {z} w (group-length {s} {t} {entries = entries} p) = group-follows w (groupFits z s t entries) (group-fits w s t entries) p
 step-follows {z} w (round {s} {t} {l = l} p) = ends-follows w (trialFits z s t) (round-ends l (trialFits z s t) (w .formed) (trial-fits w s t) p) (Round l) refl
@@ -231,6 +237,7 @@ step-returns {z} {b} w (read-node {t} {n} p) =
     ap returnsNode (node-answered (scratchFits z t) (stateOf b) n (memory-fits w t) p)
 step-returns {z} {b} w (edge-gap {t} {e} p) =
     ap returnsGap (gap-answered (scratchFits z t) (gapTold (stateOf b) e) (memory-fits w t) p)
+step-returns {z} w (load-edge-modifier {t} {pairs} p) = ap returns (called-answered (pairsFit z t pairs) (pairs-fit w t pairs) p)
 step-returns {z} {b} w (prepare-all {s} {t} p) =
     ap returns (read-answered (trialFits z s t) (stateOf b) (prepareAll (stateOf b)) (trial-fits w s t) (p .answer))
 step-returns {z} {b} w (group-length {s} {t} {entries = entries} p) =
@@ -245,9 +252,13 @@ follows-whole {z} {b} {b'} {ks} w f = record {
   formed = f .formed;
   log = afterLog (stateOf b) ks (w .log);
   good = subst (PastInvariant (afterLog (stateOf b) ks (w .log))) (sym (f .state)) (after-past (stateOf b) (w .good) ks);
-  vertices-are = ap (λ (c : State). vertexCount c) (f .state) ∙ ap (λ (x : Fixed). length (x .graph .virtual)) (after-fixed (stateOf b) ks) ∙ w .vertices-are;
-  edges-are = ap (λ (c : State). edgeCount c) (f .state) ∙ ap (λ (x : Fixed). length (x .graph .weight)) (after-fixed (stateOf b) ks) ∙ w .edges-are;
-  nodes-are = ap (λ (c : State). c .nodeLimit) (f .state) ∙ ap (λ (x : Fixed). x .nodes) (after-fixed (stateOf b) ks) ∙ w .nodes-are;
+  vertices-are =
+      ap (λ (c : State). vertexCount c) (f .state) ∙ ap (λ (x : Wiring). length (x .virtual)) (calls-wired (stateOf b) ks)
+      ∙ w .vertices-are;
+  edges-are =
+      sym (formed-shape b' (f .formed) .original) ∙ ap (λ (c : State). length (c .graph .original)) (f .state)
+      ∙ ap (λ (x : Wiring). length (x .original)) (calls-wired (stateOf b) ks) ∙ formed-shape b (w .formed) .original ∙ w .edges-are;
+  nodes-are = ap (λ (c : State). c .nodeLimit) (f .state) ∙ ap (λ (x : Wiring). x .nodes) (calls-wired (stateOf b) ks) ∙ w .nodes-are;
   size = f .len ∙ w .size;
 }
 
@@ -278,12 +289,12 @@ steps-return {z} {b} w (next {b₁ = b₁} {k = k} {xs = xs} s ss) =
 -- the run that an accepted opening begins, as the last of the exchanges
 since-it : (b t : List ℤ) (v e n l : ℕ) (edges virtuals : List ℤ) {b₁ b₂ : List ℤ} {xs : List Exchange}
     (p : OpenCalled b t v e n l edges virtuals b₁ 0) (q : Steps b₁ xs b₂)
-    (x : Exchange) → Begins (lentRunFrom b t v e n l edges virtuals p q) x → SinceOpening (x ∷ xs) b₂
-since-it b t v e n l edges virtuals p q x h = record {
+    (x : Exchange) → Begins (lentRunFrom b t v e n l edges virtuals p q refl) x → SinceOpening (x ∷ xs) b₂
+since-it b t v e n l edges virtuals {b₂ = b₂} p q x h = record {
   v = v;
-  edges = edgesFrom edges;
+  edges = withWeights (edgesFrom edges) (stateOf b₂ .graph .weight);
   virtuals = virtualsFrom virtuals;
-  run = lentRunFrom b t v e n l edges virtuals p q;
+  run = lentRunFrom b t v e n l edges virtuals p q refl;
   earlier = [];
   begin = x;
   begins = h;

@@ -33,7 +33,9 @@ use Rattle.table_theorem.specs.Theorems.{table-is-from-distances, duals-are-fea
 use Rattle.table_theorem.specs.laws.Runs.{end-natural}
 use Rattle.table_claim.specs.Input.{callsIn, gatheredWith, graphIn, openedFrom, inOrder, opens, earlier, printed, later}
 use Rattle.table_claim.specs.Reading.{behindSpace, growthsIn, textLines}
-use Rattle.table_claim.specs.Tables.{TableIn, OnGraph, historyBehind, OpenAfter, tableLines, OpenAt, graphAt, historyAt, fitCount, FitsIn, bytesOf}
+use Rattle.table_claim.specs.Tables.{TableIn, OnGraph, historyBehind, PlainAfter, tableLines, OpenAt, graphAt, historyAt, fitCount, FitsIn, bytesOf}
+use Rattle.table_theorem.specs.laws.Kept.{as-opened}
+use Rattle.table_claim.specs.laws.Plain.{plain-at}
 use Rattle.table_claim.specs.laws.Input.{lines-around, call-is-told}
 use Rattle.table_claim.specs.laws.Reading.{growths-read, lines-tell-growths, table-lines}
 use Rattle.table_claim.specs.laws.Fitting.{stands-behind, written-so-far, fitted-front}
@@ -68,7 +70,7 @@ table-length v edges virtuals y = length-tableFromDistances (openedGraph v edges
 
 -- ---- a table that is asked for behind any records
 
-module _ {v : ℕ} {edges : List Edge} {virtuals : List ℕ} (rs : List Record) (g : OnGraph v edges virtuals (graphIn rs)) (o : OpenAfter rs) where
+module _ {v : ℕ} {edges : List Edge} {virtuals : List ℕ} (rs : List Record) (g : OnGraph v edges virtuals (graphIn rs)) (o : PlainAfter rs) where
   start-is : openedFrom (graphIn rs) ≡ opened v (graphIn rs .n) (graphIn rs .l) edges (graphIn rs .virtuals)
   start-is = rw (g .vertices-are, g .edges-are) refl
 
@@ -79,9 +81,11 @@ module _ {v : ℕ} {edges : List Edge} {virtuals : List ℕ} (rs : List Record) 
     nodeLimit = graphIn rs .n;
     storeLimit = graphIn rs .l;
     fits = true;
+    given = edges;
     opening = rw (g .vertices-are, g .edges-are) at (opening-accepted rs (o .is-open));
     calls = callsIn rs;
     withoutBlossoms = rw start-is at (o .blossomless);
+    present = as-opened v (graphIn rs .n) (graphIn rs .l) edges (graphIn rs .virtuals) (callsIn rs) (o .plain);
   }
 
   -- its history is the book
@@ -135,7 +139,7 @@ module _ {v : ℕ} {edges : List Edge} {virtuals : List ℕ} (rs : List Record) 
 
 module _ {v : ℕ} {edges : List Edge} {virtuals : List ℕ} (positive : PositiveWeights edges)
     (reach : (a : ℕ) → a < v → ReachesVirtual (openedGraph v edges virtuals) a)
-    (rs qs : List Record) (g : OnGraph v edges virtuals (graphIn rs)) (h : OnGraph v edges virtuals (graphIn qs)) (o : OpenAfter rs) (p : OpenAfter qs) where
+    (rs qs : List Record) (g : OnGraph v edges virtuals (graphIn rs)) (h : OnGraph v edges virtuals (graphIn qs)) (o : PlainAfter rs) (p : PlainAfter qs) where
   abbrev Same : Type 0
   Same = (a : ℕ) → a < v → dualAt (historyBehind rs) a ≡ dualAt (historyBehind qs) a
 
@@ -175,11 +179,11 @@ module _ {v : ℕ} {edges : List Edge} {virtuals : List ℕ} {b : List ℕ} (t :
     (g : OnGraph v edges virtuals (graphAt t)) (o : OpenAt t) (positive : PositiveWeights edges) where
   pub printed-from-distances : printed t ≡ edgeLines (length (t .before) + 1) 0 (tableFromDistances (openedGraph v edges virtuals) (dualsOf v (historyAt t)))
   unfolding printed tableLines
-  printed-from-distances = told-from-distances (t .before) g o positive
+  printed-from-distances = told-from-distances (t .before) g (plain-at t o) positive
 
   pub growths-printed : growthsIn (printed t) ≡ tableFromDistances (openedGraph v edges virtuals) (dualsOf v (historyAt t))
   unfolding printed tableLines
-  growths-printed = growths-told (t .before) g o positive
+  growths-printed = growths-told (t .before) g (plain-at t o) positive
 
 module _ {v : ℕ} {edges : List Edge} {virtuals : List ℕ} (positive : PositiveWeights edges)
     (reach : (a : ℕ) → a < v → ReachesVirtual (openedGraph v edges virtuals) a)
@@ -187,11 +191,11 @@ module _ {v : ℕ} {edges : List Edge} {virtuals : List ℕ} (positive : Positiv
     (h : OnGraph v edges virtuals (graphAt u)) (o : OpenAt t) (p : OpenAt u) where
   pub printed-growths-tell : (growthsIn (printed t) ≡ growthsIn (printed u)) ↔ ((a : ℕ) → a < v → dualAt (historyAt t) a ≡ dualAt (historyAt u) a)
   unfolding printed tableLines
-  printed-growths-tell = told-growths-tell positive reach (t .before) (u .before) g h o p
+  printed-growths-tell = told-growths-tell positive reach (t .before) (u .before) g h (plain-at t o) (plain-at u p)
 
   pub printed-lines-tell : (map behindSpace (printed t) ≡ map behindSpace (printed u)) ↔ ((a : ℕ) → a < v → dualAt (historyAt t) a ≡ dualAt (historyAt u) a)
   unfolding printed tableLines
-  printed-lines-tell = told-lines-tell positive reach (t .before) (u .before) g h o p
+  printed-lines-tell = told-lines-tell positive reach (t .before) (u .before) g h (plain-at t o) (plain-at u p)
 
 -- ---- written bytes
 

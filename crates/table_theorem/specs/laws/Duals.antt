@@ -11,7 +11,7 @@ use lib.ListN.{length, getD, length-map, List·getD-eq-default}
 use lib.Seq.{ext-getD}
 use borrow.Author.Tests.{eq-eqb, ne-eqb}
 use Rattle.graph.specs.Basic.{below}
-use Rattle.graph.specs.State.{State, Graph as StateGraph, defectVertex, vertexCount, nodeCount, vertexHolderAt, defectAt, classOf, dualOf}
+use Rattle.graph.specs.State.{State, defectVertex, vertexCount, nodeCount, vertexHolderAt, defectAt, classOf, dualOf}
 use Rattle.graph.specs.laws.Members.{by-test, length-below}
 use Rattle.graph.specs.laws.Opened.{getD-tabled}
 use Rattle.reachable.specs.Invariant.{DefectNode, Invariant}
@@ -56,7 +56,7 @@ pub at-duals : (v : ℕ) (h : History) (a : ℕ) → a < v → getD (dualsOf v h
 unfolding dualsOf
 at-duals v h a b = getD-tabled (λ a. natural (dualAt h a)) v a 0 b
 
-module _ (q : StateGraph) (c : State) (h : History) (g : Invariant c) (i : Matches q c h) where
+module _ (c : State) (h : History) (g : Invariant c) (i : Matches c h) where
   root : (n x : ℕ) → n < nodeCount c → classOf c n ≡ defectVertex x → DefectNode c (g .labels) n x
   root n x b e = g .clusters .defect-nodes .defect-node n b (i .outer n b) x e
 

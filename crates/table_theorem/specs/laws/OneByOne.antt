@@ -10,7 +10,7 @@ use lib.ListN.{length}
 use lib.Seq.{ext-getD}
 use borrow.Author.Tests.{eqb-true}
 use Rattle.graph.specs.Basic.{fold}
-use Rattle.graph.specs.State.{State, Graph as StateGraph, NodeClass, defectVertex, blossom, removed, nodeCount, growing, shrinking, up, down}
+use Rattle.graph.specs.State.{State, NodeClass, defectVertex, blossom, removed, nodeCount, growing, shrinking, up, down}
 use Rattle.graph.specs.Active.{renewed, activeIn}
 use Rattle.graph.specs.laws.Members.{by-test, clash}
 use Rattle.update_length.specs.Answer.{Reply, says}
@@ -106,25 +106,24 @@ taken : (c : State) (l : ℕ) → movedAll (suc l) c .refusal ≡ 0 → round c 
 unfolding round tried unless says
 taken c l e = rw e refl
 
-module _ (q : StateGraph) where
-  pub one-history : (c : State) (h k : History) → Matches q c h → Matches q c k → h ≡ k
-  one-history c h k i j =
-      ext-getD noEntry h k (sym (i .nodes .count) ∙ j .nodes .count)
-      (λ n b. let e : nodeCount c ≡ length h = i .nodes .count in
-      let b' : n < nodeCount c = omega arith in
-      entries-agree c h k n (i .nodes .agrees n b') (j .nodes .agrees n b'))
+pub one-history : (c : State) (h k : History) → Matches c h → Matches c k → h ≡ k
+one-history c h k i j =
+    ext-getD noEntry h k (sym (i .nodes .count) ∙ j .nodes .count)
+    (λ n b. let e : nodeCount c ≡ length h = i .nodes .count in
+    let b' : n < nodeCount c = omega arith in
+    entries-agree c h k n (i .nodes .agrees n b') (j .nodes .agrees n b'))
 
-  round-matched : {c : State} {h : History} → Invariant c → Matches q c h → (l : ℤ) → Matches q (round c l .state) (recorded c h (Round l))
-  unfolding respond response noBlossom
-  round-matched g i l = call-matches q g i (Round l) refl
+round-matched : {c : State} {h : History} → Invariant c → Matches c h → (l : ℤ) → Matches (round c l .state) (recorded c h (Round l))
+unfolding respond response noBlossom
+round-matched g i l = call-matches g i (Round l) refl
 
-  -- the theorem
-  pub round-one-by-one : {c : State} {h : History} → Invariant c → Matches q c h → (l : ℕ) → isDone (round c (pos (suc l)) .answer) ≡ true
-      → (after c (growthsOf c l) ≡ round c (pos (suc l)) .state) × (historyFrom c h (growthsOf c l) ≡ recorded c h (Round (pos (suc l))))
-  round-one-by-one {c} {h} g i l done =
-      let ok : movedAll (suc l) c .refusal ≡ 0 = not-refused c l done in
-      let e : round c (pos (suc l)) .state ≡ movedAll (suc l) c .state = taken c l ok in
-      let s : after c (growthsOf c l) ≡ round c (pos (suc l)) .state = growths-leave c l ok ∙ sym e in
-      let a : Matches q (after c (growthsOf c l)) (historyFrom c h (growthsOf c l)) = calls-match q c h g i (growthsOf c l) (growths-plain c l) in
-      let b : Matches q (round c (pos (suc l)) .state) (recorded c h (Round (pos (suc l)))) = round-matched g i (pos (suc l)) in
-      (s, one-history (round c (pos (suc l)) .state) (historyFrom c h (growthsOf c l)) (recorded c h (Round (pos (suc l)))) (rw (← s) a) b)
+-- the theorem
+pub round-one-by-one : {c : State} {h : History} → Invariant c → Matches c h → (l : ℕ) → isDone (round c (pos (suc l)) .answer) ≡ true
+    → (after c (growthsOf c l) ≡ round c (pos (suc l)) .state) × (historyFrom c h (growthsOf c l) ≡ recorded c h (Round (pos (suc l))))
+round-one-by-one {c} {h} g i l done =
+    let ok : movedAll (suc l) c .refusal ≡ 0 = not-refused c l done in
+    let e : round c (pos (suc l)) .state ≡ movedAll (suc l) c .state = taken c l ok in
+    let s : after c (growthsOf c l) ≡ round c (pos (suc l)) .state = growths-leave c l ok ∙ sym e in
+    let a : Matches (after c (growthsOf c l)) (historyFrom c h (growthsOf c l)) = calls-match c h g i (growthsOf c l) (growths-plain c l) in
+    let b : Matches (round c (pos (suc l)) .state) (recorded c h (Round (pos (suc l)))) = round-matched g i (pos (suc l)) in
+    (s, one-history (round c (pos (suc l)) .state) (historyFrom c h (growthsOf c l)) (recorded c h (Round (pos (suc l)))) (rw (← s) a) b)

@@ -1,7 +1,7 @@
 use borrow.Author.Needs.{needs}
 use native.Mathlib.Omega.{arith}
 use Rattle.graph.specs.Form.{Laid}
-use Rattle.graph.specs.laws.Row.{active-found}
+use Rattle.graph.specs.laws.Row.{active-found, laid-sizes}
 use Rattle.graph.proofs.rows.active_place.Statement.{statement}
 use Rattle.graph.proofs.rows.active_place.Tie as tie
 
@@ -50,8 +50,7 @@ unfolding Laid
 add-result-4 c = search needs
 
 add-result-5 : tie.Need-add-result-5
-unfolding Laid
-add-result-5 c = search needs
+add-result-5 c = let s = c .before .before .before .before in let z = laid-sizes (s .args .b .now) (s .pre .0) in omega arith
 
 returns : tie.Need-returns
 unfolding Laid

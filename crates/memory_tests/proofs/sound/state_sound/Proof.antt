@@ -15,17 +15,21 @@ nodes-sound-requires c κs = search needs
 active-sound-requires : tie.Need-active-sound-requires
 active-sound-requires c κs = search needs
 
+reweighted-requires : tie.Need-reweighted-requires
+reweighted-requires c κs = search needs
+
 returns : tie.Need-returns
 returns c =
-    let s = c .before .before .before .before in
+    let s = c .before .before .before .before .before in
     rw (
       sound-parts (s .args .b .now) (s .pre .0) (s .pre .1),
-      ← c .before .before .before .graph-sound .ensures,
-      ← c .before .before .sides-sound .ensures,
-      ← c .before .nodes-sound .ensures,
-      ← c .active-sound .ensures,
+      ← c .before .before .before .before .graph-sound .ensures,
+      ← c .before .before .before .sides-sound .ensures,
+      ← c .before .before .nodes-sound .ensures,
+      ← c .before .active-sound .ensures,
+      ← c .reweighted .ensures .0,
     )
 
 pub state-sound-spec : {M : Type 1} → statement M
 state-sound-spec =
-    tie.close (tie.spec graph-sound-requires sides-sound-requires nodes-sound-requires active-sound-requires returns)
+    tie.close (tie.spec graph-sound-requires sides-sound-requires nodes-sound-requires active-sound-requires reweighted-requires returns)

@@ -31,6 +31,9 @@ side-word-requires-2 c κs = search needs
 edge-word-requires : tie.Need-edge-word-requires
 edge-word-requires c κs = search needs
 
+original-word-requires : tie.Need-original-word-requires
+original-word-requires c κs = search needs
+
 returns : tie.Need-returns
 unfolding edgeSound stateOf stateFrom
 returns c = cc
@@ -46,4 +49,5 @@ edge-sound-spec =
     add-side-word
     side-word-requires-2
     edge-word-requires
+    original-word-requires
     returns)

@@ -12,7 +12,7 @@ use Rattle.graph.specs.State.{State, Graph, nodeCount, classOf, parentOf, growS
 use Rattle.graph.specs.Basic.{if_then_else_, fold}
 use Rattle.graph.specs.laws.State.{if-both}
 use Rattle.graph.specs.laws.Members.{by-test}
-use Rattle.graph.specs.Open.{Edge, blankState, opened, cleared, openRefusal}
+use Rattle.graph.specs.Open.{Edge, blankState, opened, withOriginals, cleared, openRefusal}
 use Rattle.graph.specs.laws.Opened.{getD-zeros}
 use Rattle.pass.specs.laws.Passes.{Passed}
 use Rattle.update_length.specs.declared.Answer.{Answer}
@@ -24,7 +24,7 @@ use Rattle.pass.specs.laws.Prepare.{prepare-passed}
 use Rattle.growth.specs.Growth.{growCheck, growApply}
 use Rattle.calls.specs.Insert.{prepareStep, insertDefect, defectPut, defectRefusal, insertBlossom, blossomPut, blossomRefusal}
 use Rattle.calls.specs.Remove.{removeRefusal, openPrepared, removeBlossom}
-use Rattle.calls.specs.Calls.{setGrowState, prepareDualNodeGrowth, maxUpdateLength, readied, growPrepared, growToward, growDualNode, signedFor, follow, advanceBy, toward, advance, representativeVertex, clear, Call, InsertDefect, InsertBlossom, SetGrowState, Prepare, MaxUpdateLength, Grow, ReadTable, Advance, Contacts, RepresentativeVertex, Clear, RenewActiveList, PrepareAll, GroupLength, Round, RemoveBlossom, response, respond}
+use Rattle.calls.specs.Calls.{setGrowState, prepareDualNodeGrowth, maxUpdateLength, readied, growPrepared, growToward, growDualNode, signedFor, follow, advanceBy, toward, advance, representativeVertex, clear, Call, InsertDefect, InsertBlossom, SetGrowState, Prepare, MaxUpdateLength, Grow, ReadTable, Advance, Contacts, RepresentativeVertex, Clear, RenewActiveList, PrepareAll, GroupLength, Round, RemoveBlossom, LoadEdgeModifier, response, respond}
 use Rattle.calls.specs.Round.{renewActiveList, preparing, preparedAll, prepareAll, moving, movedAll, round, GroupReply, groupRefusal, groupLength}
 use Rattle.calls.specs.laws.Trial.{turn-keeps, tried-keeps}
 use Rattle.graph.specs.Active.{joinActive, activated, renewed}
@@ -37,7 +37,10 @@ use Rattle.reachable.specs.laws.Active.{renewed-invariant}
 use Rattle.reachable.specs.laws.Growth.{growth-invariant}
 use Rattle.reachable.specs.laws.insert.Defect.{defect-invariant}
 use Rattle.reachable.specs.laws.insert.Blossom.{blossom-invariant}
-use Rattle.reachable.specs.laws.Calls.{initialLabels, blank-clusters, opened-invariant, cleared-invariant, set-invariant}
+use Rattle.calls.specs.Erasures.{EdgeWeight, modifierRefusal, loadEdgeModifier}
+use Rattle.calls.specs.laws.Erasures.{modifier-accepted}
+use Rattle.reachable.specs.laws.Blank.{initialLabels, blank-clusters, reweighed-blank, reweighed-invariant}
+use Rattle.reachable.specs.laws.Calls.{opened-invariant, cleared-invariant, set-invariant}
 use Rattle.reachable.specs.Opening.{joinLog, logged, afterLog, logOf}
 use Rattle.reachable.specs.Past.{Tops, OuterBlossom, past, HasPast, PastInvariant}
 use Rattle.graph.specs.Sound.{isRemoved}
@@ -85,7 +88,7 @@ opened-past v e n l edges virtuals fits h = blank-past _ n l (unfold opened in (
 
 pub cleared-past : {log : ℕ → State} (c : State) → Invariant c → PastInvariant log (cleared c)
 unfolding cleared
-cleared-past c g = blank-past (c .graph) (c .nodeLimit) (c .storeLimit) (unfold cleared in (cleared-invariant c g))
+cleared-past c g = blank-past (withOriginals (c .graph)) (c .nodeLimit) (c .storeLimit) (unfold cleared in (cleared-invariant c g))
 
 -- ---- each call
 
@@ -176,6 +179,16 @@ remove-past {log} c g n =
     let o : Opens log (prepareNode c n down .state) n = opens c g n (remove-accepted c n e) in
     rw (o .no-stop) (o .opened))
 
+-- a change of weights, refused or not
+weights-past : {log : ℕ → State} (c : State) → PastInvariant log c → (pairs : List EdgeWeight) → PastInvariant log (loadEdgeModifier c pairs .state)
+unfolding loadEdgeModifier
+weights-past {log} c s pairs =
+    unless-past (modifierRefusal c pairs) c _ s
+    (λ e.
+    let a = modifier-accepted c pairs e in
+    subst (PastInvariant log) (sym (reweighed-blank c (s .invariant) pairs a))
+    (blank-past _ _ _ (reweighed-invariant c (s .invariant) pairs a)))
+
 -- ---- other grow states, another active list
 
 active-past : {log : ℕ → State} (c : State) → HasPast log c → (l : List ℕ) → Invariant (withActive c l) → PastInvariant log (withActive c l)
@@ -259,6 +272,7 @@ call-past {log} c s PrepareAll = tried-keeps (PastInvariant log) c (preparedAll 
 call-past c s GroupLength = group-past c s
 call-past c s (Round l) = round-past c s l
 call-past c s (RemoveBlossom n) = remove-past c s n
+call-past c s (LoadEdgeModifier pairs) = weights-past c s pairs
 
 -- ---- a list of calls
 

@@ -15,7 +15,7 @@ use Rattle.update_length.specs.Answer.{Reply, says}
 use Rattle.calls.specs.Refuse.{badNode, storeShort, nodeRefusal, unless}
 use Rattle.calls.specs.Insert.{insertBlossom, blossomRefusal}
 use Rattle.calls.specs.Remove.{removeRefusal, removeBlossom}
-use Rattle.calls.specs.Calls.{setGrowState, prepareDualNodeGrowth, maxUpdateLength, growToward, growDualNode, advance, representativeVertex, Call, InsertDefect, InsertBlossom, SetGrowState, Prepare, MaxUpdateLength, Grow, ReadTable, Advance, Contacts, RepresentativeVertex, Clear, RenewActiveList, PrepareAll, GroupLength, Round, RemoveBlossom, response, respond}
+use Rattle.calls.specs.Calls.{setGrowState, prepareDualNodeGrowth, maxUpdateLength, growToward, growDualNode, advance, representativeVertex, Call, InsertDefect, InsertBlossom, SetGrowState, Prepare, MaxUpdateLength, Grow, ReadTable, Advance, Contacts, RepresentativeVertex, Clear, RenewActiveList, PrepareAll, GroupLength, Round, RemoveBlossom, LoadEdgeModifier, response, respond}
 use Rattle.reachable.specs.Opening.{names}
 
 module _ (c : State) (n : ℕ) (is-removed : classOf c n ≡ removed) where
@@ -66,3 +66,4 @@ module _ (c : State) (n : ℕ) (is-removed : classOf c n ≡ removed) where
   named-refused PrepareAll h = clash false h refl
   named-refused GroupLength h = clash false h refl
   named-refused (Round l) h = clash false h refl
+  named-refused (LoadEdgeModifier pairs) h = clash false h refl

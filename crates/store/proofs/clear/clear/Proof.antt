@@ -9,6 +9,12 @@ put-node-count-requires c κs = search needs
 put-active-count-requires : tie.Need-put-active-count-requires
 put-active-count-requires c κs = search needs
 
+put-reweighted-requires : tie.Need-put-reweighted-requires
+put-reweighted-requires c κs = search needs
+
+restore-weights-requires : tie.Need-restore-weights-requires
+restore-weights-requires c κs = search needs
+
 clear-vertices-requires : tie.Need-clear-vertices-requires
 clear-vertices-requires c κs = search needs
 
@@ -20,10 +26,12 @@ same-length c = search needs
 
 returns : tie.Need-returns
 returns c =
-    cleared-of _ _ _ _ _
-    (c .before .before .before .before .before .before .before .before .before .before .before .before .pre)
-    (c .before .before .before .before .before .before .before .before .before .before .put-node-count .ensures)
-    (c .before .before .before .before .before .before .before .put-active-count .ensures)
+    cleared-of _ _ _ _ _ _ _
+    (c .before .before .before .before .before .before .before .before .before .before .before .before .before .before .before .before .before .before .pre)
+    (c .before .before .before .before .before .before .before .before .before .before .before .before .before .before .before .before .put-node-count .ensures)
+    (c .before .before .before .before .before .before .before .before .before .before .before .before .before .put-active-count .ensures)
+    (c .before .before .before .before .before .before .before .before .before .before .put-reweighted .ensures)
+    (c .before .before .before .before .before .before .before .restore-weights .ensures)
     (c .before .before .before .before .clear-vertices .ensures) (c .before .clear-sides .ensures)
 
 pub clear-spec : {M : Type 1} → statement M
@@ -32,6 +40,8 @@ clear-spec =
     (tie.spec
     put-node-count-requires
     put-active-count-requires
+    put-reweighted-requires
+    restore-weights-requires
     clear-vertices-requires
     clear-sides-requires
     same-length

@@ -1,0 +1,2 @@
+-- What the exported change of weights promises.
+pub mod Told

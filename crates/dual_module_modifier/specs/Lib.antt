@@ -1,0 +1,3 @@
+-- What a change of weights promises on lent memory.
+pub mod Called
+pub mod laws

@@ -1,0 +1,2 @@
+-- Laws behind that promise.
+pub mod Called

@@ -1,0 +1,2 @@
+-- Laws behind a change of weights.
+pub mod Load
