@@ -326,7 +326,7 @@ def fitting(text, space):
 def stream_case(name, data, text, space):
     SEEN['stream'] += 1
     return f'''{name} : (linesOf {nats(data)} ≡ {nats(text)}) × (fittedLines {nats(data)} {space} ≡ {nats(fitting(text, space))})
-unfolding everything
+unfolding everything endText contactText
 {name} = (refl, refl)
 
 '''
@@ -336,6 +336,7 @@ STREAMS = '''-- Record streams, and the lines that they give.
 use Prim.Native.Nat.{ℕ}
 use mathlib.Core.Path.{_≡_, refl}
 use mathlib.Core.List.{List, [], _∷_}
+use Rattle.records.specs.Lines.{endText, contactText}
 use Rattle.records.specs.Run.{linesOf, fittedLines}
 use Rattle.records.specs.Opens.{everything}
 
