@@ -4,16 +4,13 @@ no calls reach; what is lent is kept; the cases that the section names.
 
     tests/contacts/test_contacts.py [--lists 2000] [--states 20000] [--seed 1]     more of them
 """
-import argparse
 import os
-import random
 import sys
-import unittest
 from array import array
 
 sys.dont_write_bytecode = True
 sys.path.insert(0, os.path.join(os.path.dirname(os.path.dirname(os.path.abspath(__file__))), 'rounds'))
-from compared import SEEN, Compared, M, cg, compare, module_of, needs_library  # noqa: E402
+from compared import SEEN, Compared, M, cg, command, needs_library  # noqa: E402
 
 
 def above(st, n):
@@ -62,21 +59,10 @@ class Contacts(Compared):
         self.assertEqual(self.lent(m), before)
 
     def lists(self, count, seed):
-        rng = random.Random(seed)
-        for _ in range(count):
-            st, _ = compare.opened(rng)
-            m = module_of(st)
-            for _ in range(rng.randint(10, 40)):
-                self.call(m, st, rng, *compare.call(rng, st))
-                if rng.random() < 0.3:
-                    self.listed(m, st, rng)
-            self.listed(m, st, rng)
+        self.after_calls(count, seed, self.listed, 0.3)
 
     def states(self, count, seed):
-        rng = random.Random(seed)
-        for _ in range(count):
-            st = compare.unreached(rng)
-            self.listed(module_of(st), st, rng)
+        self.on_unreached(count, seed, self.listed)
 
 
 @needs_library
@@ -121,19 +107,5 @@ class Tests(Contacts):
             self.assertEqual(words.tolist(), [7] * length)
 
 
-def main():
-    parser = argparse.ArgumentParser()
-    parser.add_argument('--lists', type=int)
-    parser.add_argument('--states', type=int)
-    parser.add_argument('--seed', type=int, default=1)
-    given, rest = parser.parse_known_args()
-    if given.lists is None and given.states is None:
-        return unittest.main(argv=sys.argv[:1] + rest)
-    one = Contacts()
-    one.lists(given.lists or 0, given.seed)
-    one.states(given.states or 0, given.seed + 1)
-    print(dict(SEEN))
-
-
 if __name__ == '__main__':
-    main()
+    command(Contacts)

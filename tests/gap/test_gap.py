@@ -5,16 +5,13 @@ lengths, damaged blocks, short answer lists.
 
     tests/gap/test_gap.py [--lists 2000] [--states 20000] [--seed 1]     more of them
 """
-import argparse
 import ctypes
 import os
-import random
 import sys
-import unittest
 
 sys.dont_write_bytecode = True
 sys.path.insert(0, os.path.join(os.path.dirname(os.path.dirname(os.path.abspath(__file__))), 'rounds'))
-from compared import SEEN, Compared, M, cg, compare, module_of, needs_library, said  # noqa: E402
+from compared import SEEN, Compared, M, cg, command, needs_library, said  # noqa: E402
 
 NONE_SUCH = [5000, 2**32, 2**63, 2**64 - 1, -1]
 P9 = [(0, 1, 2), (0, 2, 2), (1, 2, 2), (2, 3, 20)]
@@ -40,22 +37,14 @@ class Gap(Compared):
         self.assertEqual(self.lent(m), before)
         return told
 
+    def none_over(self, m, st, rng):
+        self.assertNotIn('over', self.every(m, st, rng))
+
     def lists(self, count, seed):
-        rng = random.Random(seed)
-        for _ in range(count):
-            st, _ = compare.opened(rng)
-            m = module_of(st)
-            for _ in range(rng.randint(10, 40)):
-                self.call(m, st, rng, *compare.call(rng, st))
-                if rng.random() < 0.2:
-                    self.assertNotIn('over', self.every(m, st, rng))
-            self.assertNotIn('over', self.every(m, st, rng))
+        self.after_calls(count, seed, self.none_over, 0.2)
 
     def states(self, count, seed):
-        rng = random.Random(seed)
-        for _ in range(count):
-            st = compare.unreached(rng)
-            self.every(module_of(st), st, rng)
+        self.on_unreached(count, seed, self.every)
 
 
 @needs_library
@@ -164,13 +153,4 @@ class Lent(Gap):
 
 
 if __name__ == '__main__':
-    p = argparse.ArgumentParser()
-    for name, default in ('lists', 0), ('states', 0), ('seed', 1):
-        p.add_argument('--' + name, type=int, default=default)
-    o, rest = p.parse_known_args()
-    if not (o.lists or o.states):
-        unittest.main()
-    test = Gap()
-    test.lists(o.lists, o.seed)
-    test.states(o.states, o.seed)
-    print(', '.join(f'{k} {v}' for k, v in sorted(SEEN.items())))
+    command(Gap)

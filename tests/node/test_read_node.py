@@ -4,16 +4,14 @@ and on sound blocks that no calls reach; block and scratch untouched; wrong leng
 
     tests/node/test_read_node.py [--lists 2000] [--states 20000] [--seed 1]     more of them
 """
-import argparse
 import ctypes
 import os
 import random
 import sys
-import unittest
 
 sys.dont_write_bytecode = True
 sys.path.insert(0, os.path.join(os.path.dirname(os.path.dirname(os.path.abspath(__file__))), 'rounds'))
-from compared import SEEN, Compared, M, cg, compare, module_of, needs_library, said  # noqa: E402
+from compared import SEEN, Compared, M, cg, command, compare, module_of, needs_library, said  # noqa: E402
 
 NONE_SUCH = [5000, 2**32, 2**63, 2**64 - 1, -1]
 
@@ -58,10 +56,7 @@ class Read(Compared):
             SEEN['advance grew' if got.by > 0 else 'advance shrank' if got.by < 0 else 'advance stayed'] += 1
 
     def states(self, count, seed):
-        rng = random.Random(seed)
-        for _ in range(count):
-            st = compare.unreached(rng)
-            self.every(module_of(st), st, rng)
+        self.on_unreached(count, seed, self.every)
 
 
 @needs_library
@@ -126,13 +121,4 @@ class Lent(Read):
 
 
 if __name__ == '__main__':
-    p = argparse.ArgumentParser()
-    for name, default in ('lists', 0), ('states', 0), ('seed', 1):
-        p.add_argument('--' + name, type=int, default=default)
-    o, rest = p.parse_known_args()
-    if not (o.lists or o.states):
-        unittest.main()
-    test = Read()
-    test.lists(o.lists, o.seed)
-    test.states(o.states, o.seed)
-    print(', '.join(f'{k} {v}' for k, v in sorted(SEEN.items())))
+    command(Read)

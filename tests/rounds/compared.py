@@ -1,6 +1,7 @@
 """The library, through the package, beside the model: a call on both, and all that it leaves. Answers, entries, every
 word of the block, second block and scratch.
 """
+import argparse
 import collections
 import os
 import random
@@ -151,14 +152,27 @@ class Compared(unittest.TestCase):
         self.assertEqual(tidied(m), words(st))
         return want
 
-    def lists(self, count, seed):
+    def after_calls(self, count, seed, look, often=0.0):
+        """Random call lists; `look` takes the block after some of the calls, so often, and after the last one."""
         rng = random.Random(seed)
         for _ in range(count):
             st, _ = compare.opened(rng)
             m = module_of(st)
             for _ in range(rng.randint(10, 40)):
                 self.call(m, st, rng, *compare.call(rng, st))
-            self.every_trial(m, st, rng)
+                if often and rng.random() < often:
+                    look(m, st, rng)
+            look(m, st, rng)
+
+    def on_unreached(self, count, seed, look):
+        """Sound blocks that no calls reach."""
+        rng = random.Random(seed)
+        for _ in range(count):
+            st = compare.unreached(rng)
+            look(module_of(st), st, rng)
+
+    def lists(self, count, seed):
+        self.after_calls(count, seed, self.every_trial)
 
     def every_trial(self, m, st, rng):
         for name in rng.sample(['renew', 'prepare_all', 'group', 'round', 'round'], 5):
@@ -167,7 +181,18 @@ class Compared(unittest.TestCase):
                 self.all_clusters(m, st, rng, name, *values)
 
     def states(self, count, seed):
-        rng = random.Random(seed)
-        for _ in range(count):
-            st = compare.unreached(rng)
-            self.every_trial(module_of(st), st, rng)
+        self.on_unreached(count, seed, self.every_trial)
+
+
+def command(test):
+    """The tests of a file, or with --lists or --states more of them, and what they met."""
+    p = argparse.ArgumentParser()
+    for name, default in ('lists', 0), ('states', 0), ('seed', 1):
+        p.add_argument('--' + name, type=int, default=default)
+    o, _ = p.parse_known_args()
+    if not (o.lists or o.states):
+        unittest.main()
+    one = test()
+    one.lists(o.lists, o.seed)
+    one.states(o.states, o.seed)
+    print(', '.join(f'{k} {v}' for k, v in sorted(SEEN.items())))

@@ -221,7 +221,8 @@ class Openings(unittest.TestCase):
         given = 'graph 4 4\nedge 0 1 4; edge 1 2 4; edge 0 2 4; edge 2 3 20\nvirtual 3\n'
         given += 'defect 0 grow; defect 1 grow; defect 2 grow\nopen-blossom 0 → refused 15\nblossom shrink 0 1 2 → node 3\n'
         given += 'length 3 shrink → expand 3\nopen-blossom 1 → refused 6\nopen-blossom 3 → done\nopen-blossom 3 → refused 3\n'
-        given += 'group → free -1 0\nblossom grow 2 1 0 → node 4\nrepresentative 4 → vertex 2\nopen-blossom 4 → done\nclear; defect 1 grow → node 0'
+        given += 'group → free -1 0\nblossom grow 2 1 0 → node 4\nrepresentative 4 → vertex 2\n'
+        given += 'open-blossom 4 → done\nclear; defect 1 grow → node 0'
         status, said, wrong = card('run', '-', given=given)
         self.assertEqual((status, wrong), (0, ''))
         said = ' '.join(said.split())
