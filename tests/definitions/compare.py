@@ -208,8 +208,8 @@ use Rattle.graph.specs.Basic.{{below}}
 use Rattle.graph.specs.State.{{State, Overgrown, NodeClass, defectVertex, blossom, removed}}
 use Rattle.graph.specs.Open.{{opened}}
 use Rattle.graph.specs.Sound.{{stateSound}}
-use Rattle.update_length.specs.declared.Answer.the-variants.{{NonZeroGrow, Unlimited, Conflicting, TouchingVirtual, BlossomNeedExpand, VertexShrinkStop, VertexShrinkStopPeer, Done, Node, Prepared, Vertex, Refused}}
-use Rattle.calls.specs.Calls.{{InsertDefect, InsertBlossom, SetGrowState, Prepare, MaxUpdateLength, Grow, ReadTable, Advance, Contacts, RepresentativeVertex, Clear, RenewActiveList, PrepareAll, GroupLength, Round, RemoveBlossom, LoadEdgeModifier, answered, growths, touching, grouped, respond}}
+use Rattle.answers.specs.declared.Answer.the-variants.{{NonZeroGrow, Unlimited, Conflicting, TouchingVirtual, BlossomNeedExpand, VertexShrinkStop, VertexShrinkStopPeer, Done, Node, Prepared, Vertex, Refused}}
+use Rattle.calls.specs.Calls.{{InsertDefect, InsertBlossom, SetGrowState, Prepare, UpdateLength, Grow, ReadTable, Advance, Contacts, RepresentativeVertex, Clear, RenewActiveList, PrepareAll, GroupLength, Round, RemoveBlossom, LoadEdgeModifier, answered, growths, touching, grouped, respond}}
 use Rattle.calls.specs.declared.group.GroupMaxUpdateLength.the-variants.{{NonZeroGrow as groupFree, Unlimited as groupUnlimited, Conflicts as groupConflicts, Refused as groupRefused}}
 use Rattle.calls.specs.Insert.{{occupied}}
 use Rattle.calls.specs.Occupied.{{sidesRead}}

@@ -19,6 +19,7 @@ ghost use Rattle.calls.specs.Refuse.{badNode, inBlossom, entriesBut, storeShort
 ghost use Rattle.calls.specs.Insert.{noCircle, blossomRefusal, prepareStep, joinSide, joinStep, joinCircle, insertBlossom};
 ghost use Rattle.blossom.specs.inner.Circle.{Joinable, JoinedIn, joinedIn};
 ghost use Rattle.calls.specs.inner.Reply.{RepliesInsert, Usable};
+use answers::Answer;
 use calls::refuse;
 use graph::lists;
 use graph::node;
@@ -27,7 +28,6 @@ use graph::side;
 use graph::words;
 use pass::scratch;
 use store::insert;
-use update_length::Answer;
 
 // ---- what refuses it
 

@@ -4,12 +4,13 @@ use mathlib.Core.Path.{_≡_}
 use mathlib.Core.List.{List, [], _∷_, _++_}
 use lib.IntN.{ℤ}
 use lib.Dec.{eqb, leb}
-use lib.ListN.{length, drop, getD}
+use lib.ListN.{length, drop}
 use Rattle.graph.specs.Basic.{if_then_else_}
-use Rattle.update_length.specs.declared.Answer.{Answer}
-use Rattle.update_length.specs.declared.Answer.the-variants.{Done, Refused}
-unfoldable pub use Rattle.answer_numbers.specs.Numbers.{answerNumbers}
-pub use Rattle.answer_numbers.specs.Numbers.{Tells}
+use Rattle.answers.specs.declared.Answer.{Answer}
+use Rattle.answers.specs.declared.Answer.the-variants.{Done, Refused}
+use Rattle.answers.specs.Answer.{isDone}
+unfoldable pub use Rattle.answers.specs.Numbers.{answerNumbers}
+pub use Rattle.answers.specs.Numbers.{Tells}
 use Rattle.dual_module_read.specs.declared.Counted.{Counted}
 
 -- an opening: done, or its refusal
@@ -22,7 +23,7 @@ openNumbers k = answerNumbers (openAnswer k)
 
 -- a reading of the full edges: one that is done, case 7, tells how many they are
 unfoldable pub countNumbers : Answer → ℕ → List ℕ
-countNumbers a n = if eqb (getD (answerNumbers a) 0 0) 7 then 7 ∷ n ∷ [] else answerNumbers a
+countNumbers a n = if isDone a then 7 ∷ n ∷ [] else answerNumbers a
 
 -- the same of what such a reading gives back
 abbrev pub countedNumbers : Counted → List ℕ

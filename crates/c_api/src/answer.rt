@@ -3,12 +3,12 @@
 ghost use mathlib.Core.Path.{_≡_};
 ghost use Prim.Native.Nat.{_≤_};
 ghost use lib.ListN.{length};
-ghost use Rattle.answer_numbers.specs.Numbers.{Tells};
+ghost use Rattle.answers.specs.Numbers.{Tells};
 ghost use Rattle.c_api.specs.Words.{openAnswer, openNumbers, countedNumbers, shortList, shortCount};
-use answer_numbers::front;
-use answer_numbers::tell;
+use answers::Answer;
+use answers::front;
+use answers::tell;
 use dual_module_read::Counted;
-use update_length::Answer;
 
 // A list that is too short for an answer: refused 1, if it has room for that; how many numbers are told.
 pub fn refuse_short(list: &mut [usize]) -> usize

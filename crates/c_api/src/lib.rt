@@ -47,7 +47,7 @@ pub extern "C" fn fb_insert_defect(
         return answer::refuse_short(answer);
     }
     let a = dual_module_insert::insert_defect(block, scratch, vertex, state);
-    answer_numbers::tell(answer, a)
+    answers::tell(answer, a)
 }
 
 // The next node is a blossom of the circle's nodes.
@@ -67,7 +67,7 @@ pub extern "C" fn fb_insert_blossom(
         return answer::refuse_short(answer);
     }
     let a = dual_module_insert::insert_blossom(block, scratch, state, circle);
-    answer_numbers::tell(answer, a)
+    answers::tell(answer, a)
 }
 
 // A node gets a grow state.
@@ -85,7 +85,7 @@ pub extern "C" fn fb_set_grow_state(
         return answer::refuse_short(answer);
     }
     let a = dual_module::set_grow_state(block, scratch, node, state);
-    answer_numbers::tell(answer, a)
+    answers::tell(answer, a)
 }
 
 // A node is prepared to grow in a direction.
@@ -105,7 +105,7 @@ pub extern "C" fn fb_prepare(
         return answer::refuse_short(answer);
     }
     let a = dual_module::prepare_dual_node_growth(block, scratch, node, direction);
-    answer_numbers::tell(answer, a)
+    answers::tell(answer, a)
 }
 
 // How far a node may grow in a direction; `first` says whether it is prepared first.
@@ -132,7 +132,7 @@ pub extern "C" fn fb_max_update_length(
         direction,
         first,
     );
-    answer_numbers::tell(answer, a)
+    answers::tell(answer, a)
 }
 
 // A node grows by a length: below 0 it shrinks.
@@ -152,7 +152,7 @@ pub extern "C" fn fb_grow(
         return answer::refuse_short(answer);
     }
     let a = dual_module::grow_dual_node(block, scratch, node, length);
-    answer_numbers::tell(answer, a)
+    answers::tell(answer, a)
 }
 
 // A node grows by all of its own length answer.
@@ -171,7 +171,7 @@ pub extern "C" fn fb_advance(
         return answer::refuse_short(answer);
     }
     let a = dual_module::advance(block, scratch, node);
-    answer_numbers::tell(answer, a)
+    answers::tell(answer, a)
 }
 
 // Everything but the graph is emptied.
@@ -183,7 +183,7 @@ pub extern "C" fn fb_clear(block: &mut [i64], scratch: &[i64], answer: &mut [usi
         return answer::refuse_short(answer);
     }
     let a = dual_module::clear(block, scratch);
-    answer_numbers::tell(answer, a)
+    answers::tell(answer, a)
 }
 
 // The representative vertex of a node; block and scratch are only read.
@@ -200,7 +200,7 @@ pub extern "C" fn fb_representative_vertex(
         return answer::refuse_short(answer);
     }
     let a = dual_module_read::get_representative_vertex(block, scratch, node);
-    answer_numbers::tell(answer, a)
+    answers::tell(answer, a)
 }
 
 // The growth of every side is written to a list of two words for each edge.
@@ -219,7 +219,7 @@ pub extern "C" fn fb_read_table(
         return answer::refuse_short(answer);
     }
     let a = dual_module_read::read_table(block, scratch, list);
-    answer_numbers::tell(answer, a)
+    answers::tell(answer, a)
 }
 
 // The full edges are written to the front of a list of one word for each edge; when done, the answer has their count behind its case.

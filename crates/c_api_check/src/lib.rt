@@ -2,7 +2,7 @@
 
 ghost use Prim.Native.Nat.{_≤_};
 ghost use lib.ListN.{length};
-ghost use Rattle.answer_numbers.specs.Numbers.{Tells};
+ghost use Rattle.answers.specs.Numbers.{Tells};
 ghost use Rattle.c_api_check.specs.Told.{verdictNumbers, CheckTold};
 use table_check::Verdict;
 
@@ -12,9 +12,9 @@ fn tell_verdict(list: &mut [usize], a: Verdict) -> usize
     ensures { λ r. ⌜ Tells (verdictNumbers a) (now (list .entry)) (now (list .exit)) r ⌝ }
 {
     match a {
-        Verdict::Yes => answer_numbers::front(list, &[13, 1]),
-        Verdict::No => answer_numbers::front(list, &[13, 0]),
-        Verdict::Refused(k) => answer_numbers::front(list, &[11, k]),
+        Verdict::Yes => answers::front(list, &[13, 1]),
+        Verdict::No => answers::front(list, &[13, 0]),
+        Verdict::Refused(k) => answers::front(list, &[11, k]),
     }
 }
 

@@ -2,8 +2,8 @@
 use Prim.Native.Nat.{ℕ}
 use mathlib.Core.List.{List, [], _∷_}
 use lib.IntN.{ℤ}
-use Rattle.update_length.specs.declared.Answer.the-variants.{Refused as RefusedCall}
-use Rattle.answer_numbers.specs.Numbers.{answerNumbers}
+use Rattle.answers.specs.declared.Answer.the-variants.{Refused as RefusedCall}
+use Rattle.answers.specs.Numbers.{answerNumbers}
 use Rattle.c_api.specs.Words.{Told}
 use Rattle.gap.specs.declared.Gap.{Gap}
 use Rattle.gap.specs.declared.Gap.the-variants.{Inner, Over, Left}

@@ -3,7 +3,7 @@
 
 ghost use Prim.Native.Nat.{_≤_};
 ghost use lib.ListN.{length};
-ghost use Rattle.answer_numbers.specs.Numbers.{Tells};
+ghost use Rattle.answers.specs.Numbers.{Tells};
 ghost use Rattle.c_api_gap.specs.Told.{foundNumbers, gapNumbers, GapTold};
 use dual_module_gap::GapAnswer;
 use gap::Gap;
@@ -14,9 +14,9 @@ fn tell_found(list: &mut [usize], g: Gap) -> usize
     ensures { λ r. ⌜ Tells (foundNumbers g) (now (list .entry)) (now (list .exit)) r ⌝ }
 {
     match g {
-        Gap::Inner => answer_numbers::front(list, &[17]),
-        Gap::Over(x) => answer_numbers::front(list, &[18, x]),
-        Gap::Left(x) => answer_numbers::front(list, &[19, x]),
+        Gap::Inner => answers::front(list, &[17]),
+        Gap::Over(x) => answers::front(list, &[18, x]),
+        Gap::Left(x) => answers::front(list, &[19, x]),
     }
 }
 
@@ -27,7 +27,7 @@ fn tell_gap(list: &mut [usize], a: GapAnswer) -> usize
 {
     match a {
         GapAnswer::Found(g) => tell_found(list, g),
-        GapAnswer::Refused(k) => answer_numbers::front(list, &[11, k]),
+        GapAnswer::Refused(k) => answers::front(list, &[11, k]),
     }
 }
 

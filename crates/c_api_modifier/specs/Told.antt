@@ -3,7 +3,7 @@ use Prim.Native.Nat.{ℕ}
 use mathlib.Core.Path.{_≡_}
 use mathlib.Core.List.{List}
 use lib.IntN.{ℤ}
-use Rattle.answer_numbers.specs.Numbers.{answerNumbers}
+use Rattle.answers.specs.Numbers.{answerNumbers}
 use Rattle.c_api.specs.Words.{Told}
 use Rattle.dual_module_modifier.specs.Called.{ModifierCalled}
 

@@ -18,5 +18,5 @@ pub extern "C" fn fb_load_edge_modifier(
         return c_api::answer::refuse_short(answer);
     }
     let a = dual_module_modifier::load_edge_modifier(block, scratch, pairs);
-    answer_numbers::tell(answer, a)
+    answers::tell(answer, a)
 }

@@ -2,7 +2,7 @@
 use Prim.Native.Nat.{ℕ}
 use mathlib.Core.List.{List, [], _∷_}
 use lib.IntN.{ℤ}
-use Rattle.update_length.specs.declared.Answer.the-variants.{Refused as RefusedCall}
+use Rattle.answers.specs.declared.Answer.the-variants.{Refused as RefusedCall}
 use Rattle.c_api.specs.Words.{answerNumbers, Told}
 use Rattle.dual_module_node.specs.declared.NodeRead.{NodeRead}
 use Rattle.dual_module_node.specs.declared.NodeRead.the-variants.{Defect, Blossom, Refused}

@@ -3,7 +3,7 @@
 
 ghost use Prim.Native.Nat.{_≤_};
 ghost use lib.ListN.{length};
-ghost use Rattle.answer_numbers.specs.Numbers.{Tells};
+ghost use Rattle.answers.specs.Numbers.{Tells};
 ghost use Rattle.c_api_node.specs.Told.{readNodeNumbers, ReadNodeTold};
 use dual_module_node::NodeRead;
 
@@ -13,9 +13,9 @@ fn tell_node(list: &mut [usize], a: NodeRead) -> usize
     ensures { λ r. ⌜ Tells (readNodeNumbers a) (now (list .entry)) (now (list .exit)) r ⌝ }
 {
     match a {
-        NodeRead::Defect(v, x, p, y) => answer_numbers::front(list, &[15, v, x, p, y]),
-        NodeRead::Blossom(m, x, p, y) => answer_numbers::front(list, &[16, m, x, p, y]),
-        NodeRead::Refused(k) => answer_numbers::front(list, &[11, k]),
+        NodeRead::Defect(v, x, p, y) => answers::front(list, &[15, v, x, p, y]),
+        NodeRead::Blossom(m, x, p, y) => answers::front(list, &[16, m, x, p, y]),
+        NodeRead::Refused(k) => answers::front(list, &[11, k]),
     }
 }
 

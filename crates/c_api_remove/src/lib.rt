@@ -19,5 +19,5 @@ pub extern "C" fn fb_remove_blossom(
         return c_api::answer::refuse_short(answer);
     }
     let a = dual_module_remove::remove_blossom(block, scratch, node);
-    answer_numbers::tell(answer, a)
+    answers::tell(answer, a)
 }

@@ -3,8 +3,9 @@ use Prim.Native.Nat.{ℕ}
 use mathlib.Core.Path.{_≡_}
 use mathlib.Core.List.{List, [], _∷_}
 use lib.IntN.{ℤ}
-use Rattle.update_length.specs.declared.Answer.the-variants.{NonZeroGrow as NodeFree, Unlimited as NodeUnlimited, Refused as RefusedCall}
-use Rattle.answer_numbers.specs.Numbers.{answerNumbers}
+use Rattle.answers.specs.declared.Answer.the-variants.{Refused as RefusedCall}
+use Rattle.answers.specs.declared.MaxUpdateLength.the-variants.{NonZeroGrow as NodeFree, Unlimited as NodeUnlimited}
+use Rattle.answers.specs.Numbers.{lengthNumbers, answerNumbers}
 use Rattle.calls.specs.declared.group.GroupMaxUpdateLength.{GroupMaxUpdateLength as Group}
 use Rattle.calls.specs.declared.group.GroupMaxUpdateLength.the-variants.{NonZeroGrow, Unlimited, Conflicts, Refused}
 use Rattle.c_api.specs.Words.{Told}
@@ -12,8 +13,8 @@ use Rattle.dual_module_round.specs.Called.{RenewCalled, PrepareAllCalled, Round
 
 -- a length, no limit and a refusal as for one node; else case 14 with the number of conflicts and of stops
 unfoldable pub groupNumbers : Group → List ℕ
-groupNumbers (NonZeroGrow l e) = answerNumbers (NodeFree l e)
-groupNumbers (Unlimited e) = answerNumbers (NodeUnlimited e)
+groupNumbers (NonZeroGrow l e) = lengthNumbers (NodeFree l e)
+groupNumbers (Unlimited e) = lengthNumbers (NodeUnlimited e)
 groupNumbers (Conflicts c s) = 14 ∷ c ∷ s ∷ []
 groupNumbers (Refused k) = answerNumbers (RefusedCall k)
 

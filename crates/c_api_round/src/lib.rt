@@ -2,10 +2,10 @@
 
 ghost use Prim.Native.Nat.{_≤_};
 ghost use lib.ListN.{length};
-ghost use Rattle.answer_numbers.specs.Numbers.{Tells};
+ghost use Rattle.answers.specs.Numbers.{Tells};
 ghost use Rattle.c_api_round.specs.Told.{groupNumbers, RenewTold, PrepareAllTold, RoundTold, GroupTold};
+use answers::MaxUpdateLength;
 use calls::group::GroupMaxUpdateLength;
-use update_length::Answer;
 
 // The numbers of the group's answer are written over the front of the list; how many they are.
 fn tell_group(list: &mut [usize], g: GroupMaxUpdateLength) -> usize
@@ -13,13 +13,16 @@ fn tell_group(list: &mut [usize], g: GroupMaxUpdateLength) -> usize
     ensures { λ r. ⌜ Tells (groupNumbers g) (now (list .entry)) (now (list .exit)) r ⌝ }
 {
     match g {
-        GroupMaxUpdateLength::NonZeroGrow(l, e) => answer_numbers::tell(
+        GroupMaxUpdateLength::NonZeroGrow(l, e) => answers::tell_length(
             list,
-            Answer::NonZeroGrow(l, e),
+            MaxUpdateLength::NonZeroGrow(l, e),
         ),
-        GroupMaxUpdateLength::Unlimited(e) => answer_numbers::tell(list, Answer::Unlimited(e)),
-        GroupMaxUpdateLength::Conflicts(c, s) => answer_numbers::front(list, &[14, c, s]),
-        GroupMaxUpdateLength::Refused(k) => answer_numbers::front(list, &[11, k]),
+        GroupMaxUpdateLength::Unlimited(e) => answers::tell_length(
+            list,
+            MaxUpdateLength::Unlimited(e),
+        ),
+        GroupMaxUpdateLength::Conflicts(c, s) => answers::front(list, &[14, c, s]),
+        GroupMaxUpdateLength::Refused(k) => answers::front(list, &[11, k]),
     }
 }
 
@@ -32,7 +35,7 @@ pub extern "C" fn fb_renew_active_list(block: &mut [i64], answer: &mut [usize]) 
         return c_api::answer::refuse_short(answer);
     }
     let a = dual_module_round::renew_active_list(block);
-    answer_numbers::tell(answer, a)
+    answers::tell(answer, a)
 }
 
 // Every active node is prepared, first those that shrink.
@@ -51,7 +54,7 @@ pub extern "C" fn fb_prepare_all(
         return c_api::answer::refuse_short(answer);
     }
     let a = dual_module_round::prepare_all(block, second, scratch);
-    answer_numbers::tell(answer, a)
+    answers::tell(answer, a)
 }
 
 // A round: every active node moves by a length, first those that shrink.
@@ -71,7 +74,7 @@ pub extern "C" fn fb_grow_all(
         return c_api::answer::refuse_short(answer);
     }
     let a = dual_module_round::grow(block, second, scratch, length);
-    answer_numbers::tell(answer, a)
+    answers::tell(answer, a)
 }
 
 // How far all active nodes may move; what stands in the way of them is listed in `entries`, 5 words each.

@@ -3,7 +3,7 @@ use Prim.Native.Nat.{ℕ}
 use mathlib.Core.Path.{_≡_}
 use mathlib.Core.List.{List, [], _∷_}
 use lib.IntN.{ℤ}
-use Rattle.update_length.specs.declared.Answer.the-variants.{Refused as RefusedCall}
+use Rattle.answers.specs.declared.Answer.the-variants.{Refused as RefusedCall}
 use Rattle.c_api.specs.Words.{answerNumbers, Told}
 use Rattle.sheet.specs.declared.SheetOpened.{SheetOpened}
 use Rattle.sheet.specs.declared.SheetOpened.the-variants.{Opened, Refused}

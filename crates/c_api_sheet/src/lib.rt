@@ -2,7 +2,7 @@
 
 ghost use Prim.Native.Nat.{_≤_};
 ghost use lib.ListN.{length};
-ghost use Rattle.answer_numbers.specs.Numbers.{Tells};
+ghost use Rattle.answers.specs.Numbers.{Tells};
 ghost use Rattle.c_api_sheet.specs.Told.{sheetNumbers, SheetTold};
 use sheet::SheetOpened;
 
@@ -12,8 +12,8 @@ fn tell_sheet(list: &mut [usize], a: SheetOpened) -> usize
     ensures { λ r. ⌜ Tells (sheetNumbers a) (now (list .entry)) (now (list .exit)) r ⌝ }
 {
     match a {
-        SheetOpened::Opened(k) => answer_numbers::front(list, &[12, k]),
-        SheetOpened::Refused(k) => answer_numbers::front(list, &[11, k]),
+        SheetOpened::Opened(k) => answers::front(list, &[12, k]),
+        SheetOpened::Refused(k) => answers::front(list, &[11, k]),
     }
 }
 

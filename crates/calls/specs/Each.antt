@@ -8,9 +8,9 @@ use Rattle.graph.specs.Basic.{if_then_else_, only, below}
 use Rattle.graph.specs.State.{State, defectVertex, blossom, removed, edgeCount, growthAt, weightAt, classOf, growStateOf, withGrowState, stay, growing, shrinking, down, up}
 use Rattle.graph.specs.Open.{cleared}
 use Rattle.graph.specs.Active.{activated}
-use Rattle.update_length.specs.declared.Answer.{Answer}
-use Rattle.update_length.specs.declared.Answer.the-variants.{NonZeroGrow, Unlimited, Conflicting, TouchingVirtual, BlossomNeedExpand, VertexShrinkStop, VertexShrinkStopPeer, Done, Node, Prepared, Refused, Vertex}
-use Rattle.update_length.specs.Answer.{Reply, says}
+use Rattle.answers.specs.declared.Answer.{Answer}
+use Rattle.answers.specs.declared.Answer.the-variants.{Done, Prepared, Refused, Vertex}
+use Rattle.answers.specs.Answer.{Reply, says, freeOr}
 use Rattle.calls.specs.Refuse.{badNode, nodeRefusal, storeShort, unless}
 use Rattle.pass.specs.Prepare.{prepareNode}
 use Rattle.update_length.specs.Scan.{scan}
@@ -61,18 +61,7 @@ signedFor x l = if eqb x growing then l else negℤ l
 
 -- growth by a free answer's limit; any other answer is handed back
 unfoldable pub follow : State → ℕ → ℕ → Answer → Reply
-follow c n x (NonZeroGrow l e) = growDualNode c n (signedFor x l)
-follow c n x (Unlimited e) = says (Unlimited e) c
-follow c n x (Conflicting p g m h) = says (Conflicting p g m h) c
-follow c n x (TouchingVirtual m g v) = says (TouchingVirtual m g v) c
-follow c n x (BlossomNeedExpand m) = says (BlossomNeedExpand m) c
-follow c n x (VertexShrinkStop m) = says (VertexShrinkStop m) c
-follow c n x (VertexShrinkStopPeer m p g) = says (VertexShrinkStopPeer m p g) c
-follow c n x Done = says Done c
-follow c n x (Node m) = says (Node m) c
-follow c n x (Prepared k) = says (Prepared k) c
-follow c n x (Refused k) = says (Refused k) c
-follow c n x (Vertex v) = says (Vertex v) c
+follow c n x a = freeOr (says a c) (λ l e. growDualNode c n (signedFor x l)) (λ e. says a c) a
 
 -- by the length answer of a node that is not Stay
 unfoldable pub advanceBy : ℕ → ℕ → Reply → Reply

@@ -4,7 +4,8 @@ use mathlib.Core.Path.{_≡_, refl}
 use mathlib.Core.Bool.{true, false}
 use mathlib.Core.List.{List, [], _∷_, map}
 use lib.IntN.{pos}
-use Rattle.update_length.specs.declared.Answer.the-variants.{Conflicting, NonZeroGrow, Done, Node, Refused}
+use Rattle.answers.specs.declared.Answer.the-variants.{Length, Done, Node, Refused}
+use Rattle.answers.specs.declared.MaxUpdateLength.the-variants.{Conflicting, NonZeroGrow}
 use Rattle.calls.specs.Calls.{InsertDefect, Clear, LoadEdgeModifier, answered}
 use Rattle.calls.specs.Erasures.{EdgeWeight}
 use Rattle.calls.specs.Examples.{_gives_, Example, given, wanted, edge, graphP, askGrow}
@@ -21,16 +22,16 @@ erasureExamples =
       lines =
           LoadEdgeModifier (takes 1 2 ∷ takes 0 9 ∷ takes 1 8 ∷ []) gives answered Done
           ∷ InsertDefect 1 1 gives answered (Node 0) ∷ InsertDefect 2 1 gives answered (Node 1)
-          ∷ askGrow 0 gives answered (NonZeroGrow (pos 4) false) ∷ Clear gives answered Done
+          ∷ askGrow 0 gives answered (Length (NonZeroGrow (pos 4) false)) ∷ Clear gives answered Done
           ∷ InsertDefect 1 1 gives answered (Node 0) ∷ InsertDefect 2 1 gives answered (Node 1)
-          ∷ askGrow 0 gives answered (NonZeroGrow (pos 2) false) ∷ [];
+          ∷ askGrow 0 gives answered (Length (NonZeroGrow (pos 2) false)) ∷ [];
     } ∷
     -- an erased edge: weight 0, and both its ends touch at once
     record {
       start = graphP 4;
       lines =
           LoadEdgeModifier (takes 1 0 ∷ []) gives answered Done ∷ InsertDefect 1 1 gives answered (Node 0)
-          ∷ InsertDefect 2 1 gives answered (Node 1) ∷ askGrow 0 gives answered (Conflicting 1 1 0 0) ∷ [];
+          ∷ InsertDefect 2 1 gives answered (Node 1) ∷ askGrow 0 gives answered (Length (Conflicting 1 1 0 0)) ∷ [];
     } ∷
     -- an edge that is none before a weight out of range, wherever they stand, and that before what stands
     record {

@@ -9,8 +9,8 @@ use Rattle.graph.specs.Basic.{if_then_else_, fold, all, below}
 use Rattle.graph.specs.State.{State, edgeCount, nodeCount, withEdgeWeight, withReweighted}
 use Rattle.graph.specs.Open.{weightLimit}
 use Rattle.graph.specs.Opening.{givenAt}
-use Rattle.update_length.specs.declared.Answer.the-variants.{Done}
-use Rattle.update_length.specs.Answer.{Reply}
+use Rattle.answers.specs.declared.Answer.the-variants.{Done}
+use Rattle.answers.specs.Answer.{Reply}
 use Rattle.calls.specs.Refuse.{unless}
 
 -- an edge, and the weight that it takes

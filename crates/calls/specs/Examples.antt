@@ -7,8 +7,9 @@ use mathlib.Core.List.{List, [], _∷_, _++_, map}
 use lib.IntN.{pos, negsuc}
 use Rattle.graph.specs.State.{State}
 use Rattle.graph.specs.Open.{Edge, opened}
-use Rattle.update_length.specs.declared.Answer.the-variants.{NonZeroGrow, Conflicting, TouchingVirtual, VertexShrinkStop, Done, Node, Refused}
-use Rattle.calls.specs.Calls.{Call, InsertDefect, MaxUpdateLength, Grow, ReadTable, Outcome, answered, growths, respond}
+use Rattle.answers.specs.declared.Answer.the-variants.{Length, Done, Node, Refused}
+use Rattle.answers.specs.declared.MaxUpdateLength.the-variants.{NonZeroGrow, Conflicting, TouchingVirtual, VertexShrinkStop}
+use Rattle.calls.specs.Calls.{Call, InsertDefect, UpdateLength, Grow, ReadTable, Outcome, answered, growths, respond}
 use Rattle.calls.specs.Opens.{everything}
 
 infix 70 _gives_
@@ -49,24 +50,24 @@ unfoldable pub defect : ℕ → Call
 defect v = InsertDefect v 1
 
 unfoldable pub askGrow : ℕ → Call
-askGrow n = MaxUpdateLength n 1 true
+askGrow n = UpdateLength n 1 true
 
 unfoldable pub askShrink : ℕ → Call
-askShrink n = MaxUpdateLength n 0 true
+askShrink n = UpdateLength n 0 true
 
 -- the runs of P1 and P7, which P2 and P8 go on from
 unfoldable pub runP1 : List Line
 runP1 =
     defect 1 gives answered (Node 0) ∷
     defect 2 gives answered (Node 1) ∷
-    askGrow 0 gives answered (NonZeroGrow (pos 2) false) ∷
+    askGrow 0 gives answered (Length (NonZeroGrow (pos 2) false)) ∷
     Grow 0 (pos 2) gives answered Done ∷
     Grow 1 (pos 2) gives answered Done ∷
-    askGrow 0 gives answered (Conflicting 1 1 0 0) ∷
+    askGrow 0 gives answered (Length (Conflicting 1 1 0 0)) ∷
     ReadTable gives growths (0 ∷ 2 ∷ 2 ∷ 2 ∷ 2 ∷ 0 ∷ []) ∷ []
 
 unfoldable pub runP7 : List Line
-runP7 = defect 1 gives answered (Node 0) ∷ Grow 0 (pos 2) gives answered Done ∷ askGrow 0 gives answered (NonZeroGrow (pos 4) false) ∷ []
+runP7 = defect 1 gives answered (Node 0) ∷ Grow 0 (pos 2) gives answered Done ∷ askGrow 0 gives answered (Length (NonZeroGrow (pos 4) false)) ∷ []
 
 unfoldable pub bothDefects : List Line
 bothDefects = defect 1 gives answered (Node 0) ∷ defect 2 gives answered (Node 1) ∷ []
@@ -75,16 +76,16 @@ bothDefects = defect 1 gives answered (Node 0) ∷ defect 2 gives answered (Node
 unfoldable pub examples : List Example
 examples =
     record { start = graphP 4; lines = runP1 } ∷
-    record { start = graphP 4; lines = runP1 ++ (Grow 0 (negsuc 1) gives answered Done ∷ askShrink 0 gives answered (VertexShrinkStop 0) ∷ []) } ∷
+    record { start = graphP 4; lines = runP1 ++ (Grow 0 (negsuc 1) gives answered Done ∷ askShrink 0 gives answered (Length (VertexShrinkStop 0)) ∷ []) } ∷
     record { start = graphP 4; lines = bothDefects ++ (Grow 0 (pos 4) gives answered Done ∷ []) } ∷
     record { start = graphP 4; lines = bothDefects ++ (Grow 0 (pos 5) gives answered (Refused 10) ∷ []) } ∷
     record {
       start = graphP 4;
       lines = defect 1 gives answered (Node 0) ∷ Grow 0 (pos 4) gives answered Done
-          ∷ askGrow 0 gives answered (TouchingVirtual 0 0 0) ∷ [];
+          ∷ askGrow 0 gives answered (Length (TouchingVirtual 0 0 0)) ∷ [];
     }
     ∷
-    record { start = graphP 5; lines = bothDefects ++ (Grow 0 (pos 4) gives answered Done ∷ askGrow 1 gives answered (Conflicting 0 0 1 1) ∷ []) } ∷
+    record { start = graphP 5; lines = bothDefects ++ (Grow 0 (pos 4) gives answered Done ∷ askGrow 1 gives answered (Length (Conflicting 0 0 1 1)) ∷ []) } ∷
     record { start = graphP7; lines = runP7 } ∷
     record {
       start = graphP7;

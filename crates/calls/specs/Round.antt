@@ -10,9 +10,12 @@ use Rattle.graph.specs.Basic.{if_then_else_, fold, all, only}
 use Rattle.graph.specs.State.{State, growStateOf, growing, shrinking, down, up}
 use Rattle.graph.specs.Sound.{stateSound}
 use Rattle.graph.specs.Active.{renewed, activeIn}
-use Rattle.update_length.specs.declared.Answer.{Answer}
-use Rattle.update_length.specs.declared.Answer.the-variants.{NonZeroGrow, Unlimited, Conflicting, TouchingVirtual, BlossomNeedExpand, VertexShrinkStop, VertexShrinkStopPeer, Done, Node, Prepared, Refused, Vertex}
-use Rattle.update_length.specs.Answer.{Reply, says}
+use Rattle.answers.specs.declared.Answer.{Answer}
+use Rattle.answers.specs.declared.Answer.the-variants.{Length, Done, Node, Prepared, Refused, Vertex}
+use Rattle.answers.specs.declared.MaxUpdateLength.the-variants.{NonZeroGrow, Unlimited, Conflicting, TouchingVirtual, BlossomNeedExpand, VertexShrinkStop, VertexShrinkStopPeer}
+use Rattle.answers.specs.Answer.{Reply, says, freeOr}
+unfoldable pub use Rattle.answers.specs.Answer.{isFree, refusalOf}
+use Rattle.answers.specs.declared.MaxUpdateLength.{MaxUpdateLength}
 -- what the group answers: the least length that is left, no limit, how many conflicts and how many stops it has listed, or a refusal
 pub use Rattle.calls.specs.declared.group.GroupMaxUpdateLength.{GroupMaxUpdateLength as Group}
 pub use Rattle.calls.specs.declared.group.GroupMaxUpdateLength.the-variants.{NonZeroGrow as groupFree}
@@ -33,21 +36,6 @@ pub record Tried : Type 0 where
 -- the trial that starts from c
 abbrev pub begun : State → Tried
 begun c = record { refusal = 0; state = c }
-
--- the number of a refusal; 0 for every other answer
-unfoldable pub refusalOf : Answer → ℕ
-refusalOf (Refused k) = k
-refusalOf (NonZeroGrow l e) = 0
-refusalOf (Unlimited e) = 0
-refusalOf (Conflicting p g m h) = 0
-refusalOf (TouchingVirtual m g v) = 0
-refusalOf (BlossomNeedExpand m) = 0
-refusalOf (VertexShrinkStop m) = 0
-refusalOf (VertexShrinkStopPeer m p g) = 0
-refusalOf Done = 0
-refusalOf (Node m) = 0
-refusalOf (Prepared k) = 0
-refusalOf (Vertex v) = 0
 
 -- what a call's reply leaves of a trial
 unfoldable pub triedBy : Reply → Tried
@@ -116,34 +104,23 @@ unfoldable pub firstRefusal : List Answer → ℕ
 firstRefusal [] = 0
 firstRefusal (a ∷ xs) = if eqb (refusalOf a) 0 then firstRefusal xs else refusalOf a
 
-unfoldable pub isFree : Answer → Bool
-isFree (NonZeroGrow l e) = true
-isFree (Unlimited e) = true
-isFree (Conflicting p g m h) = false
-isFree (TouchingVirtual m g v) = false
-isFree (BlossomNeedExpand m) = false
-isFree (VertexShrinkStop m) = false
-isFree (VertexShrinkStopPeer m p g) = false
-isFree Done = false
-isFree (Node m) = false
-isFree (Prepared k) = false
-isFree (Refused k) = false
-isFree (Vertex v) = false
-
 -- the node of a pending stop, stored as n + 1; 0 for every other answer
+unfoldable pub stopOfLength : MaxUpdateLength → ℕ
+stopOfLength (VertexShrinkStop m) = m + 1
+stopOfLength (VertexShrinkStopPeer m p g) = m + 1
+stopOfLength (NonZeroGrow l e) = 0
+stopOfLength (Unlimited e) = 0
+stopOfLength (Conflicting p g m h) = 0
+stopOfLength (TouchingVirtual m g v) = 0
+stopOfLength (BlossomNeedExpand m) = 0
+
 unfoldable pub stopOf : Answer → ℕ
-stopOf (VertexShrinkStop m) = m + 1
-stopOf (VertexShrinkStopPeer m p g) = m + 1
-stopOf (NonZeroGrow l e) = 0
-stopOf (Unlimited e) = 0
-stopOf (Conflicting p g m h) = 0
-stopOf (TouchingVirtual m g v) = 0
-stopOf (BlossomNeedExpand m) = 0
+stopOf (Length m) = stopOfLength m
 stopOf Done = 0
 stopOf (Node m) = 0
 stopOf (Prepared k) = 0
-stopOf (Refused k) = 0
 stopOf (Vertex v) = 0
+stopOf (Refused k) = 0
 
 unfoldable pub isConflict : Answer → Bool
 isConflict a = not (isFree a) && eqb (stopOf a) 0 && eqb (refusalOf a) 0
@@ -163,18 +140,7 @@ joinUnlimited (groupRefused r) f = groupRefused r
 
 -- a free answer after the others
 unfoldable pub joinFree : Group → Answer → Group
-joinFree g (NonZeroGrow k f) = joinLength g k f
-joinFree g (Unlimited f) = joinUnlimited g f
-joinFree g (Conflicting p h m k) = g
-joinFree g (TouchingVirtual m h v) = g
-joinFree g (BlossomNeedExpand m) = g
-joinFree g (VertexShrinkStop m) = g
-joinFree g (VertexShrinkStopPeer m p h) = g
-joinFree g Done = g
-joinFree g (Node m) = g
-joinFree g (Prepared k) = g
-joinFree g (Refused k) = g
-joinFree g (Vertex v) = g
+joinFree g a = freeOr g (λ k f. joinLength g k f) (λ f. joinUnlimited g f) a
 
 -- stops by rising node number: a is put before the first of a greater number
 unfoldable pub putStop : Answer → List Answer → List Answer

@@ -6,7 +6,8 @@ use lib.IntN.{pos, negsuc}
 use Rattle.graph.specs.State.{State, defectVertex}
 use Rattle.graph.specs.Open.{opened}
 use Rattle.graph.specs.Sound.{sound}
-use Rattle.update_length.specs.declared.Answer.the-variants.{Conflicting, TouchingVirtual, VertexShrinkStop, Done, Node, Refused}
+use Rattle.answers.specs.declared.Answer.the-variants.{Length, Done, Node, Refused}
+use Rattle.answers.specs.declared.MaxUpdateLength.the-variants.{Conflicting, TouchingVirtual, VertexShrinkStop}
 use Rattle.calls.specs.Calls.{InsertDefect, SetGrowState, ReadTable, RenewActiveList, GroupLength, Round, answered, growths, grouped}
 use Rattle.calls.specs.Round.{groupFree, groupUnlimited, groupConflicts, prepareAll}
 use Rattle.calls.specs.Examples.{_gives_, Example, given, wanted, edge}
@@ -27,7 +28,7 @@ roundExamples =
           InsertDefect 1 1 gives answered (Node 0) ∷ InsertDefect 2 1 gives answered (Node 1)
           ∷ GroupLength gives grouped (groupFree (pos 2) false) [] ∷ Round (pos 2) gives answered Done
           ∷ ReadTable gives growths (0 ∷ 2 ∷ 2 ∷ 2 ∷ 2 ∷ 0 ∷ [])
-          ∷ GroupLength gives grouped (groupConflicts 2 0) (Conflicting 1 1 0 0 ∷ Conflicting 0 0 1 1 ∷ [])
+          ∷ GroupLength gives grouped (groupConflicts 2 0) (Length (Conflicting 1 1 0 0) ∷ Length (Conflicting 0 0 1 1) ∷ [])
           ∷ Round (pos 1) gives answered (Refused 10)
           ∷ ReadTable gives growths (0 ∷ 2 ∷ 2 ∷ 2 ∷ 2 ∷ 0 ∷ []) ∷ [];
     } ∷
@@ -37,7 +38,7 @@ roundExamples =
       lines =
           InsertDefect 1 1 gives answered (Node 0) ∷ InsertDefect 2 1 gives answered (Node 1) ∷ Round (pos 2) gives answered Done
           ∷ SetGrowState 0 0 gives answered Done ∷ SetGrowState 0 1 gives answered Done
-          ∷ GroupLength gives grouped (groupConflicts 2 0) (TouchingVirtual 0 0 0 ∷ TouchingVirtual 1 1 3 ∷ []) ∷ [];
+          ∷ GroupLength gives grouped (groupConflicts 2 0) (Length (TouchingVirtual 0 0 0) ∷ Length (TouchingVirtual 1 1 3) ∷ []) ∷ [];
     } ∷
     -- the same with a renewal between: node 1 is met first
     record {
@@ -45,7 +46,7 @@ roundExamples =
       lines =
           InsertDefect 1 1 gives answered (Node 0) ∷ InsertDefect 2 1 gives answered (Node 1) ∷ Round (pos 2) gives answered Done
           ∷ SetGrowState 0 0 gives answered Done ∷ RenewActiveList gives answered Done ∷ SetGrowState 0 1 gives answered Done
-          ∷ GroupLength gives grouped (groupConflicts 2 0) (TouchingVirtual 1 1 3 ∷ TouchingVirtual 0 0 0 ∷ []) ∷ [];
+          ∷ GroupLength gives grouped (groupConflicts 2 0) (Length (TouchingVirtual 1 1 3) ∷ Length (TouchingVirtual 0 0 0) ∷ []) ∷ [];
     } ∷
     -- stops by node number: node 1 was put into the list first
     record {
@@ -53,7 +54,7 @@ roundExamples =
       lines =
           InsertDefect 2 0 gives answered (Node 0) ∷ InsertDefect 0 2 gives answered (Node 1)
           ∷ RenewActiveList gives answered Done ∷ SetGrowState 0 2 gives answered Done
-          ∷ GroupLength gives grouped (groupConflicts 0 2) (VertexShrinkStop 0 ∷ VertexShrinkStop 1 ∷ []) ∷ [];
+          ∷ GroupLength gives grouped (groupConflicts 0 2) (Length (VertexShrinkStop 0) ∷ Length (VertexShrinkStop 1) ∷ []) ∷ [];
     } ∷ []
 
 pub rounds-worked : map (λ (x : Example). given (x .start) (x .lines)) roundExamples ≡ map (λ (x : Example). wanted (x .lines)) roundExamples

@@ -10,6 +10,7 @@ pub mod Refuse
 pub mod Remove
 pub mod RemoveCall
 pub mod Erasures
+pub mod Follow
 pub mod Replies
 pub mod Shapes
 pub mod Sounds

@@ -11,11 +11,12 @@ ghost use Rattle.calls.specs.inner.Reply.{Replies, Usable};
 ghost use Rattle.calls.specs.Calls.{maxUpdateLength, toward, advanceBy, advance};
 use crate::core;
 use crate::refuse;
+use answers::Answer;
+use answers::MaxUpdateLength;
 use graph::dual_node::DOWN;
 use graph::dual_node::UP;
 use graph::node;
 use graph::rows;
-use update_length::Answer;
 
 // The direction of a node in grow state x.
 pub fn direction(x: usize) -> usize
@@ -34,7 +35,10 @@ fn advance_by(b: &mut [i64], t: &mut [i64], n: usize, x: usize) -> Answer
 {
     let d = direction(x);
     let answer = core::length_prepared(b, t, n, d);
-    let Answer::NonZeroGrow(length, _) = answer else {
+    let Answer::Length(found) = answer else {
+        return answer;
+    };
+    let MaxUpdateLength::NonZeroGrow(length, _) = found else {
         return answer;
     };
     core::grow_along(b, t, n, d, length)

@@ -14,11 +14,11 @@ ghost use Rattle.growth.specs.inner.Moving.{PreparedToMove};
 ghost use Rattle.calls.specs.Calls.{setGrowState, prepareDualNodeGrowth, maxUpdateLength, growPrepared, growToward, growDualNode, clear};
 ghost use Rattle.graph.specs.Word.{wordLimit};
 use crate::refuse;
+use answers::Answer;
 use graph::dual_node::UP;
 use graph::node;
 use graph::words;
 use store::clear;
-use update_length::Answer;
 use update_length::scan;
 
 // Node n gets the grow state x, and joins the active list where it leaves Stay.

@@ -14,6 +14,7 @@ ghost use Rattle.calls.specs.Insert.{defectRefusal, holdStep, insertDefe
 ghost use Rattle.calls.specs.inner.Reply.{RepliesInsert, Usable};
 use crate::occupied;
 use crate::refuse;
+use answers::Answer;
 use graph::node;
 use graph::rows;
 use graph::side;
@@ -22,7 +23,6 @@ use graph::vertex;
 use graph::words;
 use pass::scratch;
 use store::insert;
-use update_length::Answer;
 
 // What refuses a defect at vertex v in grow state x: 0 or the number.
 pub fn defect_refusal(b: &[i64], v: usize, x: usize) -> usize

@@ -12,9 +12,10 @@ use Rattle.graph.specs.Word.{toNat}
 use Rattle.graph.specs.Layout.{stateOf, memoryRefusal, listRefusal}
 use Rattle.graph.specs.Form.{Formed}
 use Rattle.pass.specs.Scratch.{zeroScratch}
-use Rattle.update_length.specs.declared.Answer.{Answer}
-use Rattle.update_length.specs.declared.Answer.the-variants.{Done}
-use Rattle.update_length.specs.Answer.{Reply, says}
+use Rattle.answers.specs.declared.Answer.{Answer}
+use Rattle.answers.specs.declared.Answer.the-variants.{Done}
+use Rattle.answers.specs.Answer.{Reply, says}
+use Rattle.answers.specs.Numbers.{OnPaper}
 use Rattle.calls.specs.Refuse.{nodeRefusal, storeShort, unless}
 use Rattle.calls.specs.Reply.{overFront}
 use Rattle.calls.specs.Insert.{defectRefusal, blossomRefusal, insertDefect, insertBlossom}
@@ -25,11 +26,11 @@ use Rattle.calls.specs.Contacts.{contacts, contactWords}
 abbrev pub lentWrites : ℕ → Bool → Bool
 lentWrites k writes = eqb k 0 && writes
 
--- From the block b to b', where k is 0 or refuses what is lent: answer and state are those of the reply r, or of the refusal with nothing
--- changed. A call that doesn't write leaves every word as it was. Of one that does, the words that hold no part of the state are free
+-- From the block b to b', where k is 0 or refuses what is lent: on paper the answer is that of the reply r, and so is the state, or they are
+-- those of the refusal with nothing changed. A call that doesn't write leaves every word as it was. Of one that does, the words that hold no part of the state are free
 -- (docs/LAYOUT.md names them), and no call reads them.
 pub record Called (k : ℕ) (b b' : List ℤ) (a : Answer) (writes : Bool) (r : Reply) : Type 0 where
-  pub answer : a ≡ unless k (stateOf b) r .answer
+  pub answer : OnPaper a (unless k (stateOf b) r .answer)
   pub state : stateOf b' ≡ unless k (stateOf b) r .state
   pub formed : k ≡ 0 → Formed b'
   pub unchanged : lentWrites k writes ≡ false → b' ≡ b

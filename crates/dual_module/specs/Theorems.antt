@@ -6,8 +6,9 @@ use mathlib.Core.List.{List, map}
 use lib.IntN.{ℤ}
 use Rattle.graph.specs.Word.{toNat}
 use Rattle.graph.specs.Layout.{stateOf}
-use Rattle.update_length.specs.declared.Answer.{Answer}
-use Rattle.update_length.specs.declared.Answer.the-variants.{Refused}
+use Rattle.answers.specs.declared.Answer.{Answer}
+use Rattle.answers.specs.declared.Answer.the-variants.{Refused}
+use Rattle.answers.specs.Theorems.{same-answer}
 use Rattle.calls.specs.Refuse.{entriesBut}
 use Rattle.calls.specs.Round.{refusalOf}
 use Rattle.calls.specs.Theorems.{circleStore, circle-store-suffices}
@@ -20,4 +21,4 @@ pub blossom-never-refused-9 : (b t b' t' circle : List ℤ) (x : ℕ) (a : Answe
 unfolding refusalOf
 blossom-never-refused-9 b t b' t' circle x a p h e =
     blossom-not-nine b t x (map toNat circle) (circle-store-suffices (stateOf b) x (map toNat circle) h)
-    (sym (ap refusalOf (p .block .answer)) ∙ ap refusalOf e)
+    (sym (ap refusalOf (same-answer (p .block .answer))) ∙ ap refusalOf e)

@@ -5,6 +5,7 @@ ghost use mathlib.Core.Path.{_≡_};
 ghost use lib.ListN.{length};
 ghost use Rattle.pass.specs.Scratch.{zeroScratch};
 ghost use Rattle.dual_module.specs.Called.{StateCalled, PrepareCalled, LengthCalled, GrowCalled, AdvanceCalled, ClearCalled};
+use answers::Answer;
 use calls::advance;
 use calls::core;
 use calls::refuse;
@@ -12,7 +13,6 @@ use graph::dual_node::UP;
 use graph::node;
 use graph::words;
 use pass::scratch;
-use update_length::Answer;
 
 // Every word of the scratch is set to zero.
 pub fn clear_scratch(t: &mut [i64])

@@ -2,8 +2,8 @@
 // refuses the call itself (3 to 9); only then the scratch is set to zero and the core runs.
 
 ghost use Rattle.dual_module.specs.Called.{DefectCalled, BlossomCalled};
+use answers::Answer;
 use calls::defect;
-use update_length::Answer;
 
 // The next node is a defect at vertex v, in grow state x.
 pub fn insert_defect(b: &mut [i64], t: &mut [i64], v: usize, x: usize) -> Answer

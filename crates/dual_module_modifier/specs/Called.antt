@@ -8,7 +8,7 @@ use lib.ListN.{length}
 use Rattle.graph.specs.Basic.{if_then_else_}
 use Rattle.graph.specs.State.{State}
 use Rattle.graph.specs.Layout.{stateOf, memoryRefusal}
-use Rattle.update_length.specs.declared.Answer.{Answer}
+use Rattle.answers.specs.declared.Answer.{Answer}
 use Rattle.calls.specs.Erasures.{EdgeWeight, pairsFrom, modifierRefusal, loadEdgeModifier}
 use Rattle.dual_module.specs.Called.{Called}
 

@@ -3,7 +3,7 @@
 
 ghost use mathlib.Core.Path.{_≡_};
 ghost use Rattle.dual_module_modifier.specs.Called.{pairsRefusal, ModifierCalled};
-use update_length::Answer;
+use answers::Answer;
 
 // 0, or the refusal of block, scratch and a list of m words.
 fn refusal(b: &[i64], t: &[i64], m: usize) -> usize

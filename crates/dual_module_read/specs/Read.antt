@@ -7,20 +7,21 @@ use lib.Dec.{eqb}
 use lib.ListN.{length}
 use Rattle.graph.specs.Basic.{if_then_else_}
 use Rattle.graph.specs.Layout.{stateOf, memoryRefusal, listRefusal}
-use Rattle.update_length.specs.declared.Answer.{Answer}
-use Rattle.update_length.specs.declared.Answer.the-variants.{Done}
-use Rattle.update_length.specs.Answer.{says}
+use Rattle.answers.specs.declared.Answer.{Answer}
+use Rattle.answers.specs.declared.Answer.the-variants.{Done}
+use Rattle.answers.specs.Numbers.{OnPaper}
+use Rattle.answers.specs.Answer.{says}
 use Rattle.calls.specs.Refuse.{unless}
 use Rattle.calls.specs.Reply.{overFront}
 use Rattle.calls.specs.Calls.{growthTable, representativeVertex}
 use Rattle.calls.specs.Contacts.{contacts, contactWords}
 
 abbrev pub VertexRead : List ℤ → List ℤ → ℕ → Answer → Type 0
-VertexRead b t n a = a ≡ unless (memoryRefusal b t) (stateOf b) (representativeVertex (stateOf b) n) .answer
+VertexRead b t n a = OnPaper a (unless (memoryRefusal b t) (stateOf b) (representativeVertex (stateOf b) n) .answer)
 
 -- From the lent list to list': done and filled, or refused with the number k and left.
 pub record ListRead (b list list' filled : List ℤ) (k : ℕ) (a : Answer) : Type 0 where
-  pub answer : a ≡ unless k (stateOf b) (says Done (stateOf b)) .answer
+  pub answer : OnPaper a (unless k (stateOf b) (says Done (stateOf b)) .answer)
   pub listed : list' ≡ (if eqb k 0 then filled else list)
 
 -- the growth of every side, in a list of two words for each edge

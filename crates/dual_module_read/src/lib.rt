@@ -2,9 +2,9 @@
 // length of a lent list.
 
 ghost use Rattle.dual_module_read.specs.Read.{VertexRead, TableRead, ContactsRead, ContactsCounted};
+use answers::Answer;
 use calls::read;
 use calls::refuse;
-use update_length::Answer;
 
 // An answer, and how many numbers were written.
 pub struct Counted {

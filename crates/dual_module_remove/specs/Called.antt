@@ -7,7 +7,7 @@ use lib.IntN.{ℤ}
 use lib.Dec.{eqb}
 use Rattle.graph.specs.State.{State}
 use Rattle.graph.specs.Layout.{stateOf, memoryRefusal}
-use Rattle.update_length.specs.declared.Answer.{Answer}
+use Rattle.answers.specs.declared.Answer.{Answer}
 use Rattle.calls.specs.Remove.{removeRefusal, removeBlossom}
 use Rattle.dual_module.specs.Called.{CalledWithScratch}
 

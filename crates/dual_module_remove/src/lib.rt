@@ -3,7 +3,7 @@
 // core runs.
 
 ghost use Rattle.dual_module_remove.specs.Called.{RemoveCalled};
-use update_length::Answer;
+use answers::Answer;
 
 // Node n, a blossom of dual variable 0, is opened: its members are outermost again and hold their sides, and its number
 // stands for nothing.

@@ -13,11 +13,12 @@ use Rattle.graph.specs.State.{State}
 use Rattle.graph.specs.Layout.{nOf, stateOf, sized, memoryFits, blockRefusal}
 use Rattle.graph.specs.Form.{Formed}
 use Rattle.pass.specs.Scratch.{zeroScratch}
-use Rattle.update_length.specs.declared.Answer.{Answer}
-use Rattle.update_length.specs.Answer.{Reply}
+use Rattle.answers.specs.declared.Answer.{Answer}
+use Rattle.answers.specs.Numbers.{OnPaper}
+use Rattle.answers.specs.Answer.{Reply}
 use Rattle.calls.specs.declared.group.GroupMaxUpdateLength.{GroupMaxUpdateLength as Group}
 use Rattle.calls.specs.declared.group.GroupMaxUpdateLength.the-variants.{Refused}
-use Rattle.update_length.specs.declared.Answer.the-variants.{Done, Refused as RefusedCall}
+use Rattle.answers.specs.declared.Answer.the-variants.{Done, Refused as RefusedCall}
 use Rattle.calls.specs.Refuse.{unless}
 use Rattle.calls.specs.Round.{refusalOf, tried, renewActiveList, prepareAll, round, GroupReply, isRefused, groupLength}
 use Rattle.round.specs.inner.Step.{wholeTrial}
@@ -49,7 +50,7 @@ roundRefusal b s t l = if eqb (trialRefusal b s t) 0 then (if belowOne l then 14
 -- From block b, second block s and scratch t, where k is 0 or refuses the trial: answer and state are those of the reply r. A refusal
 -- leaves every word of the block. Once a trial was worked, the second block is the block, word for word, and the scratch is all zero.
 pub record OnTrial (k : ℕ) (b s t b' s' t' : List ℤ) (a : Answer) (r : Reply) : Type 0 where
-  pub answer : a ≡ unless k (stateOf b) r .answer
+  pub answer : OnPaper a (unless k (stateOf b) r .answer)
   pub state : stateOf b' ≡ unless k (stateOf b) r .state
   pub formed : k ≡ 0 → Formed b'
   pub unchanged : refusalOf a ≢ 0 → b' ≡ b

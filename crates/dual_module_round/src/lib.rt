@@ -13,11 +13,11 @@ ghost use Rattle.pass.specs.Scratch.{zeroScratch};
 ghost use Rattle.calls.specs.Round.{isRefused};
 ghost use Rattle.dual_module_round.specs.Called.{trialRefusal, groupTrialRefusal, roundRefusal, trialReply, trialAnswer, OnTrial, RenewCalled, PrepareAllCalled, RoundCalled, GroupCalled};
 ghost use Rattle.graph.specs.Word.{wordLimit};
+use answers::Answer;
 use calls::group::GroupMaxUpdateLength;
 use graph::sizes;
 use graph::words;
 use memory_tests::refuse;
-use update_length::Answer;
 
 // ---- copies
 

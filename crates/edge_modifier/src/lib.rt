@@ -11,10 +11,10 @@ ghost use Rattle.graph.specs.inner.Form.{Becomes};
 ghost use Rattle.calls.specs.Erasures.{pairsFrom, namesEdge, weightInRange, modifierRefusal, reweigh, loadEdgeModifier};
 ghost use Rattle.calls.specs.inner.Reply.{Replies};
 ghost use Rattle.edge_modifier.specs.inner.Refusals.{refusalOfMark, refusalOfWeights};
+use answers::Answer;
 use graph::edge;
 use graph::rows;
 use open_graph::given;
-use update_length::Answer;
 
 // ---- what refuses it
 

@@ -6,7 +6,8 @@ use mathlib.Core.Bool.{true, false}
 use mathlib.Core.List.{List, [], _∷_}
 use lib.IntN.{pos}
 use Rattle.graph.specs.Open.{Edge, opened, openRefusal}
-use Rattle.update_length.specs.declared.Answer.the-variants.{Unlimited, Conflicting}
+use Rattle.answers.specs.declared.Answer.the-variants.{Length}
+use Rattle.answers.specs.declared.MaxUpdateLength.the-variants.{Unlimited, Conflicting}
 use Rattle.calls.specs.Calls.{Call, InsertDefect, Grow}
 use Rattle.calls.specs.Examples.{edge}
 use Rattle.reachable.specs.Reachable.{after}
@@ -63,7 +64,7 @@ at-1 : DefectAt met 0 1
 unfolding everything
 at-1 = record { inside = omega arith; class = refl }
 
-met-answer : growingLength met 0 ≡ Conflicting 1 1 0 0
+met-answer : growingLength met 0 ≡ Length (Conflicting 1 1 0 0)
 unfolding everything
 met-answer = refl
 
@@ -104,7 +105,7 @@ halved = record {
   present = present-halved;
 }
 
-halved-answer : growingLength halved 1 ≡ Conflicting 0 0 1 1
+halved-answer : growingLength halved 1 ≡ Length (Conflicting 0 0 1 1)
 unfolding everything
 halved-answer = refl
 
@@ -158,6 +159,6 @@ star-tight : Tight star 1 2
 star-tight = with-node 2 3 (λ e. absurd (omega arith)) at-3 star-sum
 
 -- and yet node 1 is answered that nothing limits it
-star-answer : growingLength star 1 ≡ Unlimited false
+star-answer : growingLength star 1 ≡ Length (Unlimited false)
 unfolding everything
 star-answer = refl

@@ -9,8 +9,9 @@ use mathlib.Core.List.{List}
 use lib.IntN.{ℤ, pos}
 use Rattle.graph.specs.State.{defectVertex, nodeCount, classOf, growStateOf, dualOf, growing, shrinking, up}
 use Rattle.graph.specs.Open.{Edge}
-use Rattle.update_length.specs.declared.Answer.{Answer}
-use Rattle.update_length.specs.declared.Answer.the-variants.{Conflicting, TouchingVirtual}
+use Rattle.answers.specs.declared.Answer.{Answer}
+use Rattle.answers.specs.declared.Answer.the-variants.{Length}
+use Rattle.answers.specs.declared.MaxUpdateLength.the-variants.{Conflicting, TouchingVirtual}
 use Rattle.calls.specs.Calls.{maxUpdateLength}
 use Rattle.distance.specs.Graph.{WeightedGraph, Virtual, Walk}
 use Rattle.distance.specs.Distance.{dist}
@@ -19,8 +20,8 @@ use Rattle.table_theorem.specs.Runs.{Run, end}
 
 -- the answers that name an obstacle of node n: a conflict with a peer, or a virtual vertex
 pub data Obstacle (n : ℕ) : Answer → Type 0 where
-  conflicts : (p h k : ℕ) → Obstacle n (Conflicting p h n k)
-  touches : (k u : ℕ) → Obstacle n (TouchingVirtual n k u)
+  conflicts : (p h k : ℕ) → Obstacle n (Length (Conflicting p h n k))
+  touches : (k u : ℕ) → Obstacle n (Length (TouchingVirtual n k u))
 
 module _ {v : ℕ} {edges : List Edge} {virtuals : List ℕ} (r : Run v edges virtuals) where
   abbrev pub runGraph : WeightedGraph

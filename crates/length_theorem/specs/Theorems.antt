@@ -6,7 +6,8 @@ use mathlib.Core.Bool.{Bool}
 use mathlib.Core.List.{List}
 use lib.IntN.{ℤ}
 use Rattle.graph.specs.Open.{Edge}
-use Rattle.update_length.specs.declared.Answer.the-variants.{NonZeroGrow, Unlimited, Conflicting, TouchingVirtual, Refused}
+use Rattle.answers.specs.declared.Answer.the-variants.{Length, Refused}
+use Rattle.answers.specs.declared.MaxUpdateLength.the-variants.{NonZeroGrow, Unlimited, Conflicting, TouchingVirtual}
 use Rattle.opened_graph.specs.OpenedGraph.{PositiveWeights}
 use Rattle.calls.specs.Contacts.{IsContact}
 use Rattle.table_theorem.specs.Runs.{Run, end}
@@ -21,20 +22,20 @@ contact-is-tight positive r e p q = contact-means positive r e p q
 
 module _ {v : ℕ} {edges : List Edge} {virtuals : List ℕ} (positive : PositiveWeights edges) (r : Run v edges virtuals) {n x : ℕ} (at : DefectAt r n x) where
   -- A conflict with a peer means that the constraint of the two is tight, or has 1 left where the peer is Grow.
-  pub conflict-is-tight : {p h m k : ℕ} → growingLength r n ≡ Conflicting p h m k → ConflictMeans r n x p m
+  pub conflict-is-tight : {p h m k : ℕ} → growingLength r n ≡ Length (Conflicting p h m k) → ConflictMeans r n x p m
   conflict-is-tight = conflict-means positive r at
 
   -- A virtual vertex that is answered means that the constraint with it is tight.
-  pub virtual-is-tight : {m k u : ℕ} → growingLength r n ≡ TouchingVirtual m k u → VirtualMeans r n x m u
+  pub virtual-is-tight : {m k u : ℕ} → growingLength r n ≡ Length (TouchingVirtual m k u) → VirtualMeans r n x m u
   virtual-is-tight = virtual-means positive r at
 
   module _ (none : NoneShrinks r) where
     -- Where no node is Shrink, a free length is above 0, and growth by it keeps every constraint.
-    pub free-length-keeps-constraints : {l : ℤ} {e : Bool} → growingLength r n ≡ NonZeroGrow l e → FreeBy r n x l
+    pub free-length-keeps-constraints : {l : ℤ} {e : Bool} → growingLength r n ≡ Length (NonZeroGrow l e) → FreeBy r n x l
     free-length-keeps-constraints = free-keeps positive r at none
 
     -- An unlimited one keeps them whatever the growth: no other defect and no virtual vertex is in reach.
-    pub unlimited-length-keeps-constraints : {e : Bool} → growingLength r n ≡ Unlimited e → (l : ℕ) → Keeps r n x l
+    pub unlimited-length-keeps-constraints : {e : Bool} → growingLength r n ≡ Length (Unlimited e) → (l : ℕ) → Keeps r n x l
     unlimited-length-keeps-constraints = unlimited-keeps positive r at none
 
     -- And a node with a tight constraint gets an obstacle, unless the call is refused.

@@ -7,7 +7,7 @@ use Rattle.graph.specs.State.{State, blossom, classOf, dualOf, nodeCount}
 use Rattle.graph.specs.Open.{Edge, opened, openRefusal}
 use Rattle.graph.specs.Sound.{stateSound}
 use Rattle.calls.specs.Opens.{everything}
-use Rattle.calls.specs.Calls.{Call, InsertDefect, InsertBlossom, SetGrowState, Prepare, MaxUpdateLength, Grow, Advance}
+use Rattle.calls.specs.Calls.{Call, InsertDefect, InsertBlossom, SetGrowState, Prepare, UpdateLength, Grow, Advance}
 use Rattle.reachable.specs.Reachable.{after, Reachable}
 use Rattle.reachable.specs.Theorems.{reachable-sound}
 
@@ -22,7 +22,7 @@ ringEdges =
 pub calls : List Call
 calls =
     InsertDefect 0 1 ∷ InsertDefect 2 1 ∷ InsertDefect 4 1 ∷ Grow 0 (pos 1) ∷ Advance 1 ∷ Grow 2 (pos 1)
-    ∷ InsertBlossom 1 (0 ∷ 1 ∷ 2 ∷ []) ∷ Grow 3 (pos 2) ∷ MaxUpdateLength 3 0 true ∷ Grow 3 (negsuc 0) ∷ Prepare 3 0
+    ∷ InsertBlossom 1 (0 ∷ 1 ∷ 2 ∷ []) ∷ Grow 3 (pos 2) ∷ UpdateLength 3 0 true ∷ Grow 3 (negsuc 0) ∷ Prepare 3 0
     ∷ SetGrowState 9 1 ∷ InsertDefect 2 1 ∷ []
 
 pub reached : State

@@ -9,7 +9,7 @@ use Rattle.graph.specs.State.{State, removed, nodeCount, growthAt, holderAt, gr
 use Rattle.graph.specs.Open.{opened}
 use Rattle.calls.specs.Refuse.{badNode}
 use Rattle.calls.specs.Insert.{prepareStep, blossomRefusal}
-use Rattle.calls.specs.Calls.{Call, InsertDefect, InsertBlossom, SetGrowState, Prepare, MaxUpdateLength, Grow, ReadTable, Advance, Contacts, RepresentativeVertex, Clear, RenewActiveList, PrepareAll, GroupLength, Round, RemoveBlossom, LoadEdgeModifier, respond}
+use Rattle.calls.specs.Calls.{Call, InsertDefect, InsertBlossom, SetGrowState, Prepare, UpdateLength, Grow, ReadTable, Advance, Contacts, RepresentativeVertex, Clear, RenewActiveList, PrepareAll, GroupLength, Round, RemoveBlossom, LoadEdgeModifier, respond}
 use Rattle.reachable.specs.Reachable.{Reachable}
 
 -- ---- in which state the circle of each blossom was joined
@@ -24,7 +24,7 @@ logged c (InsertBlossom x circle) log = if eqb (blossomRefusal c x circle) 0 the
 logged c (InsertDefect v x) log = log
 logged c (SetGrowState n x) log = log
 logged c (Prepare n d) log = log
-logged c (MaxUpdateLength n d first) log = log
+logged c (UpdateLength n d first) log = log
 logged c (Grow n l) log = log
 logged c ReadTable log = log
 logged c (Advance n) log = log
@@ -101,7 +101,7 @@ unfoldable pub names : ℕ → Call → Bool
 names n (InsertBlossom x circle) = member n circle
 names n (SetGrowState m x) = eqb m n
 names n (Prepare m d) = eqb m n
-names n (MaxUpdateLength m d first) = eqb m n
+names n (UpdateLength m d first) = eqb m n
 names n (Grow m l) = eqb m n
 names n (Advance m) = eqb m n
 names n (RepresentativeVertex m) = eqb m n
@@ -122,7 +122,7 @@ isClear (InsertDefect v x) = false
 isClear (InsertBlossom x circle) = false
 isClear (SetGrowState n x) = false
 isClear (Prepare n d) = false
-isClear (MaxUpdateLength n d first) = false
+isClear (UpdateLength n d first) = false
 isClear (Grow n l) = false
 isClear ReadTable = false
 isClear (Advance n) = false

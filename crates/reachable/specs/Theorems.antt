@@ -17,8 +17,8 @@ use Rattle.gap.specs.declared.Gap.the-variants.{Over}
 use Rattle.gap.specs.Gap.{edgeGap}
 use Rattle.reachable.specs.laws.Gap.{over-never}
 use Rattle.pass.specs.Prepare.{prepareNode}
-use Rattle.update_length.specs.declared.Answer.the-variants.{Done, Refused}
-use Rattle.update_length.specs.Answer.{says}
+use Rattle.answers.specs.declared.Answer.the-variants.{Done, Refused}
+use Rattle.answers.specs.Answer.{says}
 use Rattle.update_length.specs.laws.Long.{longAs}
 use Rattle.calls.specs.Insert.{occupied, defectRefusal}
 use Rattle.calls.specs.Occupied.{vertexDecides, sidesRead}

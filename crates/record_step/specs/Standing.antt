@@ -10,7 +10,7 @@ use Rattle.graph.specs.Open.{sizesOk}
 use Rattle.graph.specs.Layout.{blockLength, stateOf}
 use Rattle.graph.specs.Form.{Formed}
 use Rattle.pass.specs.Scratch.{zeroScratch, scratchOf}
-use Rattle.update_length.specs.declared.Answer.{Answer}
+use Rattle.answers.specs.declared.Answer.{Answer}
 use Rattle.calls.specs.Calls.{Call, Clear, answered, respond}
 use Rattle.reachable.specs.Reachable.{Reachable}
 use Rattle.records.specs.Record.{Record, sizes, anEdge, aVirtual, ask, illFormed, pairAt, decoded, nextRecord, next}

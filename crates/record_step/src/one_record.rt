@@ -14,6 +14,7 @@ ghost use Rattle.records.specs.Lines.{linesFor};
 ghost use Rattle.records.specs.Run.{ends};
 ghost use Rattle.record_step.specs.Standing.{callIn, OfKind, Opened, Answers, Runs, Asked, partOf, memory, Standing, Gathers, MemorySuffices, RecordStepped};
 ghost use Rattle.records.specs.Write.{LinesPut};
+use answers::Answer;
 use calls::advance;
 use calls::core;
 use calls::defect;
@@ -27,7 +28,6 @@ use records::setup;
 use records::setup::Setup;
 use records::table;
 use records::told;
-use update_length::Answer;
 
 pub struct Run {
     pub stage: usize, // 0 no record so far, 1 before the opening, 2 opened, 3 ended

@@ -4,22 +4,28 @@ use mathlib.Core.List.{List, [], _∷_, _++_, map}
 use lib.Dec.{eqb, leb}
 use lib.ListN.{length, drop}
 use Rattle.graph.specs.Basic.{if_then_else_}
-use Rattle.update_length.specs.declared.Answer.{Answer}
-use Rattle.update_length.specs.declared.Answer.the-variants.{NonZeroGrow, Unlimited, Conflicting, TouchingVirtual, BlossomNeedExpand, VertexShrinkStop, VertexShrinkStopPeer, Done, Node, Prepared, Refused, Vertex}
-use Rattle.update_length.specs.Answer.{flag}
+use Rattle.answers.specs.declared.Answer.{Answer}
+use Rattle.answers.specs.declared.Answer.the-variants.{Length, Done, Node, Prepared, Refused, Vertex}
+use Rattle.answers.specs.declared.MaxUpdateLength.{MaxUpdateLength}
+use Rattle.answers.specs.declared.MaxUpdateLength.the-variants.{NonZeroGrow, Unlimited, Conflicting, TouchingVirtual, BlossomNeedExpand, VertexShrinkStop, VertexShrinkStopPeer}
+use Rattle.answers.specs.Answer.{flag}
 use Rattle.calls.specs.Contacts.{Contact}
 use Rattle.calls.specs.Calls.{Outcome, answered, growths, touching, grouped}
 use Rattle.records.specs.Text.{ascii, decimal, signedText, spaced}
 
+-- a length answer in words
+unfoldable pub wordsOfLength : MaxUpdateLength → List ℕ
+wordsOfLength (NonZeroGrow l e) = ascii "free " ++ signedText l ++ spaced (flag e ∷ [])
+wordsOfLength (Unlimited e) = ascii "free -1" ++ spaced (flag e ∷ [])
+wordsOfLength (Conflicting p g n h) = ascii "conflict" ++ spaced (p ∷ g ∷ n ∷ h ∷ [])
+wordsOfLength (TouchingVirtual n g v) = ascii "virtual" ++ spaced (n ∷ g ∷ v ∷ 0 ∷ [])
+wordsOfLength (BlossomNeedExpand n) = ascii "expand" ++ spaced (n ∷ [])
+wordsOfLength (VertexShrinkStop n) = ascii "stop" ++ spaced (n ∷ [])
+wordsOfLength (VertexShrinkStopPeer n p g) = ascii "stop" ++ spaced (n ∷ p ∷ g ∷ [])
+
 -- an answer in words
 unfoldable pub wordsOf : Answer → List ℕ
-wordsOf (NonZeroGrow l e) = ascii "free " ++ signedText l ++ spaced (flag e ∷ [])
-wordsOf (Unlimited e) = ascii "free -1" ++ spaced (flag e ∷ [])
-wordsOf (Conflicting p g n h) = ascii "conflict" ++ spaced (p ∷ g ∷ n ∷ h ∷ [])
-wordsOf (TouchingVirtual n g v) = ascii "virtual" ++ spaced (n ∷ g ∷ v ∷ 0 ∷ [])
-wordsOf (BlossomNeedExpand n) = ascii "expand" ++ spaced (n ∷ [])
-wordsOf (VertexShrinkStop n) = ascii "stop" ++ spaced (n ∷ [])
-wordsOf (VertexShrinkStopPeer n p g) = ascii "stop" ++ spaced (n ∷ p ∷ g ∷ [])
+wordsOf (Length m) = wordsOfLength m
 wordsOf Done = ascii "done"
 wordsOf (Node n) = ascii "node" ++ spaced (n ∷ [])
 wordsOf (Prepared k) = ascii "prepared" ++ spaced (k ∷ [])

@@ -9,7 +9,7 @@ use lib.Dec.{leb, ltb, eqb}
 use lib.ListN.{length, getD, take, drop}
 use Rattle.graph.specs.Basic.{if_then_else_}
 use Rattle.graph.specs.Open.{Edge}
-use Rattle.calls.specs.Calls.{Call, InsertDefect, InsertBlossom, SetGrowState, Prepare, MaxUpdateLength, Grow, ReadTable, Advance, Contacts, Clear}
+use Rattle.calls.specs.Calls.{Call, InsertDefect, InsertBlossom, SetGrowState, Prepare, UpdateLength, Grow, ReadTable, Advance, Contacts, Clear}
 
 -- what a record says
 pub data Record : Type 0 where
@@ -53,7 +53,7 @@ fieldsFit kind n = leb 1 kind && leb kind 13 && eqb (n % 4) 0 && (eqb (n / 4) (g
 
 -- the length of a node, preparing first or not: the field is 1 or 0
 unfoldable pub askLength : ℕ → ℕ → ℕ → Record
-askLength n d first = if leb first 1 then ask (MaxUpdateLength n d (eqb first 1)) else illFormed
+askLength n d first = if leb first 1 then ask (UpdateLength n d (eqb first 1)) else illFormed
 
 -- a body of n fields whose kind and length fit
 unfoldable pub recordOf : ℕ → List ℕ → ℕ → Record

@@ -8,7 +8,7 @@ use lib.ListN.{length}
 use Rattle.graph.specs.Basic.{if_then_else_}
 use Rattle.graph.specs.State.{State}
 use Rattle.graph.specs.Open.{Edge, opened, openRefusal}
-use Rattle.update_length.specs.declared.Answer.the-variants.{Refused}
+use Rattle.answers.specs.declared.Answer.the-variants.{Refused}
 use Rattle.calls.specs.Calls.{Call, answered, Response, respond}
 use Rattle.records.specs.Record.{Record, sizes, anEdge, aVirtual, ask, illFormed, nothing, next, nextRecord}
 use Rattle.records.specs.Lines.{linesFor, joinedLines, fitting, over}

@@ -10,10 +10,10 @@ ghost use Rattle.graph.specs.Form.{Formed};
 ghost use Rattle.calls.specs.Remove.{isBlossom, removeRefusal, openPrepared, removeBlossom};
 ghost use Rattle.calls.specs.inner.Reply.{Replies, Usable};
 ghost use Rattle.remove.specs.inner.Stops.{SidesIn};
+use answers::Answer;
 use calls::refuse;
 use graph::node;
 use graph::rows;
-use update_length::Answer;
 
 pub mod opened; // the opened state
 pub mod stops; // what stops a debug build once the blossom is prepared

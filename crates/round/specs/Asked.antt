@@ -2,8 +2,8 @@
 use Prim.Native.Nat.{ℕ, _+_, _*_}
 use mathlib.Core.List.{List, [], _∷_, _++_}
 use lib.ListN.{length, take, drop}
-use Rattle.update_length.specs.declared.Answer.{Answer}
-use Rattle.answer_numbers.specs.Numbers.{answerNumbers}
+use Rattle.answers.specs.declared.Answer.{Answer}
+use Rattle.answers.specs.Numbers.{answerNumbers}
 
 -- an answer in 5 words: its numbers, and 0 behind them
 unfoldable pub entryNumbers : Answer → List ℕ

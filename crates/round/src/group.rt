@@ -8,8 +8,8 @@ ghost use Rattle.calls.specs.inner.Reply.{Usable};
 ghost use Rattle.calls.specs.Round.{answersOf};
 ghost use Rattle.round.specs.inner.Asked.{Askable};
 ghost use Rattle.round.specs.inner.Group.{ListedGroup, AskedGroup, GroupTried};
-use crate::answers;
 use crate::listed;
+use crate::node_answers;
 use crate::trial;
 use calls::group::GroupMaxUpdateLength;
 
@@ -28,8 +28,8 @@ fn ask(b: &[i64], list: &mut [usize]) -> GroupMaxUpdateLength
     requires { ⌜ Askable (now b) × (length (now list) ≡ 5 * stateOf (now b) .nodeLimit) ⌝ }
     ensures { λ r. ⌜ AskedGroup (answersOf (stateOf (now (b .entry))) (stateOf (now (b .entry)) .active)) (now (list .entry)) (now (list .exit)) r ⌝ }
 {
-    if answers::all_free(b) {
-        return answers::free_group(b);
+    if node_answers::all_free(b) {
+        return node_answers::free_group(b);
     }
     list_group(b, list)
 }
@@ -47,7 +47,7 @@ pub fn compute_maximum_update_length(
     if r != 0 {
         return GroupMaxUpdateLength::Refused(r);
     }
-    let s = answers::first_refusal(b);
+    let s = node_answers::first_refusal(b);
     if s != 0 {
         return GroupMaxUpdateLength::Refused(s);
     }

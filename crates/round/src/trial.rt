@@ -14,24 +14,18 @@ ghost use Rattle.calls.specs.inner.Reply.{MemoryPreparable, Usable};
 ghost use Rattle.calls.specs.Round.{refusalOf, begun, triedBy, tryAll, noneOf};
 ghost use Rattle.round.specs.inner.Step.{nodeCall, nodeCallAt, grownFrom, wholeTrial, TriedTo, CallsPossible, Shrunk};
 ghost use Rattle.graph.specs.Word.{wordLimit};
+use answers::Answer;
 use calls::advance;
 use calls::core;
 use graph::node;
 use graph::rows;
-use update_length::Answer;
 
 // The number of a refusal; 0 for every other answer.
 pub fn refusal_of(a: Answer) -> usize
     ensures { λ r. ⌜ r ≡ refusalOf a ⌝ }
 {
     match a {
-        Answer::NonZeroGrow(_, _) => 0,
-        Answer::Unlimited(_) => 0,
-        Answer::Conflicting(_, _, _, _) => 0,
-        Answer::TouchingVirtual(_, _, _) => 0,
-        Answer::BlossomNeedExpand(_) => 0,
-        Answer::VertexShrinkStop(_) => 0,
-        Answer::VertexShrinkStopPeer(_, _, _) => 0,
+        Answer::Length(_) => 0,
         Answer::Done => 0,
         Answer::Node(_) => 0,
         Answer::Prepared(_) => 0,

@@ -31,8 +31,8 @@ use lib.IntN.{ℤ, pos}
 use lib.ListN.{length, getD, take}
 use Rattle.graph.specs.Open.{Edge}
 use Rattle.graph.specs.Layout.{stateOf}
-use Rattle.update_length.specs.declared.Answer.{Answer}
-use Rattle.update_length.specs.declared.Answer.the-variants.{Done}
+use Rattle.answers.specs.declared.Answer.{Answer}
+use Rattle.answers.specs.declared.Answer.the-variants.{Done}
 use Rattle.dual_module_read.specs.Read.{TableRead}
 use Rattle.c_api.specs.Told.{TableTold}
 use Rattle.records.specs.Lines.{edgeLines, joinedLines}

@@ -9,7 +9,7 @@ use lib.IntN.{pos, negsuc}
 use lib.ListN.{length, getD, replicate}
 use Rattle.graph.specs.Basic.{member}
 use Rattle.graph.specs.Open.{Edge}
-use Rattle.calls.specs.Calls.{InsertDefect, InsertBlossom, SetGrowState, MaxUpdateLength, Grow, ReadTable, Advance, Clear}
+use Rattle.calls.specs.Calls.{InsertDefect, InsertBlossom, SetGrowState, UpdateLength, Grow, ReadTable, Advance, Clear}
 use Rattle.calls.specs.Examples.{edge}
 use Rattle.records.specs.Text.{ascii}
 use Rattle.records.specs.Record.{Record, sizes, anEdge, aVirtual, ask, illFormed}
@@ -71,7 +71,7 @@ abbrev before : List Record
 before =
     sizes 4 3 4 40 ∷ anEdge (edge 0 1 4) ∷ anEdge (edge 1 2 4) ∷ anEdge (edge 2 3 4) ∷ aVirtual 0 ∷ aVirtual 3
     ∷ ask (InsertDefect 1 1) ∷ ask (InsertDefect 2 1) ∷ ask (Grow 0 (pos 2)) ∷ ask (InsertBlossom 1 (0 ∷ 1 ∷ []))
-    ∷ ask (Grow 1 (pos 2)) ∷ ask (MaxUpdateLength 0 1 true) ∷ []
+    ∷ ask (Grow 1 (pos 2)) ∷ ask (UpdateLength 0 1 true) ∷ []
 
 is-read : recordsIn stream ≡ before ++ (ask ReadTable ∷ [])
 unfolding everything

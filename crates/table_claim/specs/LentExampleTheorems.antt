@@ -11,7 +11,7 @@ use Rattle.graph.specs.Layout.{stateOf}
 use Rattle.graph.specs.Opening.{flattened, zeros, edgesFrom, virtualsFrom, openedWords, OpenCalled}
 use Rattle.graph.specs.laws.Members.{clash}
 use Rattle.memory_tests.specs.laws.Block.{block-formed}
-use Rattle.update_length.specs.declared.Answer.the-variants.{Done, Node, Refused}
+use Rattle.answers.specs.declared.Answer.the-variants.{Done, Node, Refused}
 use Rattle.calls.specs.Calls.{InsertBlossom, InsertDefect, Grow}
 use Rattle.calls.specs.Examples.{edge}
 use Rattle.dual_module.specs.Called.{DefectCalled, GrowCalled}

@@ -6,7 +6,7 @@ use mathlib.Core.List.{List}
 use lib.IntN.{ℤ}
 use Rattle.graph.specs.State.{up}
 use Rattle.graph.specs.Open.{Edge}
-use Rattle.update_length.specs.declared.Answer.{Answer}
+use Rattle.answers.specs.declared.Answer.{Answer}
 use Rattle.dual_module.specs.Called.{LengthCalled}
 use Rattle.table_theorem.specs.Runs.{Run}
 use Rattle.length_theorem.specs.Meaning.{growingLength}

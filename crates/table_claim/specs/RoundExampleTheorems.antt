@@ -8,7 +8,7 @@ use lib.IntN.{ℤ, pos}
 use Rattle.graph.specs.Opening.{zeros}
 use Rattle.graph.specs.laws.Members.{clash}
 use Rattle.memory_tests.specs.laws.Block.{block-formed}
-use Rattle.update_length.specs.declared.Answer.the-variants.{Done, Refused}
+use Rattle.answers.specs.declared.Answer.the-variants.{Done, Refused}
 use Rattle.calls.specs.declared.group.GroupMaxUpdateLength.the-variants.{NonZeroGrow}
 use Rattle.calls.specs.Calls.{InsertDefect, RenewActiveList, GroupLength, Round}
 use Rattle.dual_module_read.specs.Read.{TableRead}

@@ -12,12 +12,12 @@ use Rattle.graph.specs.Word.{toNat}
 use Rattle.graph.specs.Layout.{blockLength, scratchLength, stateOf}
 use Rattle.graph.specs.Open.{Edge, opened, openRefusal}
 use Rattle.graph.specs.Opening.{edgesFrom, virtualsFrom, OpenCalled}
-use Rattle.update_length.specs.declared.Answer.{Answer}
-use Rattle.update_length.specs.declared.Answer.the-variants.{Done, Refused}
+use Rattle.answers.specs.declared.Answer.{Answer}
+use Rattle.answers.specs.declared.Answer.the-variants.{Done, Refused}
 use Rattle.calls.specs.Reply.{overFront}
 use Rattle.calls.specs.Contacts.{contacts, contactWords}
 use Rattle.calls.specs.Insert.{insertDefect, insertBlossom}
-use Rattle.calls.specs.Calls.{setGrowState, prepareDualNodeGrowth, maxUpdateLength, growDualNode, advance, growthTable, representativeVertex, clear, Call, InsertDefect, InsertBlossom, SetGrowState, Prepare, MaxUpdateLength, Grow, ReadTable, Advance, Contacts, RepresentativeVertex, Clear, RenewActiveList, PrepareAll, GroupLength, Round, RemoveBlossom, LoadEdgeModifier}
+use Rattle.calls.specs.Calls.{setGrowState, prepareDualNodeGrowth, maxUpdateLength, growDualNode, advance, growthTable, representativeVertex, clear, Call, InsertDefect, InsertBlossom, SetGrowState, Prepare, UpdateLength, Grow, ReadTable, Advance, Contacts, RepresentativeVertex, Clear, RenewActiveList, PrepareAll, GroupLength, Round, RemoveBlossom, LoadEdgeModifier}
 use Rattle.reachable.specs.Reachable.{after}
 use Rattle.table_theorem.specs.Answers.{accepted, isDone}
 use Rattle.table_theorem.specs.History.{History, entryAt, withNodeState, withAdded, advanceLength, historyAfter, noBlossoms, withRound}
@@ -78,7 +78,7 @@ fedOne z (lentDefect t v x) = ifFits (scratchFits z t) (InsertDefect v x)
 fedOne z (lentBlossom t x circle) = ifFits (scratchFits z t) (InsertBlossom x (map toNat circle))
 fedOne z (lentState t n x) = ifFits (scratchFits z t) (SetGrowState n x)
 fedOne z (lentPrepare t n d) = ifFits (scratchFits z t) (Prepare n d)
-fedOne z (lentLength t n d first) = ifFits (scratchFits z t) (MaxUpdateLength n d first)
+fedOne z (lentLength t n d first) = ifFits (scratchFits z t) (UpdateLength n d first)
 fedOne z (lentGrow t n l) = ifFits (scratchFits z t) (Grow n l)
 fedOne z (lentTable t list) = ifFits (listFits z 2 t list) ReadTable
 fedOne z (lentAdvance t n) = ifFits (scratchFits z t) (Advance n)

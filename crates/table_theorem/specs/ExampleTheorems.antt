@@ -6,7 +6,7 @@ use mathlib.Core.Bool.{true}
 use mathlib.Core.List.{List, [], _∷_}
 use lib.IntN.{pos, negsuc}
 use Rattle.graph.specs.Open.{Edge, opened, openRefusal}
-use Rattle.calls.specs.Calls.{Call, InsertDefect, InsertBlossom, SetGrowState, MaxUpdateLength, Grow, Advance, ReadTable, Clear, LoadEdgeModifier, growthTable}
+use Rattle.calls.specs.Calls.{Call, InsertDefect, InsertBlossom, SetGrowState, UpdateLength, Grow, Advance, ReadTable, Clear, LoadEdgeModifier, growthTable}
 use Rattle.calls.specs.Examples.{edge}
 use Rattle.reachable.specs.Reachable.{after}
 use Rattle.distance.specs.Graph.{trivial}
@@ -41,8 +41,8 @@ reaches (suc (suc (suc (suc a)))) h = absurd (omega arith)
 
 abbrev callsP1 : List Call
 callsP1 =
-    InsertDefect 1 1 ∷ InsertDefect 2 1 ∷ MaxUpdateLength 0 1 true ∷ Grow 0 (pos 2) ∷ InsertBlossom 1 (0 ∷ 1 ∷ [])
-    ∷ Grow 1 (pos 2) ∷ MaxUpdateLength 0 1 true ∷ ReadTable
+    InsertDefect 1 1 ∷ InsertDefect 2 1 ∷ UpdateLength 0 1 true ∷ Grow 0 (pos 2) ∷ InsertBlossom 1 (0 ∷ 1 ∷ [])
+    ∷ Grow 1 (pos 2) ∷ UpdateLength 0 1 true ∷ ReadTable
     ∷ SetGrowState 1 0 ∷ Advance 1 ∷ []
 
 opening-P1 : openRefusal 4 3 4 40 edges virtuals true ≡ 0

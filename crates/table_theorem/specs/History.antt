@@ -9,7 +9,7 @@ use lib.ListN.{getD, set}
 use Rattle.graph.specs.Basic.{if_then_else_, below}
 use Rattle.graph.specs.State.{State, stay, growing, shrinking}
 use Rattle.calls.specs.Insert.{insertDefect, insertBlossom}
-use Rattle.calls.specs.Calls.{setGrowState, maxUpdateLength, growDualNode, signedFor, toward, advance, clear, Call, InsertDefect, InsertBlossom, SetGrowState, Prepare, MaxUpdateLength, Grow, ReadTable, Advance, Contacts, RepresentativeVertex, Clear, RenewActiveList, PrepareAll, GroupLength, Round, RemoveBlossom, LoadEdgeModifier, respond}
+use Rattle.calls.specs.Calls.{setGrowState, maxUpdateLength, growDualNode, signedFor, toward, advance, clear, Call, InsertDefect, InsertBlossom, SetGrowState, Prepare, UpdateLength, Grow, ReadTable, Advance, Contacts, RepresentativeVertex, Clear, RenewActiveList, PrepareAll, GroupLength, Round, RemoveBlossom, LoadEdgeModifier, respond}
 use Rattle.graph.specs.Active.{renewed, activeIn}
 use Rattle.calls.specs.Round.{round}
 use Rattle.table_theorem.specs.Answers.{accepted, isDone, limitOf}
@@ -69,7 +69,7 @@ recorded c h (Round l) = if isDone (round c l .answer) then map (withRound l) h 
 -- no other call changes it
 recorded c h (InsertBlossom x circle) = h
 recorded c h (Prepare n d) = h
-recorded c h (MaxUpdateLength n d first) = h
+recorded c h (UpdateLength n d first) = h
 recorded c h ReadTable = h
 recorded c h Contacts = h
 recorded c h (RepresentativeVertex n) = h
@@ -96,7 +96,7 @@ noBlossom c (InsertBlossom x circle) = not (accepted (insertBlossom c x circle .
 noBlossom c (InsertDefect v x) = true
 noBlossom c (SetGrowState n x) = true
 noBlossom c (Prepare n d) = true
-noBlossom c (MaxUpdateLength n d first) = true
+noBlossom c (UpdateLength n d first) = true
 noBlossom c (Grow n l) = true
 noBlossom c ReadTable = true
 noBlossom c (Advance n) = true
@@ -118,7 +118,7 @@ changesWeights (InsertDefect v x) = false
 changesWeights (InsertBlossom x circle) = false
 changesWeights (SetGrowState n x) = false
 changesWeights (Prepare n d) = false
-changesWeights (MaxUpdateLength n d first) = false
+changesWeights (UpdateLength n d first) = false
 changesWeights (Grow n l) = false
 changesWeights ReadTable = false
 changesWeights (Advance n) = false

@@ -1,5 +1,4 @@
 -- What the contracts of `update_length` cite: the definitions; their laws are in laws/.
-pub mod Answer
 pub mod Scan
 pub mod Opens
 pub mod inner

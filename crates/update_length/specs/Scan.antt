@@ -6,8 +6,10 @@ use lib.IntN.{ℤ, pos, negsuc, negℤ, subℕ}
 use lib.Dec.{leb, eqb}
 use Rattle.graph.specs.Basic.{if_then_else_, fold}
 use Rattle.graph.specs.State.{State, Overgrown, NodeClass, defectVertex, blossom, removed, opposite, endAt, growthAt, holderAt, grandsonAt, sidesAt, passable, classOf, growStateOf, dualOf, boundaryOf, overgrownOf, grownOver, weightOver, growing, shrinking, up}
-use Rattle.update_length.specs.declared.Answer.{Answer}
-use Rattle.update_length.specs.declared.Answer.the-variants.{NonZeroGrow, Unlimited, Conflicting, TouchingVirtual, BlossomNeedExpand, VertexShrinkStop, VertexShrinkStopPeer, Refused}
+use Rattle.answers.specs.declared.Answer.{Answer}
+use Rattle.answers.specs.declared.MaxUpdateLength.{MaxUpdateLength}
+use Rattle.answers.specs.declared.Answer.the-variants.{Length, Refused}
+use Rattle.answers.specs.declared.MaxUpdateLength.the-variants.{NonZeroGrow, Unlimited, Conflicting, TouchingVirtual, BlossomNeedExpand, VertexShrinkStop, VertexShrinkStopPeer}
 
 -- ---- lengths: signed, because on a state that no call list reaches an edge may have grown past its weight
 
@@ -40,14 +42,14 @@ gapOf c s = subℕ (weightOver c s) (grownOver c s)
 
 -- a length to the peer that holds the far side
 unfoldable pub lookPeer : State → ℕ → ℕ → ℕ → ℤ → Look
-lookPeer c n s p l = if isZero l then meets (Conflicting p (grandsonAt c (opposite s) - 1) n (grandsonAt c s - 1)) else room l
+lookPeer c n s p l = if isZero l then meets (Length (Conflicting p (grandsonAt c (opposite s) - 1) n (grandsonAt c s - 1))) else room l
 
 -- a length to a far side that no node holds
 unfoldable pub lookFree : State → ℕ → ℕ → ℤ → Look
 lookFree c n s l =
     if not (isZero l) then room l
     else if passable c (endAt c (opposite s)) then meets (Refused 13)
-    else meets (TouchingVirtual n (grandsonAt c s - 1) (endAt c (opposite s)))
+    else meets (Length (TouchingVirtual n (grandsonAt c s - 1) (endAt c (opposite s))))
 
 -- the far side is held by a peer p, that is not n: a Shrink peer is skipped, a Grow peer takes half of the gap
 unfoldable pub lookHeld : State → ℕ → ℕ → ℕ → Look
@@ -91,8 +93,8 @@ isEmpty [] = true
 isEmpty (x ∷ xs) = false
 
 unfoldable pub scanAnswer : Bool → Scan → Answer
-scanAnswer e open-ended = Unlimited e
-scanAnswer e (within l) = NonZeroGrow l e
+scanAnswer e open-ended = Length (Unlimited e)
+scanAnswer e (within l) = Length (NonZeroGrow l e)
 scanAnswer e (over a) = a
 
 -- the scan of the boundary of node n in direction d, from what is known before
@@ -105,7 +107,7 @@ scanBoundary c n d r = scanAnswer (isEmpty (boundaryOf c n)) (fold (scanStep c n
 pub data Peers : Type 0 where
   noPeer : Peers
   peer : ℕ → ℕ → Peers  -- a node and its grandson
-  twoPeers : Answer → Peers  -- a second one
+  twoPeers : ℕ → ℕ → ℕ → ℕ → Peers  -- two of them, each with its grandson
 
 -- a side t at the defect's vertex whose edge is full meets the node p that holds the far side, if that is a Grow node
 unfoldable pub meetsPeer : State → ℕ → Bool
@@ -113,18 +115,18 @@ meetsPeer c t = eqb (grownOver c t) (weightOver c t) && not (eqb (holderAt c (op
 
 unfoldable pub meet : Peers → ℕ → ℕ → Peers
 meet noPeer p g = peer p g
-meet (peer q h) p g = if eqb p q then peer q h else twoPeers (Conflicting q h p g)
-meet (twoPeers a) p g = twoPeers a
+meet (peer q h) p g = if eqb p q then peer q h else twoPeers q h p g
+meet (twoPeers a x b y) p g = twoPeers a x b y
 
 unfoldable pub stopStep : State → Peers → ℕ → Peers
 stopStep c r t = if meetsPeer c t then meet r (holderAt c (opposite t) - 1) (grandsonAt c (opposite t) - 1) else r
 
-unfoldable pub stopWith : ℕ → Peers → Answer
+unfoldable pub stopWith : ℕ → Peers → MaxUpdateLength
 stopWith n noPeer = VertexShrinkStop n
 stopWith n (peer p g) = VertexShrinkStopPeer n p g
-stopWith n (twoPeers a) = a
+stopWith n (twoPeers q h p g) = Conflicting q h p g
 
-unfoldable pub stopAnswer : State → ℕ → NodeClass → Answer
+unfoldable pub stopAnswer : State → ℕ → NodeClass → MaxUpdateLength
 stopAnswer c n (blossom m) = BlossomNeedExpand n
 stopAnswer c n removed = BlossomNeedExpand n
 stopAnswer c n (defectVertex v) = stopWith n (fold (stopStep c) noPeer (sidesAt c v))
@@ -139,5 +141,5 @@ shrinkLimit y (o ∷ os) = min y (o .amount)
 unfoldable pub scan : State → ℕ → ℕ → Answer
 scan c n d =
     if eqb d up then scanBoundary c n d open-ended
-    else if eqb (dualOf c n) 0 then stopAnswer c n (classOf c n)
+    else if eqb (dualOf c n) 0 then Length (stopAnswer c n (classOf c n))
     else scanBoundary c n d (within (pos (shrinkLimit (dualOf c n) (overgrownOf c n))))

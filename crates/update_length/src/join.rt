@@ -4,9 +4,10 @@ ghost use mathlib.Core.Path.{_≡_};
 ghost use Prim.Native.Nat.{_<_};
 ghost use Rattle.update_length.specs.Scan.{withLook, scanAnswer};
 ghost use Rattle.update_length.specs.inner.Length.{lengthEnd, lookOf, roomIn, scanOf, withinIn, Knows};
-use crate::Answer;
 use crate::lengths;
 use crate::look::Look;
+use answers::Answer;
+use answers::MaxUpdateLength;
 
 // What a scan knows so far.
 pub enum Scan {
@@ -41,8 +42,8 @@ pub fn scan_answer(empty: bool, r: Scan) -> Answer
     ensures { λ a. ⌜ a ≡ scanAnswer empty (scanOf r) ⌝ }
 {
     match r {
-        Scan::OpenEnded => Answer::Unlimited(empty),
-        Scan::Within(x) => Answer::NonZeroGrow(lengths::signed(x), empty),
+        Scan::OpenEnded => Answer::Length(MaxUpdateLength::Unlimited(empty)),
+        Scan::Within(x) => Answer::Length(MaxUpdateLength::NonZeroGrow(lengths::signed(x), empty)),
         Scan::Over(a) => a,
     }
 }

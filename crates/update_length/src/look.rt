@@ -8,9 +8,10 @@ ghost use Rattle.graph.specs.Form.{Formed};
 ghost use Rattle.update_length.specs.Scan.{gapOf, lookPeer, lookFree, lookHeld, lookGrow, lookShrink, look};
 ghost use Rattle.update_length.specs.inner.Length.{lengthOf, lengthEnd, Shows};
 ghost use Rattle.graph.specs.inner.Readable.{Readable};
-use crate::Answer;
 use crate::lengths;
 use crate::lengths::ZERO;
+use answers::Answer;
+use answers::MaxUpdateLength;
 use gap::Gap;
 use graph::dual_node::UP;
 use graph::edge;
@@ -65,7 +66,7 @@ fn look_peer(b: &[i64], n: usize, s: usize, p: usize, l: usize) -> Look
         let o = side::opposite(s);
         let g = less(side::grandson(b, o));
         let h = less(side::grandson(b, s));
-        Look::Meets(Answer::Conflicting(p, g, n, h))
+        Look::Meets(Answer::Length(MaxUpdateLength::Conflicting(p, g, n, h)))
     } else {
         Look::Room(l)
     }
@@ -82,7 +83,7 @@ fn look_free(b: &[i64], n: usize, s: usize, l: usize) -> Look
             Look::Meets(Answer::Refused(13))
         } else {
             let h = less(side::grandson(b, s));
-            Look::Meets(Answer::TouchingVirtual(n, h, v))
+            Look::Meets(Answer::Length(MaxUpdateLength::TouchingVirtual(n, h, v)))
         }
     } else {
         Look::Room(l)

@@ -14,13 +14,13 @@ ghost use Rattle.graph.specs.inner.Form.{sidesOk};
 ghost use Rattle.update_length.specs.Scan.{scanStep, scanBoundary, shrinkLimit, scan};
 ghost use Rattle.update_length.specs.inner.Length.{lengthEnd, scanOf, withinIn, Knows};
 ghost use Rattle.graph.specs.inner.Readable.{Readable};
-use crate::Answer;
 use crate::join;
 use crate::join::Scan;
 use crate::lengths;
 use crate::lengths::ZERO;
 use crate::look;
 use crate::stop;
+use answers::Answer;
 use graph::dual_node::UP;
 use graph::lists;
 use graph::node;
@@ -78,7 +78,7 @@ pub fn scan(b: &[i64], n: usize, d: usize) -> Answer
         return scan_boundary(b, n, d, Scan::OpenEnded);
     }
     if node::dual(b, n) == 0 {
-        return stop::stop_answer(b, n);
+        return Answer::Length(stop::stop_answer(b, n));
     }
     let y = shrink_limit(b, n);
     scan_boundary(b, n, d, Scan::Within(ZERO + y))

@@ -9,8 +9,8 @@ ghost use Rattle.graph.specs.Form.{Formed};
 ghost use Rattle.update_length.specs.Scan.{noPeer, meetsPeer, meet, stopStep, stopWith, stopAnswer};
 ghost use Rattle.update_length.specs.inner.Length.{peersOf};
 ghost use Rattle.graph.specs.inner.Readable.{Readable};
-use crate::Answer;
 use crate::look;
+use answers::MaxUpdateLength;
 use graph::edge;
 use graph::node;
 use graph::rows;
@@ -90,18 +90,18 @@ fn peers_at(b: &[i64], v: usize) -> Peers
 }
 
 // The answer for the defect node n by the peers that it met.
-fn stop_with(n: usize, r: Peers) -> Answer
+fn stop_with(n: usize, r: Peers) -> MaxUpdateLength
     ensures { λ a. ⌜ a ≡ stopWith n (peersOf r) ⌝ }
 {
     match r {
-        Peers::Nobody => Answer::VertexShrinkStop(n),
-        Peers::Peer(p, g) => Answer::VertexShrinkStopPeer(n, p, g),
-        Peers::Clash(q, h, p, g) => Answer::Conflicting(q, h, p, g),
+        Peers::Nobody => MaxUpdateLength::VertexShrinkStop(n),
+        Peers::Peer(p, g) => MaxUpdateLength::VertexShrinkStopPeer(n, p, g),
+        Peers::Clash(q, h, p, g) => MaxUpdateLength::Conflicting(q, h, p, g),
     }
 }
 
 // The answer for node n.
-pub fn stop_answer(b: &[i64], n: usize) -> Answer
+pub fn stop_answer(b: &[i64], n: usize) -> MaxUpdateLength
     requires { ⌜ Formed (now b) × Readable (stateOf (now b)) × (n < nodeCount (stateOf (now b))) ⌝ }
     ensures { λ r. ⌜ r ≡ stopAnswer (stateOf (now (b .entry))) n (classOf (stateOf (now (b .entry))) n) ⌝ }
 {
@@ -110,6 +110,6 @@ pub fn stop_answer(b: &[i64], n: usize) -> Answer
         let r = peers_at(b, x);
         stop_with(n, r)
     } else {
-        Answer::BlossomNeedExpand(n)
+        MaxUpdateLength::BlossomNeedExpand(n)
     }
 }

@@ -31,8 +31,8 @@ use Rattle.pass.specs.inner.Ready.{Ready, Shrinkable, Preparable, AfterPreparat
 use Rattle.pass.specs.laws.Scratch.{scratch-same, hold-first, first-numbers, wipe-first}
 use Rattle.pass.specs.laws.Passes.{Passed}
 use Rattle.pass.specs.laws.Prepare.{prepare-passed}
-use Rattle.update_length.specs.declared.Answer.the-variants.{Node, Refused}
-use Rattle.update_length.specs.Answer.{says}
+use Rattle.answers.specs.declared.Answer.the-variants.{Node, Refused}
+use Rattle.answers.specs.Answer.{says}
 use Rattle.calls.specs.Refuse.{entriesUnless, entriesBut, unless}
 use Rattle.calls.specs.Insert.{Joining, blossomRefusal, prepareStep, joinSide, memberStays, joinStep, joinCircle, blossomPut, insertBlossom}
 use Rattle.calls.specs.laws.Front.{front-none, none-front, front-before, front-after}

@@ -4,7 +4,7 @@ use native.Mathlib.Nat.{not-le-of-lt}
 use mathlib.Core.Path.{_≡_}
 use mathlib.Core.List.{List}
 use lib.ListN.{length}
-pub use Rattle.answer_numbers.specs.laws.Numbers.{tells-as, answer-short}
+pub use Rattle.answers.specs.laws.Numbers.{tells-as, answer-short}
 use Rattle.c_api.specs.Words.{Tells, shortList, shortCount, Told}
 
 -- ---- an exported call

@@ -1,5 +1,5 @@
 use mathlib.Core.Path.{sym, ap}
-use Rattle.answer_numbers.specs.Numbers.{answerNumbers}
+use Rattle.answers.specs.Numbers.{answerNumbers}
 use Rattle.c_api.specs.laws.Words.{tells-as}
 use Rattle.c_api_gap.specs.Told.{gapNumbers}
 use borrow.Author.Needs.{needs}

@@ -1,7 +1,7 @@
-use Rattle.update_length.specs.declared.Answer.the-variants.{NonZeroGrow}
+use Rattle.answers.specs.declared.MaxUpdateLength.the-variants.{NonZeroGrow}
 use Rattle.c_api_round.specs.Told.{groupNumbers}
-use Rattle.answer_numbers.specs.laws.Numbers.{tells-as}
-use Rattle.answer_numbers.specs.Numbers.{answerNumbers}
+use Rattle.answers.specs.laws.Numbers.{tells-as}
+use Rattle.answers.specs.Numbers.{lengthNumbers, answerNumbers}
 use borrow.Author.Needs.{sfits-of, needs}
 use mir.Facts.{toZ-ofZ}
 use mathlib.Core.Path.{sym, ap, _∙_}
@@ -11,14 +11,14 @@ use Rattle.c_api_round.proofs.tell_group.Tie as tie
 enum-known-g : tie.Need-enum-known-g
 enum-known-g c = search needs
 
-tell-requires : tie.Need-tell-requires
-tell-requires c κs = search needs
+tell-length-requires : tie.Need-tell-length-requires
+tell-length-requires c κs = search needs
 
 enum-known-g-2 : tie.Need-enum-known-g-2
 enum-known-g-2 c = search needs
 
-tell-requires-2 : tie.Need-tell-requires-2
-tell-requires-2 c κs = search needs
+tell-length-requires-2 : tie.Need-tell-length-requires-2
+tell-length-requires-2 c κs = search needs
 
 enum-known-g-3 : tie.Need-enum-known-g-3
 enum-known-g-3 c = search needs
@@ -44,8 +44,8 @@ same-length c = search needs
 returns : tie.Need-returns
 unfolding groupNumbers
 returns c = let s = c .before .before .before .before .before in
-    tells-as (c .before .before .tell .ensures)
-    (ap (λ z. answerNumbers (NonZeroGrow z (s .g .given .0 .1 .0)))
+    tells-as (c .before .before .tell-length .ensures)
+    (ap (λ z. lengthNumbers (NonZeroGrow z (s .g .given .0 .1 .0)))
     (toZ-ofZ
     (sfits-of
     ((rw (s .g .given .1)
@@ -57,7 +57,7 @@ same-length-2 c = search needs
 
 returns-2 : tie.Need-returns-2
 unfolding groupNumbers
-returns-2 c = tells-as (c .before .before .tell2 .ensures) (ap groupNumbers (sym (c .before .before .before .before .before .g2 .given .1)))
+returns-2 c = tells-as (c .before .before .tell-length2 .ensures) (ap groupNumbers (sym (c .before .before .before .before .before .g2 .given .1)))
 
 same-length-3 : tie.Need-same-length-3
 same-length-3 c = search needs
@@ -78,9 +78,9 @@ tell-group-spec =
     tie.close
     (tie.spec
     enum-known-g
-    tell-requires
+    tell-length-requires
     enum-known-g-2
-    tell-requires-2
+    tell-length-requires-2
     enum-known-g-3
     slice-aggregate-front
     front-requires

@@ -15,8 +15,8 @@ use Rattle.graph.specs.inner.Form.{Becomes}
 use Rattle.pass.specs.Scratch.{scratchOf}
 use Rattle.pass.specs.inner.Ready.{Preparable}
 use Rattle.graph.specs.inner.Readable.{Readable}
-use Rattle.update_length.specs.declared.Answer.{Answer}
-use Rattle.update_length.specs.Answer.{Reply}
+use Rattle.answers.specs.declared.Answer.{Answer}
+use Rattle.answers.specs.Answer.{Reply}
 
 -- a block in form whose state is sound, and a scratch of 3 words for each side that is all zero
 pub record Usable (b t : List ℤ) : Type 0 where

@@ -30,8 +30,8 @@ use Rattle.graph.specs.laws.SidesAt.{around-of, rising-of}
 use Rattle.pass.specs.Scratch.{scratchOf}
 use Rattle.pass.specs.inner.Scratch.{wiped}
 use Rattle.pass.specs.laws.Scratch.{hold-first, first-numbers, wipe-first}
-use Rattle.update_length.specs.declared.Answer.the-variants.{Node, Refused}
-use Rattle.update_length.specs.Answer.{says}
+use Rattle.answers.specs.declared.Answer.the-variants.{Node, Refused}
+use Rattle.answers.specs.Answer.{says}
 use Rattle.calls.specs.inner.Front.{FrontHolds}
 use Rattle.calls.specs.laws.Front.{front-none, none-front, front-before}
 use Rattle.calls.specs.Refuse.{storeShort, unless}

@@ -1,12 +1,12 @@
 -- What answers say together is never a refusal.
-use mathlib.Core.Path.{_≡_, refl}
+use mathlib.Core.Path.{_≡_, refl, ap, _∙_}
 use mathlib.Core.Bool.{Bool, false}
 use mathlib.Core.List.{List}
 use lib.IntN.{ℤ}
 use Rattle.graph.specs.Basic.{all}
 use Rattle.graph.specs.laws.State.{if-both, fold-keeps}
-use Rattle.update_length.specs.declared.Answer.{Answer}
-use Rattle.update_length.specs.declared.Answer.the-variants.{NonZeroGrow, Unlimited, Conflicting, TouchingVirtual, BlossomNeedExpand, VertexShrinkStop, VertexShrinkStopPeer, Done, Node, Prepared, Refused, Vertex}
+use Rattle.answers.specs.declared.Answer.{Answer}
+use Rattle.answers.specs.laws.Answer.{free-cases, free-other}
 use Rattle.calls.specs.Round.{Group, groupFree, groupUnlimited, groupConflicts, groupRefused, isFree, joinLength, joinUnlimited, joinFree, groupOf, isRefused}
 
 joined-length : (g : Group) (k : ℤ) (f : Bool) → isRefused g ≡ false → isRefused (joinLength g k f) ≡ false
@@ -25,18 +25,9 @@ joined-unlimited (groupRefused r) f p = p
 
 joined-answer : (g : Group) (a : Answer) → isRefused g ≡ false → isRefused (joinFree g a) ≡ false
 unfolding joinFree
-joined-answer g (NonZeroGrow k f) p = joined-length g k f p
-joined-answer g (Unlimited f) p = joined-unlimited g f p
-joined-answer g (Conflicting x y m k) p = p
-joined-answer g (TouchingVirtual m y v) p = p
-joined-answer g (BlossomNeedExpand m) p = p
-joined-answer g (VertexShrinkStop m) p = p
-joined-answer g (VertexShrinkStopPeer m x y) p = p
-joined-answer g Done p = p
-joined-answer g (Node m) p = p
-joined-answer g (Prepared k) p = p
-joined-answer g (Refused k) p = p
-joined-answer g (Vertex v) p = p
+joined-answer g a p =
+    free-cases (λ z. isRefused (joinFree g z) ≡ false) (λ k f. joined-length g k f p) (λ f. joined-unlimited g f p)
+    (λ z h. ap isRefused (free-other g (λ k f. joinLength g k f) (λ f. joinUnlimited g f) z h) ∙ p) a
 
 none-refused : isRefused (groupUnlimited false) ≡ false
 unfolding isRefused

@@ -15,8 +15,8 @@ use Rattle.graph.specs.laws.Members.{by-test, length-only, distinct-length}
 use Rattle.graph.specs.laws.Shape.{sound-count, sound-active}
 use Rattle.graph.specs.laws.Active.{active-inside, active-once}
 use Rattle.pass.specs.laws.Prepare.{prepare-passed}
-use Rattle.update_length.specs.declared.Answer.{Answer}
-use Rattle.update_length.specs.Answer.{Reply, says}
+use Rattle.answers.specs.declared.Answer.{Answer}
+use Rattle.answers.specs.Answer.{Reply, says}
 use Rattle.calls.specs.Refuse.{nodeRefusal, storeShort}
 use Rattle.calls.specs.Calls.{prepareDualNodeGrowth}
 use Rattle.calls.specs.Round.{refusalOf, preparing, preparedAll, answersOf, isFree, stopOf, isConflict, putStop, stopsOf, conflictsOf, listedBy}

@@ -32,7 +32,7 @@ use Rattle.pass.specs.laws.GrowSound.{finish-boundary, finish-overgrown}
 use Rattle.pass.specs.laws.Passes.{Passed, passed-refl, passed-trans, shrink-passed, shrink-pass-keeps}
 use Rattle.pass.specs.laws.Prepare.{passState, one-down, ends-passed, prepare-passed, prepare-leaves}
 use Rattle.pass.specs.laws.Ready.{sound-shrinkable, tops-inside}
-use Rattle.update_length.specs.Answer.{Reply, says}
+use Rattle.answers.specs.Answer.{Reply, says}
 use Rattle.growth.specs.Growth.{growCheck, movedStack, growApply}
 use Rattle.growth.specs.laws.Growth.{apply-in, apply-out}
 use Rattle.calls.specs.Refuse.{nodeRefusal, storeShort}

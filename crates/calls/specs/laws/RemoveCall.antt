@@ -12,7 +12,7 @@ use Rattle.graph.specs.State.{State, classOf, dualOf, withNodes, withClass, wit
 use Rattle.graph.specs.laws.State.{if-both, fold-keeps}
 use Rattle.graph.specs.laws.Members.{by-test, clash}
 use Rattle.calls.specs.Refuse.{badNode, inBlossom, storeShort}
-use Rattle.update_length.specs.Answer.{Reply, says}
+use Rattle.answers.specs.Answer.{Reply, says}
 use Rattle.pass.specs.Prepare.{prepareNode}
 use Rattle.pass.specs.laws.Passes.{Passed}
 use Rattle.pass.specs.laws.Prepare.{prepare-passed}

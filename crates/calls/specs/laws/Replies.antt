@@ -23,10 +23,10 @@ use Rattle.pass.specs.laws.Preparing.{sound-preparable}
 use Rattle.graph.specs.laws.Form.{laid-shape}
 use Rattle.graph.specs.laws.Members.{by-test}
 use Rattle.pass.specs.laws.Scratch.{scratch-same}
-use Rattle.update_length.specs.declared.Answer.{Answer}
-use Rattle.update_length.specs.declared.Answer.the-variants.{Done, Refused}
-use Rattle.update_length.specs.declared.Answer.the-variants as Says
-use Rattle.update_length.specs.Answer.{Reply, says}
+use Rattle.answers.specs.declared.Answer.{Answer}
+use Rattle.answers.specs.declared.Answer.the-variants.{Done, Refused}
+use Rattle.answers.specs.declared.Answer.the-variants as Says
+use Rattle.answers.specs.Answer.{Reply, says}
 use Rattle.calls.specs.Refuse.{storeShort, nodeRefusal, unless}
 use Rattle.update_length.specs.Scan.{scan}
 use Rattle.growth.specs.Growth.{growCheck, growApply}

@@ -12,8 +12,8 @@ use Rattle.graph.specs.Sound.{stateSound}
 use Rattle.graph.specs.Active.{renewed, activeIn}
 use Rattle.graph.specs.laws.State.{if-both, fold-keeps, fold-keeps-on}
 use Rattle.graph.specs.laws.Members.{by-test, or-right, all-from}
-use Rattle.update_length.specs.declared.Answer.{Answer}
-use Rattle.update_length.specs.Answer.{Reply, says}
+use Rattle.answers.specs.declared.Answer.{Answer}
+use Rattle.answers.specs.Answer.{Reply, says}
 use Rattle.calls.specs.Refuse.{unless}
 use Rattle.calls.specs.laws.Accepted.{unless-cases}
 pub use Rattle.calls.specs.Round.{begun}

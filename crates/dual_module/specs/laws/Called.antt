@@ -19,9 +19,10 @@ use Rattle.graph.specs.laws.Form.{laid-shape}
 use Rattle.graph.specs.laws.Row.{becomes-none}
 use Rattle.pass.specs.Scratch.{zeroScratch}
 use Rattle.pass.specs.inner.Scratch.{wiped}
-use Rattle.update_length.specs.declared.Answer.{Answer}
-use Rattle.update_length.specs.declared.Answer.the-variants.{Done, Vertex, Refused}
-use Rattle.update_length.specs.Answer.{Reply, says}
+use Rattle.answers.specs.declared.Answer.{Answer}
+use Rattle.answers.specs.declared.Answer.the-variants.{Done, Vertex, Refused}
+use Rattle.answers.specs.Numbers.{answerNumbers, OnPaper}
+use Rattle.answers.specs.Answer.{Reply, says}
 use Rattle.calls.specs.Refuse.{badNode, inBlossom, storeShort, nodeRefusal, unless}
 use Rattle.calls.specs.Calls.{maxUpdateLength, growDualNode, growthTable, representativeVertexOf, representativeVertex, follow, advanceBy, toward, advance}
 use Rattle.calls.specs.Reply.{placed}
@@ -76,7 +77,7 @@ module _ {j k : ℕ} (e : j ≡ k) (h : j ≢ 0) where
   pub lent-refused : (b : List ℤ) (w : Bool) (r : Reply) → Called k b b (Refused j) w r
   unfolding says
   lent-refused b w r = record {
-    answer = ap (λ (q : Reply). q .answer) (sym (unless-refused (stateOf b) r));
+    answer = ap (λ (q : Reply). answerNumbers (q .answer)) (sym (unless-refused (stateOf b) r));
     state = ap (λ (q : Reply). q .state) (sym (unless-refused (stateOf b) r));
     formed = λ z. absurd (h (e ∙ z));
     unchanged = λ z. refl;
@@ -86,9 +87,9 @@ module _ {j k : ℕ} (e : j ≡ k) (h : j ≢ 0) where
   pub lent-refused-scratch : (b t : List ℤ) (w : Bool) (r : Reply) → CalledWithScratch k b t b t (Refused j) w r
   lent-refused-scratch b t w r = record { block = lent-refused b w r; scratch = rw (writes-none w) }
 
-  pub refusal-answered : (c : State) (r : Reply) → Refused j ≡ unless k c r .answer
+  pub refusal-answered : (c : State) (r : Reply) → OnPaper (Refused j) (unless k c r .answer)
   unfolding says
-  refusal-answered c r = ap (λ (q : Reply). q .answer) (sym (unless-refused c r))
+  refusal-answered c r = ap (λ (q : Reply). answerNumbers (q .answer)) (sym (unless-refused c r))
 
 -- ---- the call itself
 
@@ -104,7 +105,7 @@ module _ {j k : ℕ} (e : j ≡ k) (h : j ≡ 0) where
     called-as : {b' : List ℤ} {a : Answer} (w : Bool) (r : Reply) → a ≡ r .answer → stateOf b' ≡ r .state → Formed b'
         → length b' ≡ length b → (w ≡ false → b' ≡ b) → Called k b b' a w r
     called-as w r x y f l u = record {
-      answer = x ∙ ap (λ (q : Reply). q .answer) (sym (unless-passed (stateOf b) r));
+      answer = ap answerNumbers (x ∙ ap (λ (q : Reply). q .answer) (sym (unless-passed (stateOf b) r)));
       state = y ∙ ap (λ (q : Reply). q .state) (sym (unless-passed (stateOf b) r));
       formed = λ z. f;
       unchanged = λ z. u (sym (writes-as w) ∙ z);

@@ -6,7 +6,7 @@ use mathlib.Core.List.{List}
 use lib.IntN.{ℤ}
 use Rattle.graph.specs.Layout.{stateOf, blockSound, memoryFits, blockRefusal, memoryRefusal}
 use Rattle.graph.specs.laws.State.{if-both}
-use Rattle.update_length.specs.Answer.{Reply, says}
+use Rattle.answers.specs.Answer.{Reply, says}
 use Rattle.calls.specs.Refuse.{unless}
 use Rattle.calls.specs.Round.{refusalOf}
 use Rattle.calls.specs.Insert.{blossomRefusal, insertBlossom}

@@ -13,7 +13,7 @@ use borrow.Author.Tests.{eq-eqb, ne-eqb}
 use Rattle.graph.specs.Layout.{stateOf, memoryRefusal}
 use Rattle.graph.specs.laws.Members.{by-test}
 use Rattle.memory_tests.specs.laws.Memory.{Lendable}
-use Rattle.update_length.specs.declared.Answer.{Answer}
+use Rattle.answers.specs.declared.Answer.{Answer}
 use Rattle.calls.specs.Erasures.{pairsFrom, modifierRefusal, loadEdgeModifier}
 use Rattle.calls.specs.inner.Reply.{Replies}
 use Rattle.edge_modifier.specs.laws.Load.{pairs-count}

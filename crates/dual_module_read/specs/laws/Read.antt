@@ -13,8 +13,9 @@ use Rattle.graph.specs.State.{State, edgeCount}
 use Rattle.graph.specs.Layout.{stateOf}
 use Rattle.graph.specs.laws.Form.{laid-shape}
 use Rattle.memory_tests.specs.laws.Memory.{Lendable}
-use Rattle.update_length.specs.declared.Answer.the-variants.{Done, Vertex, Refused}
-use Rattle.update_length.specs.Answer.{says}
+use Rattle.answers.specs.declared.Answer.the-variants.{Done, Vertex, Refused}
+use Rattle.answers.specs.Numbers.{OnPaper}
+use Rattle.answers.specs.Answer.{says}
 use Rattle.calls.specs.Refuse.{badNode, unless}
 use Rattle.calls.specs.Reply.{placed}
 use Rattle.calls.specs.Calls.{growthTable, representativeVertexOf, representativeVertex}
@@ -22,11 +23,11 @@ use Rattle.dual_module.specs.laws.Called.{placed-all}
 use Rattle.dual_module_read.specs.Read.{ListRead}
 
 module _ {j k : ℕ} (e : j ≡ k) (h : j ≡ 0) (c : State) (n : ℕ) where
-  pub vertex-beyond : badNode c n ≡ true → Refused 3 ≡ unless k c (representativeVertex c n) .answer
+  pub vertex-beyond : badNode c n ≡ true → OnPaper (Refused 3) (unless k c (representativeVertex c n) .answer)
   unfolding unless representativeVertex says
   vertex-beyond q = rw (sym e ∙ h, q)
 
-  pub vertex-told : badNode c n ≡ false → {v : ℕ} → v ≡ representativeVertexOf c n → Vertex v ≡ unless k c (representativeVertex c n) .answer
+  pub vertex-told : badNode c n ≡ false → {v : ℕ} → v ≡ representativeVertexOf c n → OnPaper (Vertex v) (unless k c (representativeVertex c n) .answer)
   unfolding unless representativeVertex says
   vertex-told q {v} x = rw (sym e ∙ h, q, x)
 

@@ -23,9 +23,10 @@ use Rattle.graph.specs.laws.Members.{by-test, clash}
 use Rattle.graph.specs.laws.State.{and-right}
 use Rattle.memory_tests.specs.laws.Memory.{Lendable, memory-accepted}
 use Rattle.pass.specs.Scratch.{zeroScratch}
-use Rattle.update_length.specs.declared.Answer.{Answer}
-use Rattle.update_length.specs.declared.Answer.the-variants.{Done, Refused}
-use Rattle.update_length.specs.Answer.{Reply, says}
+use Rattle.answers.specs.Numbers.{answerNumbers}
+use Rattle.answers.specs.declared.Answer.{Answer}
+use Rattle.answers.specs.declared.Answer.the-variants.{Done, Refused}
+use Rattle.answers.specs.Answer.{Reply, says}
 use Rattle.calls.specs.declared.group.GroupMaxUpdateLength.{GroupMaxUpdateLength as Group}
 use Rattle.calls.specs.declared.group.GroupMaxUpdateLength.the-variants.{Refused as GroupRefused}
 use Rattle.calls.specs.Refuse.{unless}
@@ -156,7 +157,7 @@ module _
             let k : b' ≡ s₂ = rw q at back in
             let a : trialAnswer r ≡ Done = unfold trialAnswer in (rw q refl) in
             rw (reply-done (eqb-true r 0 q)) (record {
-              answer = a ∙ unfold unless in refl;
+              answer = ap answerNumbers (a ∙ unfold unless in refl);
               state = ap stateOf k ∙ from-block .block .state ∙ unfold unless in refl;
               formed = λ w. rw k (from-block .block .formed);
               unchanged = λ w. absurd (w (ap refusalOf a ∙ unfold refusalOf in refl));
@@ -170,7 +171,7 @@ module _
             let k : b' ≡ b = rw q at back in
             let a : trialAnswer r ≡ Refused r = unfold trialAnswer in (rw q refl) in
             rw (reply-refused (eqb-false r 0 q)) (record {
-              answer = a ∙ unfold unless says in refl;
+              answer = ap answerNumbers (a ∙ unfold unless says in refl);
               state = ap stateOf k ∙ unfold unless says in refl;
               formed = λ w. rw k (trial-lent b s t h .0 .formed);
               unchanged = λ w. k;

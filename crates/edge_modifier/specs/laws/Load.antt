@@ -20,7 +20,7 @@ use Rattle.graph.specs.laws.State.{fold-more, fold-done}
 use Rattle.graph.specs.laws.Opened.{getD-tabled}
 use Rattle.graph.specs.laws.Row.{becomes-none, becomes-then}
 use Rattle.open_graph.specs.laws.Open.{Rest, rest-more, rest-fails, rest-all}
-use Rattle.update_length.specs.declared.Answer.the-variants.{Done, Refused}
+use Rattle.answers.specs.declared.Answer.the-variants.{Done, Refused}
 use Rattle.calls.specs.Erasures.{EdgeWeight, edgeWeightAt, pairsIn, pairsFrom, namesEdge, weightInRange, weightsBound, modifierRefusal, reweigh, reweighed, loadEdgeModifier}
 use Rattle.calls.specs.inner.Reply.{Replies}
 use Rattle.calls.specs.laws.Replies.{replies-refused, replies-accepted}

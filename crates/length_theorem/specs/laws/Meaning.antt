@@ -10,8 +10,9 @@ use borrow.Author.Tests.{le-leb}
 use Rattle.graph.specs.Basic.{fold}
 use Rattle.graph.specs.State.{State, defectVertex, opposite, nodeCount, endAt, holderAt, classOf, growStateOf, dualOf, boundaryOf, grownOver, weightOver, virtualAt, growing, shrinking, up}
 use Rattle.graph.specs.Open.{Edge}
-use Rattle.update_length.specs.declared.Answer.{Answer}
-use Rattle.update_length.specs.declared.Answer.the-variants.{NonZeroGrow, Unlimited, Conflicting, TouchingVirtual, Refused}
+use Rattle.answers.specs.declared.Answer.{Answer}
+use Rattle.answers.specs.declared.Answer.the-variants.{Length, Refused}
+use Rattle.answers.specs.declared.MaxUpdateLength.the-variants.{NonZeroGrow, Unlimited, Conflicting, TouchingVirtual}
 use Rattle.update_length.specs.Scan.{meets, lookGrow, look, Scan, open-ended, within, over, scanStep, isEmpty, scanAnswer, scanBoundary, scan}
 use Rattle.reachable.specs.laws.prepare.Preparation.{invariant-numbers}
 use Rattle.distance.specs.Distance.{unreachable, dist}
@@ -34,7 +35,7 @@ record ConflictSeen (c : State) (n s p m : ℕ) : Type 0 where
   pub other : p ≢ n
   pub closed : Closed c s p
 
-conflict-seen : {c : State} {n s p h m k : ℕ} → Saw c n s (meets (Conflicting p h m k)) → ConflictSeen c n s p m
+conflict-seen : {c : State} {n s p h m k : ℕ} → Saw c n s (meets (Length (Conflicting p h m k))) → ConflictSeen c n s p m
 conflict-seen (conflict q h k far other closed) = record { node = refl; far = far; other = other; closed = closed }
 
 record VirtualSeen (c : State) (n s m u : ℕ) : Type 0 where
@@ -44,7 +45,7 @@ record VirtualSeen (c : State) (n s m u : ℕ) : Type 0 where
   pub marked : virtualAt c (endAt c (opposite s)) ≢ 0
   pub full : grownOver c s ≡ weightOver c s
 
-virtual-seen : {c : State} {n s m k u : ℕ} → Saw c n s (meets (TouchingVirtual m k u)) → VirtualSeen c n s m u
+virtual-seen : {c : State} {n s m k u : ℕ} → Saw c n s (meets (Length (TouchingVirtual m k u))) → VirtualSeen c n s m u
 virtual-seen (virtual k free marked full) = record { node = refl; is = refl; free = free; marked = marked; full = full }
 
 -- an answer that a side gives is an obstacle, or refusal 13
@@ -54,11 +55,11 @@ met-obstacle {c} {s = s} (virtual k free marked full) h = touches k (endAt c (op
 met-obstacle unprepared h = absurd (h refl)
 
 -- a scan's own answers are none
-obstacle-free : {n : ℕ} {a : Answer} {l : ℤ} {e : Bool} → Obstacle n a → a ≡ NonZeroGrow l e → ⊥
+obstacle-free : {n : ℕ} {a : Answer} {l : ℤ} {e : Bool} → Obstacle n a → a ≡ Length (NonZeroGrow l e) → ⊥
 obstacle-free (conflicts p h k) q = let z : _≡_ {A = ℕ} 0 1 = cc in absurd (omega arith)
 obstacle-free (touches k u) q = let z : _≡_ {A = ℕ} 0 1 = cc in absurd (omega arith)
 
-obstacle-unlimited : {n : ℕ} {a : Answer} {e : Bool} → Obstacle n a → a ≡ Unlimited e → ⊥
+obstacle-unlimited : {n : ℕ} {a : Answer} {e : Bool} → Obstacle n a → a ≡ Length (Unlimited e) → ⊥
 obstacle-unlimited (conflicts p h k) q = let z : _≡_ {A = ℕ} 0 1 = cc in absurd (omega arith)
 obstacle-unlimited (touches k u) q = let z : _≡_ {A = ℕ} 0 1 = cc in absurd (omega arith)
 
@@ -108,18 +109,18 @@ module _ {v : ℕ} {edges : List Edge} {virtuals : List ℕ} (positive : Positiv
   scanGives s = scanAnswer (isEmpty (boundaryOf ready n)) s
 
   -- an answer that is none of a scan's own is that of a side
-  side-met : (a : Answer) → ((k : ℕ) → a ≢ Refused k) → ((e : Bool) → a ≢ Unlimited e) → ((l : ℤ) (e : Bool) → a ≢ NonZeroGrow l e)
+  side-met : (a : Answer) → ((k : ℕ) → a ≢ Refused k) → ((e : Bool) → a ≢ Length (Unlimited e)) → ((l : ℤ) (e : Bool) → a ≢ Length (NonZeroGrow l e))
       → growingLength r n ≡ a → Met ready n up (boundaryOf ready n) a
   side-met a refused unlimited free e = go scanned ended (sym e ∙ answered-by (λ k q. refused k (sym e ∙ q)))
     where
       go : (s : Scan) → Ended ready n (boundaryOf ready n) s → a ≡ scanGives s → Met ready n up (boundaryOf ready n) a
-      go open-ended nothing-near q = let u : a ≡ Unlimited (isEmpty (boundaryOf ready n)) = unfold scanAnswer in q in absurd (unlimited _ u)
-      go (within l) (free-by j) q = let u : a ≡ NonZeroGrow l (isEmpty (boundaryOf ready n)) = unfold scanAnswer in q in absurd (free _ _ u)
+      go open-ended nothing-near q = let u : a ≡ Length (Unlimited (isEmpty (boundaryOf ready n))) = unfold scanAnswer in q in absurd (unlimited _ u)
+      go (within l) (free-by j) q = let u : a ≡ Length (NonZeroGrow l (isEmpty (boundaryOf ready n))) = unfold scanAnswer in q in absurd (free _ _ u)
       go (over d) (ended-at w) q = let u : a ≡ d = unfold scanAnswer in q in subst (Met ready n up (boundaryOf ready n)) (sym u) w
 
-  pub conflict-means : {p h m k : ℕ} → growingLength r n ≡ Conflicting p h m k → ConflictMeans r n x p m
+  pub conflict-means : {p h m k : ℕ} → growingLength r n ≡ Length (Conflicting p h m k) → ConflictMeans r n x p m
   conflict-means {p} {h} {m} {k} e =
-      let w = side-met (Conflicting p h m k) (λ j q. let z : _≡_ {A = ℕ} 0 1 = cc in absurd (omega arith))
+      let w = side-met (Length (Conflicting p h m k)) (λ j q. let z : _≡_ {A = ℕ} 0 1 = cc in absurd (omega arith))
       (λ j q. let z : _≡_ {A = ℕ} 0 1 = cc in absurd (omega arith)) (λ l j q. let z : _≡_ {A = ℕ} 0 1 = cc in absurd (omega arith)) e in
       let s = conflict-seen (met-saw w) in
       let g = openedGraph v edges virtuals in
@@ -142,9 +143,9 @@ module _ {v : ℕ} {edges : List Edge} {virtuals : List ℕ} (positive : Positiv
           ⊎ ((growStateOf (end r) p ≡ growing) × (dualOf (end r) n + dualOf (end r) p + 1 ≡ dist (openedGraph v edges virtuals) x z))
       told z there t = rw (← dual-same r n n (at .inside), ← dual-same r n p there, ← state-same r n p there) t
 
-  pub virtual-means : {m k u : ℕ} → growingLength r n ≡ TouchingVirtual m k u → VirtualMeans r n x m u
+  pub virtual-means : {m k u : ℕ} → growingLength r n ≡ Length (TouchingVirtual m k u) → VirtualMeans r n x m u
   virtual-means {m} {k} {u} e =
-      let w = side-met (TouchingVirtual m k u) (λ j q. let z : _≡_ {A = ℕ} 0 1 = cc in absurd (omega arith))
+      let w = side-met (Length (TouchingVirtual m k u)) (λ j q. let z : _≡_ {A = ℕ} 0 1 = cc in absurd (omega arith))
       (λ j q. let z : _≡_ {A = ℕ} 0 1 = cc in absurd (omega arith)) (λ l j q. let z : _≡_ {A = ℕ} 0 1 = cc in absurd (omega arith)) e in
       let s = virtual-seen (met-saw w) in
       let t = virtual-tight (openedGraph v edges virtuals) ready only-defects n x inside class-is (w .side) (w .listed) (s .free) (s .marked) (s .full) in
@@ -188,21 +189,21 @@ module _ {v : ℕ} {edges : List Edge} {virtuals : List ℕ} (positive : Positiv
             a-length m (keeps-by (suc m) (omega arith) (rw e (unfold scanLong longAs in (le-leb (suc m) (suc m) (omega arith)))))
         go (over a) e (ended-at w) = at-side (met-obstacle (met-saw w))
 
-    pub free-keeps : {l : ℤ} {e : Bool} → growingLength r n ≡ NonZeroGrow l e → FreeBy r n x l
+    pub free-keeps : {l : ℤ} {e : Bool} → growingLength r n ≡ Length (NonZeroGrow l e) → FreeBy r n x l
     free-keeps {l} {e} q = go scanned outcome (sym q ∙ answered-by (λ k z. absurd (refused k (sym z ∙ q))))
       where
-        refused : (k : ℕ) → Refused k ≡ NonZeroGrow l e → ⊥
+        refused : (k : ℕ) → Refused k ≡ Length (NonZeroGrow l e) → ⊥
         refused k z = let i : _≡_ {A = ℕ} 0 1 = cc in absurd (omega arith)
 
-        go : (s : Scan) → Outcome s → NonZeroGrow l e ≡ scanGives s → FreeBy r n x l
+        go : (s : Scan) → Outcome s → Length (NonZeroGrow l e) ≡ scanGives s → FreeBy r n x l
         go open-ended (no-limit f) z =
-            let u : NonZeroGrow l e ≡ Unlimited (isEmpty (boundaryOf ready n)) = unfold scanAnswer in z in
+            let u : Length (NonZeroGrow l e) ≡ Length (Unlimited (isEmpty (boundaryOf ready n))) = unfold scanAnswer in z in
             let i : _≡_ {A = ℕ} 0 1 = cc in absurd (omega arith)
         go (within d) (a-length m keeps) z =
-            let u : NonZeroGrow l e ≡ NonZeroGrow d (isEmpty (boundaryOf ready n)) = unfold scanAnswer in z in
+            let u : Length (NonZeroGrow l e) ≡ Length (NonZeroGrow d (isEmpty (boundaryOf ready n))) = unfold scanAnswer in z in
             record { by = m; is = cc; keeps = keeps }
         go (over a) (at-side f) z =
-            let u : NonZeroGrow l e ≡ a = unfold scanAnswer in z in
+            let u : Length (NonZeroGrow l e) ≡ a = unfold scanAnswer in z in
             absurd (obstacle-free (f (λ w. refused 13 (sym w ∙ sym u))) (sym u))
 
     keeps-less : (l : ℕ) → Keeps r n x (suc l) → Keeps r n x l
@@ -211,19 +212,19 @@ module _ {v : ℕ} {edges : List Edge} {virtuals : List ℕ} (positive : Positiv
       touching = λ u j b marked walk. omega (arith, k .touching u j b marked walk);
     }
 
-    pub unlimited-keeps : {e : Bool} → growingLength r n ≡ Unlimited e → (l : ℕ) → Keeps r n x l
+    pub unlimited-keeps : {e : Bool} → growingLength r n ≡ Length (Unlimited e) → (l : ℕ) → Keeps r n x l
     unlimited-keeps {e} q l = go scanned outcome (sym q ∙ answered-by (λ k z. absurd (refused k (sym z ∙ q))))
       where
-        refused : (k : ℕ) → Refused k ≡ Unlimited e → ⊥
+        refused : (k : ℕ) → Refused k ≡ Length (Unlimited e) → ⊥
         refused k z = let i : _≡_ {A = ℕ} 0 1 = cc in absurd (omega arith)
 
-        go : (s : Scan) → Outcome s → Unlimited e ≡ scanGives s → Keeps r n x l
+        go : (s : Scan) → Outcome s → Length (Unlimited e) ≡ scanGives s → Keeps r n x l
         go open-ended (no-limit f) z = keeps-less l (f l)
         go (within d) (a-length m keeps) z =
-            let u : Unlimited e ≡ NonZeroGrow d (isEmpty (boundaryOf ready n)) = unfold scanAnswer in z in
+            let u : Length (Unlimited e) ≡ Length (NonZeroGrow d (isEmpty (boundaryOf ready n))) = unfold scanAnswer in z in
             let i : _≡_ {A = ℕ} 0 1 = cc in absurd (omega arith)
         go (over a) (at-side f) z =
-            let u : Unlimited e ≡ a = unfold scanAnswer in z in
+            let u : Length (Unlimited e) ≡ a = unfold scanAnswer in z in
             absurd (obstacle-unlimited (f (λ w. refused 13 (sym w ∙ sym u))) (sym u))
 
     -- ---- a tight constraint leaves no room

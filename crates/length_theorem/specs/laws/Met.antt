@@ -11,8 +11,9 @@ use borrow.Author.Tests.{eqb-true, eqb-false, ne-eqb, le-ltb}
 use Rattle.graph.specs.Basic.{fold, member}
 use Rattle.graph.specs.State.{State, opposite, passable, endAt, holderAt, virtualAt, growStateOf, grownOver, weightOver, growing, shrinking, up}
 use Rattle.graph.specs.laws.Members.{by-test, clash, member-head, member-tail}
-use Rattle.update_length.specs.declared.Answer.{Answer}
-use Rattle.update_length.specs.declared.Answer.the-variants.{Conflicting, TouchingVirtual, Refused}
+use Rattle.answers.specs.declared.Answer.{Answer}
+use Rattle.answers.specs.declared.Answer.the-variants.{Length, Refused}
+use Rattle.answers.specs.declared.MaxUpdateLength.the-variants.{Conflicting, TouchingVirtual}
 use Rattle.update_length.specs.Scan.{half, isZero, lesser, Look, skip, room, meets, gapOf, lookPeer, lookFree, lookHeld, lookGrow, look, Scan, open-ended, within, over, withLook, scanStep}
 
 -- ---- where it ended
@@ -77,9 +78,9 @@ Closed c s q = (grownOver c s ≡ weightOver c s) ⊎ ((growStateOf c q ≡ grow
 pub data Saw (c : State) (n s : ℕ) : Look → Type 0 where
   own : holderAt c (opposite s) ≡ n + 1 → Saw c n s skip
   shrinks : (q : ℕ) → holderAt c (opposite s) ≡ q + 1 → growStateOf c q ≡ shrinking → Saw c n s skip
-  conflict : (q h k : ℕ) → holderAt c (opposite s) ≡ q + 1 → q ≢ n → Closed c s q → Saw c n s (meets (Conflicting q h n k))
+  conflict : (q h k : ℕ) → holderAt c (opposite s) ≡ q + 1 → q ≢ n → Closed c s q → Saw c n s (meets (Length (Conflicting q h n k)))
   virtual : (k : ℕ) → holderAt c (opposite s) ≡ 0 → virtualAt c (endAt c (opposite s)) ≢ 0 → grownOver c s ≡ weightOver c s
-      → Saw c n s (meets (TouchingVirtual n k (endAt c (opposite s))))
+      → Saw c n s (meets (Length (TouchingVirtual n k (endAt c (opposite s)))))
   unprepared : Saw c n s (meets (Refused 13))
   left : (l : ℕ) → Saw c n s (room (pos (suc l)))
 

@@ -11,8 +11,8 @@ use Rattle.graph.specs.State.{State, nodeCount, classOf, growStateOf, dualOf, u
 use Rattle.graph.specs.Open.{Edge}
 use Rattle.graph.specs.laws.Members.{by-test}
 use Rattle.pass.specs.Prepare.{prepareNode}
-use Rattle.update_length.specs.declared.Answer.the-variants.{Refused}
-use Rattle.update_length.specs.Answer.{Reply, says}
+use Rattle.answers.specs.declared.Answer.the-variants.{Refused}
+use Rattle.answers.specs.Answer.{Reply, says}
 use Rattle.update_length.specs.Scan.{scan}
 use Rattle.calls.specs.Refuse.{storeShort, nodeRefusal, unless}
 use Rattle.calls.specs.Calls.{Prepare, respond, response, prepareDualNodeGrowth, readied, maxUpdateLength}

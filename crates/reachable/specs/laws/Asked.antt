@@ -4,7 +4,7 @@ use native.Mathlib.Omega.{arith}
 use native.Mathlib.Decide.{ℕ-discrete as decEq}
 use mathlib.Core.Path.{_≡_, refl, sym, ap, _∙_}
 use mathlib.Core.Logic.{_≢_, ⊎-elim, by-cases}
-use mathlib.Core.Bool.{Bool, true, false}
+use mathlib.Core.Bool.{Bool, true, false, _&&_}
 use mathlib.Core.List.{List, [], _∷_}
 use lib.IntN.{ℤ, pos, negsuc}
 use lib.Dec.{eqb, ltb}
@@ -22,12 +22,13 @@ use Rattle.pass.specs.laws.Passes.{Passed}
 use Rattle.pass.specs.laws.Prepare.{prepare-passed}
 use Rattle.pass.specs.laws.Idle.{TopLeft, top-amount}
 use Rattle.pass.specs.laws.Leaves.{prepare-top-left, prepare-frees-none}
-use Rattle.update_length.specs.declared.Answer.{Answer}
-use Rattle.update_length.specs.declared.Answer.the-variants.{NonZeroGrow, Unlimited, Conflicting, TouchingVirtual, BlossomNeedExpand, VertexShrinkStop, VertexShrinkStopPeer, Done, Node, Prepared, Refused, Vertex}
-use Rattle.update_length.specs.Answer.{Reply}
+use Rattle.answers.specs.declared.Answer.{Answer}
+use Rattle.answers.specs.declared.Answer.the-variants.{Length}
+use Rattle.answers.specs.Answer.{Reply, freeOr, isFree, accepted}
+use Rattle.answers.specs.laws.Answer.{free-other}
 use Rattle.update_length.specs.Scan.{half, isZero, lesser, Look, skip, room, meets, gapOf, lookPeer, lookFree, lookHeld, lookGrow, lookShrink, look, Scan, open-ended, within, over, withLook, scanStep, isEmpty, scanAnswer, scanBoundary, stopAnswer, shrinkLimit, scan}
 use Rattle.update_length.specs.laws.Scanning.{gap-within}
-use Rattle.update_length.specs.laws.Long.{longAs, isLength, stop-short}
+use Rattle.update_length.specs.laws.Long.{longAs, stop-short}
 use Rattle.calls.specs.Refuse.{nodeRefusal, storeShort}
 use Rattle.calls.specs.Calls.{toward, prepareDualNodeGrowth}
 use Rattle.calls.specs.Round.{Tried, refusalOf, tryAll, preparing, preparedAll, answersOf}
@@ -36,7 +37,6 @@ use Rattle.reachable.specs.Invariant.{Invariant}
 use Rattle.reachable.specs.laws.state.Numbers.{numbers-end}
 use Rattle.reachable.specs.laws.prepare.FinishedState.{NothingToTake}
 use Rattle.reachable.specs.laws.prepare.Preparation.{PreparedDown, prepare-up, prepare-down, invariant-ready, invariant-numbers}
-use Rattle.reachable.specs.laws.prepare.Scan.{accepts, stop-accepts}
 use Rattle.reachable.specs.laws.Active.{renewed-invariant}
 use Rattle.reachable.specs.laws.Round.{Among, Along, prepare-along, Free, listed-free, free-along}
 use Rattle.reachable.specs.laws.TrialSteps.{next-among, try-none}
@@ -44,33 +44,11 @@ use Rattle.reachable.specs.laws.TrialSteps.{next-among, try-none}
 -- ---- answers that are no refusal, and whose length is above 0
 
 unfoldable pub fine : Answer → Bool
-fine (NonZeroGrow l e) = longAs 1 l
-fine (Unlimited e) = true
-fine (Conflicting p g m h) = true
-fine (TouchingVirtual m g v) = true
-fine (BlossomNeedExpand m) = true
-fine (VertexShrinkStop m) = true
-fine (VertexShrinkStopPeer m p g) = true
-fine Done = true
-fine (Node m) = true
-fine (Prepared k) = true
-fine (Refused k) = false
-fine (Vertex v) = true
+fine a = accepted a && freeOr true (λ l e. longAs 1 l) (λ e. true) a
 
-fine-of : (a : Answer) → accepts a ≡ true → isLength a ≡ false → fine a ≡ true
-unfolding fine accepts isLength
-fine-of (NonZeroGrow l e) h k = clash true refl k
-fine-of (Unlimited e) h k = refl
-fine-of (Conflicting p g m q) h k = refl
-fine-of (TouchingVirtual m g v) h k = refl
-fine-of (BlossomNeedExpand m) h k = refl
-fine-of (VertexShrinkStop m) h k = refl
-fine-of (VertexShrinkStopPeer m p g) h k = refl
-fine-of Done h k = refl
-fine-of (Node m) h k = refl
-fine-of (Prepared q) h k = refl
-fine-of (Refused q) h k = h
-fine-of (Vertex v) h k = refl
+fine-of : (a : Answer) → accepted a ≡ true → isFree a ≡ false → fine a ≡ true
+unfolding fine
+fine-of a h k = both (accepted a) _ h (free-other true (λ l e. longAs 1 l) (λ e. true) a k)
 
 unfoldable lookFine : Look → Bool
 lookFine skip = true
@@ -100,7 +78,7 @@ join-fine (within b) (room x) p q = lesser-fine b x p q
 join-fine (within b) (meets a) p q = q
 
 answer-fine : (e : Bool) (r : Scan) → scanFine r ≡ true → fine (scanAnswer e r) ≡ true
-unfolding scanFine scanAnswer fine
+unfolding scanFine scanAnswer fine accepted
 answer-fine e open-ended p = refl
 answer-fine e (within l) p = p
 answer-fine e (over a) p = p
@@ -149,7 +127,7 @@ down-fine : (c : State) (n : ℕ) → DownReady c n → fine (scan c n down) ≡
 unfolding scan
 down-fine c n p =
     if-cases (λ (a : Answer). fine a ≡ true) (eqb (dualOf c n) 0)
-    (λ z. fine-of (stopAnswer c n (classOf c n)) (stop-accepts c n (classOf c n)) (stop-short c n (classOf c n)))
+    (λ z. fine-of (Length (stopAnswer c n (classOf c n))) (unfold accepted in refl) (stop-short c n (classOf c n)))
     (λ z.
     let y : dualOf c n ≢ 0 = eqb-false _ _ z in
     boundary-fine c n down (within (pos (shrinkLimit (dualOf c n) (overgrownOf c n))))
@@ -159,11 +137,11 @@ down-fine c n p =
 -- ---- a node prepared for growing
 
 peer-fine : (c : State) (n s p j : ℕ) → lookFine (lookPeer c n s p (pos j)) ≡ true
-unfolding lookPeer lookFine fine isZero
+unfolding lookPeer lookFine fine accepted isZero
 peer-fine c n s p j = if-cases (λ (x : Look). lookFine x ≡ true) (eqb j 0) (λ e. refl) (λ e. one-more j (eqb-false j 0 e))
 
 free-fine : (c : State) (n s k : ℕ) → (k ≡ 0 → virtualAt c (endAt c (opposite s)) ≢ 0) → lookFine (lookFree c n s (pos k)) ≡ true
-unfolding lookFree lookFine fine isZero
+unfolding lookFree lookFine fine accepted isZero
 free-fine c n s k f =
     by-test (eqb k 0)
     (λ e. rw (e, ne-eqb (virtualAt c (endAt c (opposite s))) 0 (f (eqb-true k 0 e))) refl)

@@ -14,8 +14,8 @@ use Rattle.graph.specs.laws.State.{and-left, and-right}
 use Rattle.graph.specs.laws.Members.{by-test, both, clash, member-only, member-cons, member-nil}
 use Rattle.graph.specs.laws.Active.{active-in}
 use Rattle.growth.specs.Growth.{topIs}
-use Rattle.update_length.specs.declared.Answer.{Answer}
-use Rattle.update_length.specs.declared.Answer.the-variants.{NonZeroGrow, Unlimited, Conflicting, TouchingVirtual, BlossomNeedExpand, VertexShrinkStop, VertexShrinkStopPeer, Done, Node, Prepared, Refused, Vertex}
+use Rattle.answers.specs.declared.Answer.{Answer}
+use Rattle.answers.specs.laws.Answer.{free-cases}
 use Rattle.update_length.specs.Scan.{shrinkLimit, scan}
 use Rattle.update_length.specs.laws.Long.{longAs, lesser-long, answerLong, LeftDown, LeftUp, scan-down-long, scan-up-long}
 use Rattle.calls.specs.Calls.{toward}
@@ -49,19 +49,10 @@ join-unlimited m (groupConflicts a b) f h = clash true refl (sym h)
 join-unlimited m (groupRefused r) f h = clash true refl (sym h)
 
 join-free : (m : ℕ) (g : Group) (a : Answer) → isFree a ≡ true → groupLong m (joinFree g a) ≡ true → groupLong m g && answerLong m a ≡ true
-unfolding joinFree isFree answerLong
-join-free m g (NonZeroGrow k f) e h = join-length m g k f h
-join-free m g (Unlimited f) e h = join-unlimited m g f h
-join-free m g (Conflicting p q n k) e h = clash true refl (sym e)
-join-free m g (TouchingVirtual n q v) e h = clash true refl (sym e)
-join-free m g (BlossomNeedExpand n) e h = clash true refl (sym e)
-join-free m g (VertexShrinkStop n) e h = clash true refl (sym e)
-join-free m g (VertexShrinkStopPeer n p q) e h = clash true refl (sym e)
-join-free m g Done e h = clash true refl (sym e)
-join-free m g (Node n) e h = clash true refl (sym e)
-join-free m g (Prepared k) e h = clash true refl (sym e)
-join-free m g (Refused k) e h = clash true refl (sym e)
-join-free m g (Vertex v) e h = clash true refl (sym e)
+unfolding joinFree answerLong
+join-free m g =
+    free-cases (λ a. isFree a ≡ true → groupLong m (joinFree g a) ≡ true → groupLong m g && answerLong m a ≡ true)
+    (λ k f e h. join-length m g k f h) (λ f e h. join-unlimited m g f h) (λ a n e h. clash (isFree a) e n)
 
 joined-free : (m : ℕ) (xs : List Answer) (g : Group) → all isFree xs ≡ true → groupLong m (fold joinFree g xs) ≡ true
     → groupLong m g && all (answerLong m) xs ≡ true

@@ -11,8 +11,11 @@ use Rattle.graph.specs.Basic.{all}
 use Rattle.graph.specs.State.{State}
 use Rattle.graph.specs.laws.State.{and-left, and-right, if-both, fold-keeps-on}
 use Rattle.graph.specs.laws.Members.{by-test, clash, member-cons, member-nil}
-use Rattle.update_length.specs.declared.Answer.{Answer}
-use Rattle.update_length.specs.declared.Answer.the-variants.{NonZeroGrow, Unlimited, Conflicting, TouchingVirtual, BlossomNeedExpand, VertexShrinkStop, VertexShrinkStopPeer, Done, Node, Prepared, Refused, Vertex}
+use Rattle.answers.specs.declared.Answer.{Answer}
+use Rattle.answers.specs.declared.Answer.the-variants.{Length}
+use Rattle.answers.specs.declared.MaxUpdateLength.the-variants.{NonZeroGrow}
+use Rattle.answers.specs.Answer.{accepted}
+use Rattle.answers.specs.laws.Answer.{free-cases, free-other, accepted-refusal}
 use Rattle.update_length.specs.laws.Long.{longAs}
 use Rattle.calls.specs.laws.Grouped.{of-answered}
 use Rattle.calls.specs.Round.{refusalOf, preparedAll, firstRefusal, isFree, joinLength, joinUnlimited, joinFree, groupOf, groupRefusal, groupLength, isRefused}
@@ -23,19 +26,8 @@ use Rattle.reachable.specs.laws.Round.{Among, prepared-all-among}
 use Rattle.reachable.specs.laws.Asked.{fine, lesser-fine, zero-nine, answers-fine}
 
 fine-refusal : (a : Answer) → fine a ≡ true → refusalOf a ≡ 0
-unfolding fine refusalOf
-fine-refusal (NonZeroGrow l e) h = refl
-fine-refusal (Unlimited e) h = refl
-fine-refusal (Conflicting p g m k) h = refl
-fine-refusal (TouchingVirtual m g v) h = refl
-fine-refusal (BlossomNeedExpand m) h = refl
-fine-refusal (VertexShrinkStop m) h = refl
-fine-refusal (VertexShrinkStopPeer m p g) h = refl
-fine-refusal Done h = refl
-fine-refusal (Node m) h = refl
-fine-refusal (Prepared k) h = refl
-fine-refusal (Refused k) h = clash true refl (sym h)
-fine-refusal (Vertex v) h = refl
+unfolding fine
+fine-refusal a h = accepted-refusal a (and-left (accepted a) _ h)
 
 first-none : (xs : List Answer) → all fine xs ≡ true → firstRefusal xs ≡ 0
 unfolding firstRefusal all
@@ -73,18 +65,10 @@ unlimited-fine (groupRefused r) f p = refl
 
 free-joined : (g : Group) (a : Answer) → groupFine g ≡ true → fine a ≡ true → groupFine (joinFree g a) ≡ true
 unfolding joinFree fine
-free-joined g (NonZeroGrow k f) p q = length-fine g k f p q
-free-joined g (Unlimited f) p q = unlimited-fine g f p
-free-joined g (Conflicting x y m k) p q = p
-free-joined g (TouchingVirtual m y v) p q = p
-free-joined g (BlossomNeedExpand m) p q = p
-free-joined g (VertexShrinkStop m) p q = p
-free-joined g (VertexShrinkStopPeer m x y) p q = p
-free-joined g Done p q = p
-free-joined g (Node m) p q = p
-free-joined g (Prepared k) p q = p
-free-joined g (Refused k) p q = p
-free-joined g (Vertex v) p q = p
+free-joined g a p =
+    free-cases (λ z. fine z ≡ true → groupFine (joinFree g z) ≡ true)
+    (λ k f q. length-fine g k f p (and-right (accepted (Length (NonZeroGrow k f))) _ q)) (λ f q. unlimited-fine g f p)
+    (λ z h q. ap groupFine (free-other g (λ k f. joinLength g k f) (λ f. joinUnlimited g f) z h) ∙ p) a
 
 group-of-fine : (xs : List Answer) → all fine xs ≡ true → groupFine (groupOf xs) ≡ true
 unfolding groupOf groupFine

@@ -12,46 +12,18 @@ use Rattle.graph.specs.State.{State, boundaryOf, growStateOf, stay, up, down}
 use Rattle.graph.specs.laws.State.{if-both}
 use Rattle.graph.specs.laws.Members.{clash}
 use Rattle.pass.specs.Prepare.{prepareNode}
-use Rattle.update_length.specs.declared.Answer.{Answer}
-use Rattle.update_length.specs.declared.Answer.the-variants.{NonZeroGrow, Unlimited, Conflicting, TouchingVirtual, BlossomNeedExpand, VertexShrinkStop, VertexShrinkStopPeer, Done, Node, Prepared, Refused, Vertex}
-use Rattle.update_length.specs.Answer.{Reply, says}
+use Rattle.answers.specs.declared.Answer.{Answer}
+use Rattle.answers.specs.declared.Answer.the-variants.{Refused}
+use Rattle.answers.specs.Answer.{Reply, says, refusalOf}
+use Rattle.answers.specs.laws.Answer.{accepted-refusal}
+use Rattle.calls.specs.laws.Follow.{follow-cases}
 use Rattle.calls.specs.Refuse.{badNode, inBlossom, nodeRefusal, storeShort, unless}
 use Rattle.update_length.specs.Scan.{scan}
 use Rattle.growth.specs.Growth.{passesWeight, passesLimit, fallsShort, growCheck}
 use Rattle.calls.specs.Calls.{maxUpdateLength, readied, growPrepared, growToward, growDualNode, signedFor, follow, advanceBy, toward, advance}
 use Rattle.calls.specs.laws.Accepted.{unless-cases, NodeAccepted, node-accepted}
 use Rattle.reachable.specs.Invariant.{Invariant}
-use Rattle.reachable.specs.laws.prepare.Scan.{accepts, scan-accepted}
-
--- the number of a refusal; 0 for every other answer
-unfoldable pub refusal : Answer → ℕ
-refusal (NonZeroGrow l e) = 0
-refusal (Unlimited e) = 0
-refusal (Conflicting p g m h) = 0
-refusal (TouchingVirtual m g v) = 0
-refusal (BlossomNeedExpand m) = 0
-refusal (VertexShrinkStop m) = 0
-refusal (VertexShrinkStopPeer m p g) = 0
-refusal Done = 0
-refusal (Node m) = 0
-refusal (Prepared k) = 0
-refusal (Refused k) = k
-refusal (Vertex v) = 0
-
-accepted-none : (a : Answer) → accepts a ≡ true → refusal a ≡ 0
-unfolding accepts refusal
-accepted-none (NonZeroGrow l e) h = refl
-accepted-none (Unlimited e) h = refl
-accepted-none (Conflicting p g m k) h = refl
-accepted-none (TouchingVirtual m g v) h = refl
-accepted-none (BlossomNeedExpand m) h = refl
-accepted-none (VertexShrinkStop m) h = refl
-accepted-none (VertexShrinkStopPeer m p g) h = refl
-accepted-none Done h = refl
-accepted-none (Node m) h = refl
-accepted-none (Prepared k) h = refl
-accepted-none (Refused k) h = clash true refl (sym h)
-accepted-none (Vertex v) h = refl
+use Rattle.reachable.specs.laws.prepare.Scan.{scan-accepted}
 
 -- ---- the numbers that refuse a call
 
@@ -73,58 +45,47 @@ grow-refusal c n d l =
     (if-both (λ k. k ≢ 13) (fallsShort c n l) (below-13 11 (omega arith)) (below-13 0 (omega arith)))
 
 -- a reply that is refused k, not 13, or else r
-unless-refusal : (k : ℕ) (c : State) (r : Reply) → k ≢ 13 → (k ≡ 0 → refusal (r .answer) ≢ 13) → refusal (unless k c r .answer) ≢ 13
-unfolding says refusal
-unless-refusal k c r ne f = unless-cases (λ (x : Reply). refusal (x .answer) ≢ 13) k c r (λ e. ne) f
+unless-refusal : (k : ℕ) (c : State) (r : Reply) → k ≢ 13 → (k ≡ 0 → refusalOf (r .answer) ≢ 13) → refusalOf (unless k c r .answer) ≢ 13
+unfolding says refusalOf
+unless-refusal k c r ne f = unless-cases (λ (x : Reply). refusalOf (x .answer) ≢ 13) k c r (λ e. ne) f
 
 -- ---- the calls
 
-pub length-refusal : (c : State) → Invariant c → (n d : ℕ) → refusal (maxUpdateLength c n d true .answer) ≢ 13
+pub length-refusal : (c : State) → Invariant c → (n d : ℕ) → refusalOf (maxUpdateLength c n d true .answer) ≢ 13
 unfolding maxUpdateLength readied
 length-refusal c g n d =
     unless-refusal (nodeRefusal c n (ltb up d) (true && storeShort c (n ∷ []) 1)) c _ (node-refusal c n (ltb up d) _)
     (λ e.
     let a : NodeAccepted c n (ltb up d) (storeShort c (n ∷ []) 1) = node-accepted c n (ltb up d) (storeShort c (n ∷ []) 1) e in
-    let z : refusal (scan (prepareNode c n d .state) n d) ≡ 0 = accepted-none _ (scan-accepted c g n d (a .inside) (a .outer)) in
+    let z : refusalOf (scan (prepareNode c n d .state) n d) ≡ 0 = accepted-refusal _ (scan-accepted c g n d (a .inside) (a .outer)) in
     λ q. omega arith)
 
-toward-refusal : (c : State) (n d l : ℕ) → refusal (growToward c n d l .answer) ≢ 13
-unfolding growToward growPrepared refusal
+toward-refusal : (c : State) (n d l : ℕ) → refusalOf (growToward c n d l .answer) ≢ 13
+unfolding growToward growPrepared refusalOf
 toward-refusal c n d l =
     unless-refusal (nodeRefusal c n false (storeShort c (n ∷ []) 1)) c _ (node-refusal c n false _)
     (λ e. unless-refusal (growCheck (prepareNode c n d .state) n d l) (prepareNode c n d .state) _
     (grow-refusal (prepareNode c n d .state) n d l) (λ q z. omega arith))
 
-pub growth-refusal : (c : State) (n : ℕ) (l : ℤ) → refusal (growDualNode c n l .answer) ≢ 13
-unfolding growDualNode says refusal
+pub growth-refusal : (c : State) (n : ℕ) (l : ℤ) → refusalOf (growDualNode c n l .answer) ≢ 13
+unfolding growDualNode says refusalOf
 growth-refusal c n (pos zero) = unless-refusal (nodeRefusal c n false false) c _ (node-refusal c n false false) (λ e z. omega arith)
 growth-refusal c n (pos (suc l)) = toward-refusal c n up (suc l)
 growth-refusal c n (negsuc l) = toward-refusal c n down (suc l)
 
-follow-refusal : (c : State) (n x : ℕ) (a : Answer) → refusal a ≢ 13 → refusal (follow c n x a .answer) ≢ 13
-unfolding follow says
-follow-refusal c n x (NonZeroGrow l e) h = growth-refusal c n (signedFor x l)
-follow-refusal c n x (Unlimited e) h = h
-follow-refusal c n x (Conflicting p q m k) h = h
-follow-refusal c n x (TouchingVirtual m q v) h = h
-follow-refusal c n x (BlossomNeedExpand m) h = h
-follow-refusal c n x (VertexShrinkStop m) h = h
-follow-refusal c n x (VertexShrinkStopPeer m p q) h = h
-follow-refusal c n x Done h = h
-follow-refusal c n x (Node m) h = h
-follow-refusal c n x (Prepared k) h = h
-follow-refusal c n x (Refused k) h = h
-follow-refusal c n x (Vertex v) h = h
+follow-refusal : (c : State) (n x : ℕ) (a : Answer) → refusalOf a ≢ 13 → refusalOf (follow c n x a .answer) ≢ 13
+unfolding says
+follow-refusal c n x a h = follow-cases (λ (r : Reply). refusalOf (r .answer) ≢ 13) c n x a (λ l e. growth-refusal c n (signedFor x l)) h
 
-pub advance-refusal : (c : State) → Invariant c → (n : ℕ) → refusal (advance c n .answer) ≢ 13
+pub advance-refusal : (c : State) → Invariant c → (n : ℕ) → refusalOf (advance c n .answer) ≢ 13
 unfolding advance advanceBy says
 advance-refusal c g n =
     unless-refusal (nodeRefusal c n false false) c _ (node-refusal c n false false)
     (λ e.
-    if-both (λ (r : Reply). refusal (r .answer) ≢ 13) (eqb (growStateOf c n) stay) (unfold refusal in (λ q. omega arith))
+    if-both (λ (r : Reply). refusalOf (r .answer) ≢ 13) (eqb (growStateOf c n) stay) (unfold refusalOf in (λ q. omega arith))
     (follow-refusal (maxUpdateLength c n (toward (growStateOf c n)) true .state) n (growStateOf c n) _ (length-refusal c g n (toward (growStateOf c n)))))
 
 -- as answers
-pub not-thirteen : (a : Answer) → refusal a ≢ 13 → a ≢ Refused 13
-unfolding refusal
-not-thirteen a h e = h (ap refusal e)
+pub not-thirteen : (a : Answer) → refusalOf a ≢ 13 → a ≢ Refused 13
+unfolding refusalOf
+not-thirteen a h e = h (ap refusalOf e)

@@ -10,14 +10,14 @@ use lib.Dec.{eqb, leb}
 use borrow.Author.Tests.{eqb-false, le-leb}
 use Rattle.graph.specs.State.{State}
 use Rattle.graph.specs.laws.Members.{by-test, clash, member-cons, member-nil}
-use Rattle.update_length.specs.declared.Answer.the-variants.{Done, Refused}
-use Rattle.update_length.specs.Answer.{says}
+use Rattle.answers.specs.declared.Answer.the-variants.{Done, Refused}
+use Rattle.answers.specs.Answer.{says}
 use Rattle.update_length.specs.laws.Long.{longAs}
 use Rattle.calls.specs.Refuse.{unless}
 use Rattle.calls.specs.Round.{Tried, refusalOf, tried, preparedAll, prepareAll, movedAll, round, groupLength}
 use Rattle.calls.specs.declared.group.GroupMaxUpdateLength.the-variants.{NonZeroGrow as groupFree}
 use Rattle.reachable.specs.Invariant.{Invariant}
-use Rattle.reachable.specs.laws.prepare.Scan.{accepts}
+use Rattle.answers.specs.Answer.{accepted}
 use Rattle.reachable.specs.laws.Round.{Among, prepared-all-among, moved-all-among}
 use Rattle.reachable.specs.laws.Group.{round-by-group, groupLong}
 use Rattle.reachable.specs.laws.GroupAnswer.{group-positive}
@@ -27,14 +27,14 @@ tried-refused : (c : State) (t : Tried) (k : ℕ) → tried c t Done .answer ≡
 unfolding tried unless says
 tried-refused c t k h =
     by-test (eqb (t .refusal) 0)
-    (λ e. clash (accepts (Refused k)) (ap accepts (sym (rw e at h)) ∙ done) no)
+    (λ e. clash (accepted (Refused k)) (ap accepted (sym (rw e at h)) ∙ done) no)
     (λ e. let q : t .refusal ≡ k = number (t .refusal) k (rw e at h) in (q, λ z. eqb-false _ _ e (q ∙ z)))
   where
-    done : accepts Done ≡ true
-    done = unfold accepts in refl
+    done : accepted Done ≡ true
+    done = unfold accepted in refl
 
-    no : accepts (Refused k) ≡ false
-    no = unfold accepts in refl
+    no : accepted (Refused k) ≡ false
+    no = unfold accepted in refl
 
     number : (i j : ℕ) → Refused i ≡ Refused j → i ≡ j
     number i j e = unfold refusalOf in (ap refusalOf e)

@@ -21,7 +21,7 @@ use Rattle.pass.specs.Prepare.{prepareNode}
 use Rattle.pass.specs.laws.Passes.{Passed}
 use Rattle.pass.specs.laws.Prepare.{prepare-passed}
 use Rattle.growth.specs.Growth.{passesWeight, passesLimit, fallsShort, growCheck, growApply}
-use Rattle.update_length.specs.Answer.{Reply, says}
+use Rattle.answers.specs.Answer.{Reply, says}
 use Rattle.calls.specs.Refuse.{badNode, inBlossom, storeShort, nodeRefusal}
 use Rattle.calls.specs.Calls.{prepareDualNodeGrowth, growPrepared, growToward}
 use Rattle.calls.specs.Round.{refusalOf, preparing, preparedAll, moving, movedAll}

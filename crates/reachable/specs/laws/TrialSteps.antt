@@ -11,7 +11,7 @@ use Rattle.graph.specs.State.{State}
 use Rattle.graph.specs.laws.Members.{member-head, member-tail}
 use Rattle.pass.specs.Prepare.{prepareNode}
 use Rattle.growth.specs.Growth.{growCheck, growApply}
-use Rattle.update_length.specs.Answer.{Reply}
+use Rattle.answers.specs.Answer.{Reply}
 use Rattle.calls.specs.Refuse.{nodeRefusal, storeShort}
 use Rattle.calls.specs.Calls.{growPrepared, growToward}
 use Rattle.calls.specs.Round.{Tried, refusalOf, triedBy, tryStep, tryAll}

@@ -20,11 +20,11 @@ use Rattle.graph.specs.Sound.{sound, soundRemoved, stateSound}
 use Rattle.graph.specs.laws.State.{if-both, if-cases, and-left}
 use Rattle.graph.specs.laws.Members.{clash}
 use Rattle.pass.specs.Scratch.{zeroScratch}
-use Rattle.update_length.specs.declared.Answer.{Answer}
-use Rattle.update_length.specs.Answer.{Reply}
+use Rattle.answers.specs.declared.Answer.{Answer}
+use Rattle.answers.specs.Answer.{Reply}
 use Rattle.calls.specs.inner.Reply.{RepliesInsert, Replies, Usable}
 use Rattle.calls.specs.Insert.{insertDefect, insertBlossom}
-use Rattle.calls.specs.Calls.{Call, InsertDefect, InsertBlossom, SetGrowState, Prepare, MaxUpdateLength, Grow, Advance, setGrowState, prepareDualNodeGrowth, maxUpdateLength, growDualNode, advance, clear, growthTable, contacts, growths, touching, answered, response, respond}
+use Rattle.calls.specs.Calls.{Call, InsertDefect, InsertBlossom, SetGrowState, Prepare, UpdateLength, Grow, Advance, setGrowState, prepareDualNodeGrowth, maxUpdateLength, growDualNode, advance, clear, growthTable, contacts, growths, touching, answered, response, respond}
 use Rattle.reachable.specs.Reachable.{after, Reachable}
 use Rattle.reachable.specs.Theorems.{reachable-sound}
 use Rattle.reachable.specs.laws.past.Calls.{reachable-invariant}
@@ -132,7 +132,7 @@ module _ {body : List ℕ} {kind : ℕ} (p : OfKind body kind) {b₀ b : List �
   unfolding recordOf callOf respond askLength
   answers-length n d first e en ed ef q =
       let one : leb (field body 2) 1 ≡ true = sym (formed-length body (formed-fits body (p .formed)) (p .is ∙ e)) ∙ p .formed in
-      rw (call-kind 8 p e, one, ← en, ← ed, ← ef) (answers-reply (MaxUpdateLength n d (eqb first 1)) refl q)
+      rw (call-kind 8 p e, one, ← en, ← ed, ← ef) (answers-reply (UpdateLength n d (eqb first 1)) refl q)
 
   pub answers-grow : (n : ℕ) (l : ℤ) → kind ≡ 9 → n ≡ field body 0 → l ≡ signed (field body 1)
       → Replies b₀ b a (growDualNode (stateOf b₀) n l) → Answers b₀ b a (callIn body)

@@ -12,7 +12,7 @@ use Rattle.graph.specs.Basic.{only, below}
 use Rattle.graph.specs.State.{State, edgeCount}
 use Rattle.graph.specs.Layout.{stateOf}
 use Rattle.graph.specs.laws.Members.{by-test, length-below, length-only}
-use Rattle.calls.specs.Calls.{Call, InsertDefect, InsertBlossom, SetGrowState, Prepare, MaxUpdateLength, Grow, ReadTable, Advance, Contacts, RepresentativeVertex, Clear, RenewActiveList, PrepareAll, GroupLength, Round, RemoveBlossom, growthTable, response, respond, LoadEdgeModifier}
+use Rattle.calls.specs.Calls.{Call, InsertDefect, InsertBlossom, SetGrowState, Prepare, UpdateLength, Grow, ReadTable, Advance, Contacts, RepresentativeVertex, Clear, RenewActiveList, PrepareAll, GroupLength, Round, RemoveBlossom, growthTable, response, respond, LoadEdgeModifier}
 use Rattle.calls.specs.Contacts.{isContact, contactOf, contacts}
 use Rattle.records.specs.Record.{Record, sizes, anEdge, aVirtual, ask, illFormed}
 use Rattle.records.specs.Lines.{edgeLines, contactLine, linesFor, joinedLines}
@@ -46,7 +46,7 @@ outcome-few k c (InsertDefect v x) g e = omega arith
 outcome-few k c (InsertBlossom x circle) g e = omega arith
 outcome-few k c (SetGrowState n x) g e = omega arith
 outcome-few k c (Prepare n d) g e = omega arith
-outcome-few k c (MaxUpdateLength n d first) g e = omega arith
+outcome-few k c (UpdateLength n d first) g e = omega arith
 outcome-few k c (Grow n l) g e = omega arith
 outcome-few k c ReadTable g e = omega (arith, edge-lines-few k 0 (growthTable c))
 outcome-few k c (Advance n) g e = omega arith

@@ -16,7 +16,7 @@ use Rattle.graph.specs.Layout.{stateOf}
 use Rattle.graph.specs.laws.Opened.{accepted}
 use Rattle.graph.specs.laws.Members.{by-test, length-below}
 use Rattle.pass.specs.Scratch.{zeroScratch}
-use Rattle.update_length.specs.declared.Answer.the-variants.{Refused}
+use Rattle.answers.specs.declared.Answer.the-variants.{Refused}
 use Rattle.calls.specs.Calls.{Call, respond}
 use Rattle.reachable.specs.Reachable.{after}
 use Rattle.records.specs.Record.{Record, sizes, anEdge, aVirtual, ask, illFormed, field, recordOf, decoded}

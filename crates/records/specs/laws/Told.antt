@@ -6,10 +6,10 @@ use mathlib.Core.Bool.{Bool}
 use mathlib.Core.List.{List, [], _∷_, _++_}
 use lib.IntN.{ℤ}
 use lib.ListN.{length, length-append}
-use Rattle.update_length.specs.Answer.{flag}
-use Rattle.update_length.specs.declared.Answer.the-variants.{NonZeroGrow}
+use Rattle.answers.specs.Answer.{flag}
+use Rattle.answers.specs.declared.MaxUpdateLength.the-variants.{NonZeroGrow}
 use Rattle.records.specs.Text.{ascii, decimal, signedText, spaced}
-use Rattle.records.specs.Lines.{line, wordsOf}
+use Rattle.records.specs.Lines.{line, wordsOfLength}
 use Rattle.records.specs.laws.Write.{decimal-short}
 
 -- ---- how long numbers get
@@ -36,6 +36,6 @@ four-short w x y z g h i j = spaced-short w (x ∷ y ∷ z ∷ []) 63 g (three-s
 -- ---- the line of a free answer
 
 pub free-line : (k : ℕ) (x y : ℤ) (e : Bool) (w : List ℕ) (f : ℕ) → w ≡ ascii "free " ++ signedText y → y ≡ x
-    → f ≡ flag e → line k (w ++ spaced (f ∷ [])) ≡ line k (wordsOf (NonZeroGrow x e))
-unfolding wordsOf
+    → f ≡ flag e → line k (w ++ spaced (f ∷ [])) ≡ line k (wordsOfLength (NonZeroGrow x e))
+unfolding wordsOfLength
 free-line k x y e w f p q r = rw (p, q, r)

@@ -21,9 +21,9 @@ use Rattle.pass.specs.Prepare.{prepareNode}
 use Rattle.pass.specs.inner.Ready.{Ready, Preparable, AfterPreparation}
 use Rattle.pass.specs.laws.Passes.{Passed}
 use Rattle.pass.specs.laws.Prepare.{prepare-passed}
-use Rattle.update_length.specs.declared.Answer.{Answer}
-use Rattle.update_length.specs.declared.Answer.the-variants.{Done, Refused}
-use Rattle.update_length.specs.Answer.{says}
+use Rattle.answers.specs.declared.Answer.{Answer}
+use Rattle.answers.specs.declared.Answer.the-variants.{Done, Refused}
+use Rattle.answers.specs.Answer.{says}
 use Rattle.calls.specs.Refuse.{badNode, inBlossom, storeShort, nodeRefusal}
 use Rattle.calls.specs.inner.Reply.{Replies, Usable}
 use Rattle.calls.specs.Remove.{isBlossom, removeRefusal, stopsOpening, openedBlossom, openPrepared, removeBlossom}

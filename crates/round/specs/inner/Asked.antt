@@ -13,7 +13,7 @@ use Rattle.graph.specs.Layout.{stateOf}
 use Rattle.graph.specs.Form.{Formed}
 use Rattle.graph.specs.inner.Form.{sidesOk}
 use Rattle.graph.specs.inner.Readable.{Readable}
-use Rattle.update_length.specs.declared.Answer.{Answer}
+use Rattle.answers.specs.declared.Answer.{Answer}
 use Rattle.update_length.specs.Scan.{scan}
 use Rattle.calls.specs.Calls.{toward}
 use Rattle.calls.specs.Round.{stopOf}

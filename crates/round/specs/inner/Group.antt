@@ -6,7 +6,7 @@ use lib.IntN.{ℤ}
 use lib.ListN.{length}
 use Rattle.graph.specs.Layout.{stateOf}
 use Rattle.graph.specs.inner.Form.{Becomes}
-use Rattle.update_length.specs.declared.Answer.{Answer}
+use Rattle.answers.specs.declared.Answer.{Answer}
 use Rattle.calls.specs.declared.group.GroupMaxUpdateLength.{GroupMaxUpdateLength as Group}
 use Rattle.calls.specs.declared.group.GroupMaxUpdateLength.the-variants.{Conflicts as groupConflicts}
 use Rattle.calls.specs.Round.{conflictsOf, stopsOf, groupOf, listedBy, preparedAll, groupLength}

@@ -15,7 +15,7 @@ use Rattle.graph.specs.Layout.{stateOf}
 use Rattle.graph.specs.Form.{Formed}
 use Rattle.graph.specs.inner.Form.{Becomes}
 use Rattle.pass.specs.Scratch.{scratchOf}
-use Rattle.update_length.specs.Answer.{Reply}
+use Rattle.answers.specs.Answer.{Reply}
 use Rattle.calls.specs.Calls.{toward}
 use Rattle.calls.specs.Round.{Tried, begun, triedBy, tryAll, noneOf, soundAgain, inTurn, preparing, moving}
 use Rattle.calls.specs.inner.Phase.{Phase}

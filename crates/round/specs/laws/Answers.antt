@@ -15,7 +15,7 @@ use Rattle.graph.specs.Basic.{if_then_else_, all, fold, only}
 use Rattle.graph.specs.State.{State}
 use Rattle.graph.specs.laws.Members.{clash}
 use Rattle.active_list.specs.laws.Renewal.{only-snoc}
-use Rattle.update_length.specs.declared.Answer.{Answer}
+use Rattle.answers.specs.declared.Answer.{Answer}
 use Rattle.update_length.specs.Scan.{lesser}
 use Rattle.calls.specs.declared.group.GroupMaxUpdateLength.{GroupMaxUpdateLength as Group}
 use Rattle.calls.specs.Round.{refusalOf, answersOf, firstRefusal, isFree, isConflict, joinFree, conflictsOf}

@@ -24,7 +24,7 @@ use Rattle.graph.specs.laws.Members.{by-test, member-cons, member-nil}
 use Rattle.graph.specs.laws.Shape.{sound-active, sound-node, node-facts}
 use Rattle.graph.specs.Shape.{Shape}
 use Rattle.pass.specs.laws.Prepare.{prepare-passed}
-use Rattle.update_length.specs.Answer.{Reply, says}
+use Rattle.answers.specs.Answer.{Reply, says}
 use Rattle.calls.specs.Refuse.{nodeRefusal, storeShort}
 use Rattle.calls.specs.Calls.{prepareDualNodeGrowth}
 use Rattle.calls.specs.inner.Reply.{Usable}

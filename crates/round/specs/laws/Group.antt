@@ -15,8 +15,8 @@ use Rattle.graph.specs.Active.{renewed}
 use Rattle.graph.specs.Layout.{stateOf}
 use Rattle.graph.specs.Form.{Laid}
 use Rattle.pass.specs.laws.Prepare.{prepare-passed}
-use Rattle.update_length.specs.declared.Answer.{Answer}
-use Rattle.update_length.specs.Answer.{Reply, says}
+use Rattle.answers.specs.declared.Answer.{Answer}
+use Rattle.answers.specs.Answer.{Reply, says}
 use Rattle.calls.specs.declared.group.GroupMaxUpdateLength.{GroupMaxUpdateLength as Group}
 use Rattle.calls.specs.declared.group.GroupMaxUpdateLength.the-variants.{Unlimited as groupUnlimited, Conflicts as groupConflicts, Refused as groupRefused}
 use Rattle.calls.specs.Refuse.{nodeRefusal, storeShort}

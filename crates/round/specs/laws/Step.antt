@@ -21,8 +21,8 @@ use Rattle.pass.specs.Prepare.{prepareNode}
 use Rattle.pass.specs.laws.Scratch.{scratch-same}
 use Rattle.pass.specs.laws.Prepare.{prepare-passed}
 use Rattle.growth.specs.Growth.{growCheck}
-use Rattle.update_length.specs.declared.Answer.{Answer}
-use Rattle.update_length.specs.Answer.{Reply, says}
+use Rattle.answers.specs.declared.Answer.{Answer}
+use Rattle.answers.specs.Answer.{Reply, says}
 use Rattle.calls.specs.Refuse.{nodeRefusal, storeShort}
 use Rattle.calls.specs.Calls.{prepareDualNodeGrowth, growPrepared, growToward, toward}
 use Rattle.calls.specs.inner.Reply.{Replies, MemoryPreparable}

@@ -20,7 +20,7 @@ use Rattle.graph.specs.laws.Active.{active-inside}
 use Rattle.graph.specs.laws.Members.{by-test}
 use Rattle.graph.specs.laws.Row.{becomes-none, becomes-then}
 use Rattle.graph.specs.laws.Scan.{list-at}
-use Rattle.update_length.specs.Answer.{Reply}
+use Rattle.answers.specs.Answer.{Reply}
 use Rattle.calls.specs.Calls.{toward}
 use Rattle.calls.specs.Round.{Tried, begun, triedBy, tryStep, tryAll, noneOf}
 use Rattle.round.specs.inner.Step.{nodeCall, nodeCallAt, TriedTo, CallsPossible}

@@ -20,9 +20,10 @@ use Rattle.graph.specs.inner.Opened.{OpeningAccepted}
 use Rattle.open_graph.specs.laws.OpenedBlock.{opened-length, opened-state, opened-formed, opened-block}
 use Rattle.open_graph.specs.laws.Join.{numbers-plain}
 use Rattle.memory_tests.specs.laws.Whole.{formed-sized, formed-sound}
-use Rattle.update_length.specs.declared.Answer.{Answer}
-use Rattle.update_length.specs.declared.Answer.the-variants.{Done}
-use Rattle.update_length.specs.Answer.{says}
+use Rattle.answers.specs.Theorems.{same-answer}
+use Rattle.answers.specs.declared.Answer.{Answer}
+use Rattle.answers.specs.declared.Answer.the-variants.{Done}
+use Rattle.answers.specs.Answer.{says}
 use Rattle.calls.specs.Refuse.{unless}
 use Rattle.calls.specs.Calls.{growthTable, maxUpdateLength}
 use Rattle.dual_module.specs.Called.{LengthCalled}
@@ -55,7 +56,7 @@ unfolding unless says isAccepted
 done-accepted {k = k} p =
     by-test (eqb k 0)
     (λ e. rw e at (p .listed))
-    (λ e. clash true refl (ap isAccepted (rw e at (p .answer))))
+    (λ e. clash true refl (ap isAccepted (rw e at (same-answer (p .answer)))))
 
 -- ---- the history by what the host got
 
@@ -172,7 +173,7 @@ module _ {v : ℕ} {edges : List Edge} {virtuals : List ℕ} (r : LentRun v edge
   unfolding unless says
   list-answer m t list list' filled a p =
       let k = list-fits last-whole t list m in
-      by-test (listFits (runSizes r) m t list) (λ e. p .answer ∙ rw (k, e) refl) (λ e. p .answer ∙ rw (k, e) refl)
+      by-test (listFits (runSizes r) m t list) (λ e. same-answer (p .answer) ∙ rw (k, e) refl) (λ e. same-answer (p .answer) ∙ rw (k, e) refl)
 
   -- so the history by the answers that it got is the one by the definitions' answers
   pub last-history : historyBy (runSizes r) (runStart r) [] (r .exchanges) ≡ lentHistory r
@@ -202,7 +203,7 @@ module _ {v : ℕ} {edges : List Edge} {virtuals : List ℕ} (r : LentRun v edge
     unfolding unless
     last-length t b' t' n a fits p =
         let m : memoryRefusal (r .last) t ≡ 0 = memory-fits last-whole t ∙ rw fits refl in
-        rw m at (p .block .answer) ∙ ap (λ (c : State). maxUpdateLength c n up true .answer) last-state
+        rw m at (same-answer (p .block .answer)) ∙ ap (λ (c : State). maxUpdateLength c n up true .answer) last-state
 
     pub last-nodes : SameNodes (stateOf (r .last)) (lentHistory r)
     last-nodes = subst (λ c. SameNodes c (lentHistory r)) (sym last-state) (end-matches asRun .nodes)

@@ -11,8 +11,9 @@ use borrow.Author.Tests.{eqb-true, leb-true, leb-false}
 use Rattle.graph.specs.Layout.{stateOf}
 use Rattle.graph.specs.Open.{Edge}
 use Rattle.graph.specs.laws.Members.{by-test, clash}
-use Rattle.update_length.specs.declared.Answer.{Answer}
-use Rattle.update_length.specs.declared.Answer.the-variants.{NonZeroGrow, Unlimited, Conflicting, TouchingVirtual, BlossomNeedExpand, VertexShrinkStop, VertexShrinkStopPeer, Done, Node, Prepared, Vertex, Refused}
+use Rattle.answers.specs.declared.Answer.{Answer}
+use Rattle.answers.specs.declared.Answer.the-variants.{Done, Refused}
+use Rattle.answers.specs.laws.Numbers.{case-done}
 use Rattle.c_api.specs.Words.{answerNumbers, openAnswer, openNumbers, shortList, shortCount, Tells, Told}
 use Rattle.table_theorem.specs.Answers.{isDone}
 use Rattle.reachable.specs.Reachable.{after}
@@ -28,21 +29,6 @@ use Rattle.c_api_sheet.specs.Told.{sheetNumbers}
 
 -- ---- the number of the case
 
-first-done : (a : Answer) (rest : List ℕ) → getD (answerNumbers a ++ rest) 0 0 ≡ 7 → a ≡ Done
-unfolding answerNumbers
-first-done (NonZeroGrow l e) rest h = absurd (omega arith)
-first-done (Unlimited e) rest h = absurd (omega arith)
-first-done (Conflicting p g n k) rest h = absurd (omega arith)
-first-done (TouchingVirtual n g v) rest h = absurd (omega arith)
-first-done (BlossomNeedExpand n) rest h = absurd (omega arith)
-first-done (VertexShrinkStop n) rest h = absurd (omega arith)
-first-done (VertexShrinkStopPeer n p g) rest h = absurd (omega arith)
-first-done Done rest h = refl
-first-done (Node n) rest h = absurd (omega arith)
-first-done (Prepared k) rest h = absurd (omega arith)
-first-done (Vertex v) rest h = absurd (omega arith)
-first-done (Refused k) rest h = absurd (omega arith)
-
 opened-zero : (j : ℕ) → openAnswer j ≡ Done → j ≡ 0
 unfolding openAnswer isDone
 opened-zero j e = by-test (eqb j 0) (λ t. eqb-true j 0 t) (λ t. let z : Refused j ≡ Done = rw t at e in clash true refl (ap isDone (sym z)))
@@ -56,13 +42,13 @@ module _ {list list' : List ℕ} {k : ℕ} {Still : Type 0} where
   pub told-done : (Says : Answer → Type 0) → Told answerNumbers list list' k Still Says → SaysDone list list' → Says Done
   told-done Says p d =
       let s = p .told (d .room) in
-      subst Says (first-done (s .answer) _ (rw (s .tells .listed) at (d .first-is))) (s .says)
+      subst Says (case-done (s .answer) _ (rw (s .tells .listed) at (d .first-is))) (s .says)
 
   -- an opening that says done is accepted
   pub opened-done : (Says : ℕ → Type 0) → Told openNumbers list list' k Still Says → SaysDone list list' → Says 0
   opened-done Says p d =
       let s = p .told (d .room) in
-      subst Says (opened-zero (s .answer) (first-done (openAnswer (s .answer)) _ (rw (s .tells .listed) at (d .first-is)))) (s .says)
+      subst Says (opened-zero (s .answer) (case-done (openAnswer (s .answer)) _ (rw (s .tells .listed) at (d .first-is)))) (s .says)
 
 -- a done answer says so
 pub done-told : {list list' : List ℕ} {k : ℕ} {Still : Type 0} {Says : Answer → Type 0}

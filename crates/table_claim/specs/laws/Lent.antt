@@ -6,7 +6,7 @@ use mathlib.Core.List.{List, map}
 use lib.IntN.{ℤ, pos}
 use Rattle.graph.specs.Open.{Edge}
 use Rattle.graph.specs.Layout.{stateOf}
-use Rattle.update_length.specs.declared.Answer.the-variants.{Done}
+use Rattle.answers.specs.declared.Answer.the-variants.{Done}
 use Rattle.dual_module_read.specs.Read.{TableRead}
 use Rattle.distance.specs.Graph.{WellFormed}
 use Rattle.distance.specs.Table.{tableFromDistances}

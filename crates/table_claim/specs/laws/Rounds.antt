@@ -13,9 +13,10 @@ use Rattle.graph.specs.State.{State}
 use Rattle.graph.specs.Layout.{stateOf}
 use Rattle.graph.specs.Form.{Formed}
 use Rattle.graph.specs.laws.Members.{by-test, clash}
-use Rattle.update_length.specs.declared.Answer.{Answer}
-use Rattle.update_length.specs.declared.Answer.the-variants.{Refused}
-use Rattle.update_length.specs.Answer.{Reply, says}
+use Rattle.answers.specs.Theorems.{same-answer}
+use Rattle.answers.specs.declared.Answer.{Answer}
+use Rattle.answers.specs.declared.Answer.the-variants.{Refused}
+use Rattle.answers.specs.Answer.{Reply, says}
 use Rattle.calls.specs.declared.group.GroupMaxUpdateLength.{GroupMaxUpdateLength as Group}
 use Rattle.calls.specs.declared.group.GroupMaxUpdateLength.the-variants.{Refused as groupRefused}
 use Rattle.calls.specs.Refuse.{unless}
@@ -36,13 +37,13 @@ module _ {b s t b' s' t' : List ℤ} {a : Answer} {r : Reply} where
   refused-by : (j : ℕ) → j ≢ 0 → OnTrial j b s t b' s' t' a r → (a ≡ Refused j) × (b' ≡ b)
   unfolding unless says refusalOf
   refused-by j h p =
-      let e : a ≡ Refused j = p .answer ∙ rw (ne-eqb j 0 h) refl in
+      let e : a ≡ Refused j = same-answer (p .answer) ∙ rw (ne-eqb j 0 h) refl in
       (e, p .unchanged (λ q. h (sym (ap refusalOf e) ∙ q)))
 
   pub trial-ends : {j : ℕ} (fits : Bool) → j ≡ (if fits then 0 else 1) → OnTrial j b s t b' s' t' a r → Ends b b' fits a r
   unfolding unless
   trial-ends true m p = record {
-    answer = rw m at (p .answer);
+    answer = rw m at (same-answer (p .answer));
     formed = λ e. p .formed m;
     state = λ e. rw m at (p .state);
     unchanged = λ e. clash true refl e;

@@ -15,11 +15,12 @@ use Rattle.graph.specs.Form.{Formed, Laid}
 use Rattle.graph.specs.Opening.{edgesFrom, virtualsFrom, fits, OpenCalled}
 use Rattle.open_graph.specs.laws.OpenedBlock.{refused-block}
 use Rattle.memory_tests.specs.laws.Whole.{formed-sized, formed-sound, memory-by-length, list-by-length}
-use Rattle.update_length.specs.declared.Answer.{Answer}
-use Rattle.update_length.specs.declared.Answer.the-variants.{Done}
-use Rattle.update_length.specs.Answer.{Reply, says}
+use Rattle.answers.specs.Theorems.{same-answer}
+use Rattle.answers.specs.declared.Answer.{Answer}
+use Rattle.answers.specs.declared.Answer.the-variants.{Done}
+use Rattle.answers.specs.Answer.{Reply, says}
 use Rattle.calls.specs.Refuse.{unless}
-use Rattle.calls.specs.Calls.{Call, InsertDefect, InsertBlossom, SetGrowState, Prepare, MaxUpdateLength, Grow, ReadTable, Advance, Contacts, RepresentativeVertex, Clear, respond, response, contacts as contactsOf, representativeVertex, RenewActiveList, PrepareAll, GroupLength, Round, RemoveBlossom, LoadEdgeModifier}
+use Rattle.calls.specs.Calls.{Call, InsertDefect, InsertBlossom, SetGrowState, Prepare, UpdateLength, Grow, ReadTable, Advance, Contacts, RepresentativeVertex, Clear, respond, response, contacts as contactsOf, representativeVertex, RenewActiveList, PrepareAll, GroupLength, Round, RemoveBlossom, LoadEdgeModifier}
 use Rattle.dual_module.specs.Called.{Called}
 use Rattle.dual_module_read.specs.Read.{ListRead}
 use Rattle.reachable.specs.Reachable.{after}
@@ -138,8 +139,8 @@ module _ {b b' : List ℤ} {j : ℕ} {a : Answer} {writes : Bool} {r : Reply} wh
 
   called-answered : (fits : Bool) → j ≡ (if fits then 0 else 1) → Called j b b' a writes r → a ≡ orRefused fits (r .answer)
   unfolding unless says
-  called-answered true m p = rw m at (p .answer)
-  called-answered false m p = rw m at (p .answer)
+  called-answered true m p = rw m at (same-answer (p .answer))
+  called-answered false m p = rw m at (same-answer (p .answer))
 
 -- the same of a trial
 ends-follows : {z : Sizes} {b b' : List ℤ} {a : Answer} {r : Reply} → Whole z b → (fits : Bool) → Ends b b' fits a r
@@ -164,7 +165,7 @@ step-follows {z} w (insert-blossom {t} {circle} {x = x} p) =
 step-follows {z} w (set-grow-state {t} {n = n} {x = x} p) = called-follows w (scratchFits z t) (memory-fits w t) p (SetGrowState n x) refl
 step-follows {z} w (prepare {t} {n = n} {d = d} p) = called-follows w (scratchFits z t) (memory-fits w t) (p .block) (Prepare n d) refl
 step-follows {z} w (max-update-length {t} {n = n} {d = d} {first = first} p) =
-    called-follows w (scratchFits z t) (memory-fits w t) (p .block) (MaxUpdateLength n d first) refl
+    called-follows w (scratchFits z t) (memory-fits w t) (p .block) (UpdateLength n d first) refl
 step-follows {z} w (grow {t} {n = n} {l = l} p) = called-follows w (scratchFits z t) (memory-fits w t) (p .block) (Grow n l) refl
 step-follows {z} w (read-table {t} {list} p) = reading-follows w (listFits z 2 t list) ReadTable refl
 step-follows {z} w (advance {t} {n = n} p) = called-follows w (scratchFits z t) (memory-fits w t) (p .block) (Advance n) refl
@@ -199,8 +200,8 @@ node-answered false c n m e = rw m at e
 list-answered : (fits : Bool) {b list list' filled : List ℤ} {j : ℕ} {a : Answer} → j ≡ (if fits then 0 else 1) → ListRead b list list' filled j a
     → (a ≡ orRefused fits Done) × (list' ≡ (if fits then filled else list))
 unfolding unless says
-list-answered true m p = (rw m at (p .answer), rw m at (p .listed))
-list-answered false m p = (rw m at (p .answer), rw m at (p .listed))
+list-answered true m p = (rw m at (same-answer (p .answer)), rw m at (p .listed))
+list-answered false m p = (rw m at (same-answer (p .answer)), rw m at (p .listed))
 
 counted-by : (fits : Bool) (n : ℕ) {j k : ℕ} → j ≡ (if fits then 0 else 1) → k ≡ (if eqb j 0 then n else 0) → k ≡ (if fits then n else 0)
 counted-by true n m e = rw m at e
@@ -228,7 +229,7 @@ step-returns {z} {b} w (contacts {t} {list} p k) =
     let q = list-answered (listFits z 3 t list) (list-fits w t list 3) p in
     rw (q .0, q .1, counted-by (listFits z 3 t list) (length (contactsOf (stateOf b))) (list-fits w t list 3) k) refl
 step-returns {z} {b} w (representative-vertex {t} {n} p) =
-    ap returns (read-answered (scratchFits z t) (stateOf b) (representativeVertex (stateOf b) n) (memory-fits w t) p)
+    ap returns (read-answered (scratchFits z t) (stateOf b) (representativeVertex (stateOf b) n) (memory-fits w t) (same-answer p))
 step-returns {z} w (clear {t} p) = ap returns (called-answered (scratchFits z t) (memory-fits w t) p)
 step-returns {z} w (sheet-refused p) = rw (p .leaves .answer, p .leaves .edges-are, w .size) refl
 step-returns {z} w (renew-active-list p) = ap returns (called-answered true (alone-fits w) p)
@@ -239,7 +240,7 @@ step-returns {z} {b} w (edge-gap {t} {e} p) =
     ap returnsGap (gap-answered (scratchFits z t) (gapTold (stateOf b) e) (memory-fits w t) p)
 step-returns {z} w (load-edge-modifier {t} {pairs} p) = ap returns (called-answered (pairsFit z t pairs) (pairs-fit w t pairs) p)
 step-returns {z} {b} w (prepare-all {s} {t} p) =
-    ap returns (read-answered (trialFits z s t) (stateOf b) (prepareAll (stateOf b)) (trial-fits w s t) (p .answer))
+    ap returns (read-answered (trialFits z s t) (stateOf b) (prepareAll (stateOf b)) (trial-fits w s t) (same-answer (p .answer)))
 step-returns {z} {b} w (group-length {s} {t} {entries = entries} p) =
     let q = group-answers (groupFits z s t entries) (group-fits w s t entries) p in
     rw (q .0, q .1) refl

@@ -21,13 +21,16 @@ use Rattle.graph.specs.laws.Members.{by-test, clash}
 use Rattle.pass.specs.Prepare.{prepareNode}
 use Rattle.pass.specs.laws.Passes.{Passed}
 use Rattle.pass.specs.laws.Prepare.{prepare-passed}
-use Rattle.update_length.specs.declared.Answer.{Answer}
-use Rattle.update_length.specs.declared.Answer.the-variants.{NonZeroGrow, Unlimited, Conflicting, TouchingVirtual, BlossomNeedExpand, VertexShrinkStop, VertexShrinkStopPeer, Done, Node, Prepared, Refused, Vertex}
-use Rattle.update_length.specs.Answer.{Reply, says}
+use Rattle.answers.specs.declared.Answer.{Answer}
+use Rattle.answers.specs.declared.Answer.the-variants.{Length, Done, Node, Prepared, Refused, Vertex}
+use Rattle.answers.specs.declared.MaxUpdateLength.the-variants.{Unlimited}
+use Rattle.answers.specs.laws.Answer.{free-cases, free-other}
+use Rattle.calls.specs.laws.Follow.{follow-other}
+use Rattle.answers.specs.Answer.{Reply, says}
 use Rattle.calls.specs.Refuse.{nodeRefusal, storeShort}
 use Rattle.growth.specs.Growth.{growCheck}
 use Rattle.calls.specs.Insert.{insertDefect, defectPut, defectRefusal, insertBlossom, blossomRefusal}
-use Rattle.calls.specs.Calls.{setGrowState, prepareDualNodeGrowth, maxUpdateLength, readied, growPrepared, growToward, growDualNode, signedFor, follow, advanceBy, toward, advance, representativeVertex, clear, Call, InsertDefect, InsertBlossom, SetGrowState, Prepare, MaxUpdateLength, Grow, ReadTable, Advance, Contacts, RepresentativeVertex, Clear, RenewActiveList, PrepareAll, GroupLength, Round, RemoveBlossom, LoadEdgeModifier, response, respond}
+use Rattle.calls.specs.Calls.{setGrowState, prepareDualNodeGrowth, maxUpdateLength, readied, growPrepared, growToward, growDualNode, signedFor, follow, advanceBy, toward, advance, representativeVertex, clear, Call, InsertDefect, InsertBlossom, SetGrowState, Prepare, UpdateLength, Grow, ReadTable, Advance, Contacts, RepresentativeVertex, Clear, RenewActiveList, PrepareAll, GroupLength, Round, RemoveBlossom, LoadEdgeModifier, response, respond}
 use Rattle.graph.specs.Active.{activated, joinActive, renewed}
 use Rattle.calls.specs.Round.{renewActiveList, preparing, preparedAll, prepareAll, GroupReply, groupRefusal, groupLength, movedAll, tried, round}
 use Rattle.calls.specs.Remove.{isBlossom}
@@ -212,20 +215,23 @@ signed-none : (x : ℕ) → signedFor x (pos 0) ≡ pos 0
 unfolding signedFor
 signed-none x = if-both (λ (l : ℤ). l ≡ pos 0) (eqb x growing) refl refl
 
-follow-leaves : {c : State} {h : History} → Matches c h → length (c .nodes .dual) ≡ nodeCount c → (n x : ℕ) → n < nodeCount c → (a : Answer) → Leaves h n (signedFor x (limitOf a)) (follow c n x a)
-unfolding follow limitOf says isDone
-follow-leaves i len n x hn (NonZeroGrow l e) = grow-leaves i len n (signedFor x l)
-follow-leaves i len n x hn Done = rw (signed-none x) (nothing-added-matches i n hn)
-follow-leaves i len n x hn (Unlimited e) = i
-follow-leaves i len n x hn (Conflicting p r m b) = i
-follow-leaves i len n x hn (TouchingVirtual m r v) = i
-follow-leaves i len n x hn (BlossomNeedExpand m) = i
-follow-leaves i len n x hn (VertexShrinkStop m) = i
-follow-leaves i len n x hn (VertexShrinkStopPeer m p r) = i
-follow-leaves i len n x hn (Node m) = i
-follow-leaves i len n x hn (Prepared k) = i
-follow-leaves i len n x hn (Refused k) = i
-follow-leaves i len n x hn (Vertex v) = i
+-- an answer that is handed back adds nothing
+handed-leaves : {c : State} {h : History} → Matches c h → (n x : ℕ) → n < nodeCount c → (a : Answer) → Leaves h n (signedFor x (pos 0)) (says a c)
+unfolding says isDone
+handed-leaves i n x hn (Length m) = i
+handed-leaves i n x hn Done = rw (signed-none x) (nothing-added-matches i n hn)
+handed-leaves i n x hn (Node m) = i
+handed-leaves i n x hn (Prepared k) = i
+handed-leaves i n x hn (Vertex v) = i
+handed-leaves i n x hn (Refused k) = i
+
+follow-leaves : {c : State} {h : History} → Matches c h → length (c .nodes .dual) ≡ nodeCount c → (n x : ℕ) → n < nodeCount c → (a : Answer)
+    → Leaves h n (signedFor x (limitOf a)) (follow c n x a)
+unfolding follow limitOf
+follow-leaves {c} {h} i len n x hn =
+    free-cases (λ a. Leaves h n (signedFor x (limitOf a)) (follow c n x a)) (λ l e. grow-leaves i len n (signedFor x l))
+    (λ e. handed-leaves i n x hn (Length (Unlimited e)))
+    (λ a k. rw (follow-other c n x a k, free-other (pos 0) (λ l e. l) (λ e. pos 0) a k) (handed-leaves i n x hn a))
 
 advance-leaves : {c : State} {h : History} → Matches c h → length (c .nodes .dual) ≡ nodeCount c → (n : ℕ) → Leaves h n (advanceLength c n (entryAt h n .growState)) (advance c n)
 unfolding advance advanceBy advanceLength says isDone
@@ -351,7 +357,7 @@ opens-none g i (InsertDefect v x) = refl
 opens-none g i (InsertBlossom x circle) = refl
 opens-none g i (SetGrowState n x) = refl
 opens-none g i (Prepare n d) = refl
-opens-none g i (MaxUpdateLength n d first) = refl
+opens-none g i (UpdateLength n d first) = refl
 opens-none g i (Grow n l) = refl
 opens-none g i ReadTable = refl
 opens-none g i (Advance n) = refl
@@ -372,7 +378,7 @@ call-matches g i (InsertDefect v x) b = insert-defect-matches g i v x
 call-matches g i (InsertBlossom x circle) b = refused-blossom-matches i x circle (not-true _ b)
 call-matches g i (SetGrowState n x) b = set-state-matches i n x
 call-matches g i (Prepare n d) b = prepare-matches i n d
-call-matches g i (MaxUpdateLength n d first) b = length-matches i n d first
+call-matches g i (UpdateLength n d first) b = length-matches i n d first
 call-matches g i (Grow n l) b = grow-leaves i (g .shape .dual) n l
 call-matches g i ReadTable b = i
 call-matches g i (Advance n) b = advance-leaves i (g .shape .dual) n

@@ -12,13 +12,14 @@ use Rattle.graph.specs.laws.State.{if-both}
 use Rattle.graph.specs.laws.Members.{by-test, clash, any-none}
 use Rattle.pass.specs.Prepare.{prepareNode}
 use Rattle.pass.specs.laws.Prepare.{prepare-passed}
-use Rattle.update_length.specs.declared.Answer.{Answer}
-use Rattle.update_length.specs.declared.Answer.the-variants.{NonZeroGrow, Unlimited, Conflicting, TouchingVirtual, BlossomNeedExpand, VertexShrinkStop, VertexShrinkStopPeer, Done, Node, Prepared, Refused, Vertex}
-use Rattle.update_length.specs.Answer.{Reply, says}
+use Rattle.answers.specs.declared.Answer.{Answer}
+use Rattle.answers.specs.declared.Answer.the-variants.{Done}
+use Rattle.answers.specs.Answer.{Reply, says}
+use Rattle.calls.specs.laws.Follow.{follow-cases}
 use Rattle.calls.specs.Refuse.{nodeRefusal, storeShort, unless}
 use Rattle.growth.specs.Growth.{growCheck}
 use Rattle.calls.specs.Insert.{insertDefect, defectPut, defectRefusal, insertBlossom, blossomPut, blossomRefusal, Joining, prepareStep, joinSide, memberStays, joinStep, joinCircle}
-use Rattle.calls.specs.Calls.{setGrowState, prepareDualNodeGrowth, maxUpdateLength, readied, growPrepared, growToward, growDualNode, signedFor, follow, advanceBy, toward, advance, representativeVertex, clear, Call, InsertDefect, InsertBlossom, SetGrowState, Prepare, MaxUpdateLength, Grow, ReadTable, Advance, Contacts, RepresentativeVertex, Clear, RenewActiveList, PrepareAll, GroupLength, Round, RemoveBlossom, LoadEdgeModifier, response, respond}
+use Rattle.calls.specs.Calls.{setGrowState, prepareDualNodeGrowth, maxUpdateLength, readied, growPrepared, growToward, growDualNode, signedFor, follow, advanceBy, toward, advance, representativeVertex, clear, Call, InsertDefect, InsertBlossom, SetGrowState, Prepare, UpdateLength, Grow, ReadTable, Advance, Contacts, RepresentativeVertex, Clear, RenewActiveList, PrepareAll, GroupLength, Round, RemoveBlossom, LoadEdgeModifier, response, respond}
 use Rattle.graph.specs.Active.{joinActive, activated, renewed}
 use Rattle.calls.specs.Round.{renewActiveList, preparing, preparedAll, prepareAll, moving, movedAll, round, GroupReply, groupRefusal, groupLength}
 use Rattle.calls.specs.Remove.{removeBlossom}
@@ -105,19 +106,8 @@ length-fixed c n d first =
     (if-both (λ (x : State). fixedOf x ≡ fixedOf c) first (prepare-fixed c n d) refl)
 
 follow-fixed : (c : State) (n x : ℕ) (a : Answer) → fixedOf (follow c n x a .state) ≡ fixedOf c
-unfolding follow says
-follow-fixed c n x (NonZeroGrow l e) = grow-fixed c n (signedFor x l)
-follow-fixed c n x (Unlimited e) = refl
-follow-fixed c n x (Conflicting p g m h) = refl
-follow-fixed c n x (TouchingVirtual m g v) = refl
-follow-fixed c n x (BlossomNeedExpand m) = refl
-follow-fixed c n x (VertexShrinkStop m) = refl
-follow-fixed c n x (VertexShrinkStopPeer m p g) = refl
-follow-fixed c n x Done = refl
-follow-fixed c n x (Node m) = refl
-follow-fixed c n x (Prepared k) = refl
-follow-fixed c n x (Refused k) = refl
-follow-fixed c n x (Vertex v) = refl
+unfolding says
+follow-fixed c n x a = follow-cases (λ (r : Reply). fixedOf (r .state) ≡ fixedOf c) c n x a (λ l e. grow-fixed c n (signedFor x l)) refl
 
 advance-fixed : (c : State) (n : ℕ) → fixedOf (advance c n .state) ≡ fixedOf c
 unfolding advance advanceBy says
@@ -157,7 +147,7 @@ reweighs (InsertDefect v x) = false
 reweighs (InsertBlossom x circle) = false
 reweighs (SetGrowState n x) = false
 reweighs (Prepare n d) = false
-reweighs (MaxUpdateLength n d first) = false
+reweighs (UpdateLength n d first) = false
 reweighs (Grow n l) = false
 reweighs ReadTable = false
 reweighs (Advance n) = false
@@ -176,7 +166,7 @@ call-fixed c (InsertDefect v x) h = unless-fixed (defectRefusal c v x) c _ (defe
 call-fixed c (InsertBlossom x circle) h = unless-fixed (blossomRefusal c x circle) c _ (blossom-fixed c x circle)
 call-fixed c (SetGrowState n x) h = unless-fixed (nodeRefusal c n (ltb shrinking x) false) c _ refl
 call-fixed c (Prepare n d) h = unless-fixed (nodeRefusal c n (ltb up d) (storeShort c (n ∷ []) 1)) c _ (prepare-fixed c n d)
-call-fixed c (MaxUpdateLength n d first) h = length-fixed c n d first
+call-fixed c (UpdateLength n d first) h = length-fixed c n d first
 call-fixed c (Grow n l) h = grow-fixed c n l
 call-fixed c ReadTable h = refl
 call-fixed c (Advance n) h = advance-fixed c n
@@ -240,7 +230,7 @@ call-wired c (InsertDefect v x) = kept-wired c (InsertDefect v x) refl
 call-wired c (InsertBlossom x circle) = kept-wired c (InsertBlossom x circle) refl
 call-wired c (SetGrowState n x) = kept-wired c (SetGrowState n x) refl
 call-wired c (Prepare n d) = kept-wired c (Prepare n d) refl
-call-wired c (MaxUpdateLength n d first) = kept-wired c (MaxUpdateLength n d first) refl
+call-wired c (UpdateLength n d first) = kept-wired c (UpdateLength n d first) refl
 call-wired c (Grow n l) = kept-wired c (Grow n l) refl
 call-wired c ReadTable = kept-wired c ReadTable refl
 call-wired c (Advance n) = kept-wired c (Advance n) refl
@@ -274,7 +264,7 @@ call-original c (InsertDefect v x) h o = kept-original c (InsertDefect v x) refl
 call-original c (InsertBlossom x circle) h o = kept-original c (InsertBlossom x circle) refl o
 call-original c (SetGrowState n x) h o = kept-original c (SetGrowState n x) refl o
 call-original c (Prepare n d) h o = kept-original c (Prepare n d) refl o
-call-original c (MaxUpdateLength n d first) h o = kept-original c (MaxUpdateLength n d first) refl o
+call-original c (UpdateLength n d first) h o = kept-original c (UpdateLength n d first) refl o
 call-original c (Grow n l) h o = kept-original c (Grow n l) refl o
 call-original c ReadTable h o = kept-original c ReadTable refl o
 call-original c (Advance n) h o = kept-original c (Advance n) refl o

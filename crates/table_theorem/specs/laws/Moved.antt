@@ -21,7 +21,7 @@ use Rattle.graph.specs.laws.Active.{active-in, in-active, active-in-once}
 use Rattle.pass.specs.Prepare.{prepareNode}
 use Rattle.pass.specs.laws.Passes.{Passed}
 use Rattle.pass.specs.laws.Prepare.{prepare-passed}
-use Rattle.update_length.specs.Answer.{Reply}
+use Rattle.answers.specs.Answer.{Reply}
 use Rattle.growth.specs.Growth.{growCheck, movedStack, growApply}
 use Rattle.growth.specs.laws.Accepted.{shrink-accepted}
 use Rattle.growth.specs.laws.Growth.{Moved, sides-moved}

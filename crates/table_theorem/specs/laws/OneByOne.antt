@@ -13,7 +13,7 @@ use Rattle.graph.specs.Basic.{fold}
 use Rattle.graph.specs.State.{State, NodeClass, defectVertex, blossom, removed, nodeCount, growing, shrinking, up, down}
 use Rattle.graph.specs.Active.{renewed, activeIn}
 use Rattle.graph.specs.laws.Members.{by-test, clash}
-use Rattle.update_length.specs.Answer.{Reply, says}
+use Rattle.answers.specs.Answer.{Reply, says}
 use Rattle.calls.specs.Refuse.{unless}
 use Rattle.calls.specs.Calls.{growToward, growDualNode, Call, Grow, Round, response, respond}
 use Rattle.calls.specs.Round.{Tried, tryAll, tried, renewActiveList, moving, movedAll, round}

@@ -2,7 +2,6 @@
 use Prim.Native.Nat.{ℕ, _<_}
 use mathlib.Core.Path.{_≡_}
 use lib.IntN.{ℤ, subℕ}
-use Rattle.update_length.specs.declared.Answer.the-variants.{Conflicting}
 use Rattle.update_length.specs.declared.look.Look as LookType
 use Rattle.update_length.specs.declared.look.Look.the-variants.{Skip, Room, Meets}
 use Rattle.update_length.specs.declared.join.Scan as ScanType
@@ -69,4 +68,4 @@ pub record Knows (r : ScanType.Scan) (k : Scan) : Type 0 where
 unfoldable pub peersOf : PeersType.Peers → Peers
 peersOf Nobody = noPeer
 peersOf (Peer p g) = peer p g
-peersOf (Clash q h p g) = twoPeers (Conflicting q h p g)
+peersOf (Clash q h p g) = twoPeers q h p g

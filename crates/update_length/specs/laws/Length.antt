@@ -9,8 +9,9 @@ use lib.IntN.{ℤ, pos, negsuc, negℤ, subℕ}
 use lib.Dec.{leb}
 use borrow.Author.Tests.{lt-ltb, le-ltb, eq-eqb, ne-eqb, le-leb, lt-leb}
 use Rattle.graph.specs.Basic.{if_then_else_}
-use Rattle.update_length.specs.declared.Answer.{Answer}
-use Rattle.update_length.specs.declared.Answer.the-variants.{NonZeroGrow, Unlimited, Conflicting, VertexShrinkStop, VertexShrinkStopPeer}
+use Rattle.answers.specs.declared.Answer.{Answer}
+use Rattle.answers.specs.declared.Answer.the-variants.{Length}
+use Rattle.answers.specs.declared.MaxUpdateLength.the-variants.{NonZeroGrow, Unlimited, Conflicting, VertexShrinkStop, VertexShrinkStopPeer}
 use Rattle.update_length.specs.declared.look.Look as LookType
 use Rattle.update_length.specs.declared.look.Look.the-variants.{Skip, Room, Meets}
 use Rattle.update_length.specs.declared.join.Scan as ScanType
@@ -144,11 +145,11 @@ module _ {r : ScanType.Scan} {l : LookType.Look} where
 -- ---- the answer by what is known
 
 module _ (empty : Bool) {r : ScanType.Scan} where
-  pub answer-open : r ≡ OpenEnded → Unlimited empty ≡ scanAnswer empty (scanOf r)
+  pub answer-open : r ≡ OpenEnded → Length (Unlimited empty) ≡ scanAnswer empty (scanOf r)
   unfolding scanAnswer scanOf
   answer-open e = rw e
 
-  pub answer-within : {x : ℕ} {z : ℤ} → r ≡ Within x → z ≡ lengthOf x → NonZeroGrow z empty ≡ scanAnswer empty (scanOf r)
+  pub answer-within : {x : ℕ} {z : ℤ} → r ≡ Within x → z ≡ lengthOf x → Length (NonZeroGrow z empty) ≡ scanAnswer empty (scanOf r)
   unfolding scanAnswer scanOf
   answer-within e f = rw (e, f)
 

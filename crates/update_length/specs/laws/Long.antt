@@ -12,9 +12,12 @@ use Rattle.graph.specs.Basic.{if_then_else_, fold, all, member}
 use Rattle.graph.specs.State.{State, NodeClass, defectVertex, blossom, removed, opposite, passable, holderAt, endAt, sidesAt, growthAt, growStateOf, classOf, dualOf, boundaryOf, overgrownOf, grownOver, weightOver, growing, shrinking, up, down}
 use Rattle.graph.specs.laws.State.{and-left, and-right, if-both, if-cases, fold-keeps}
 use Rattle.graph.specs.laws.Members.{both, by-test, clash, all-member}
-use Rattle.update_length.specs.declared.Answer.{Answer}
-use Rattle.update_length.specs.declared.Answer.the-variants.{NonZeroGrow, Unlimited, Conflicting, TouchingVirtual, BlossomNeedExpand, VertexShrinkStop, VertexShrinkStopPeer, Done, Node, Prepared, Refused, Vertex}
-use Rattle.update_length.specs.Scan.{half, isZero, lesser, Look, skip, room, meets, gapOf, lookPeer, lookFree, lookHeld, lookGrow, lookShrink, look, Scan, open-ended, within, over, withLook, scanStep, isEmpty, scanAnswer, scanBoundary, Peers, noPeer, peer, twoPeers as conflicting, meetsPeer, meet, stopStep, stopWith, stopAnswer, shrinkLimit, scan}
+use Rattle.answers.specs.declared.Answer.{Answer}
+use Rattle.answers.specs.declared.Answer.the-variants.{Length, Refused}
+use Rattle.answers.specs.declared.MaxUpdateLength.the-variants.{Conflicting, TouchingVirtual}
+use Rattle.answers.specs.Answer.{freeOr, isFree}
+use Rattle.answers.specs.laws.Answer.{free-cases, free-other}
+use Rattle.update_length.specs.Scan.{half, isZero, lesser, Look, skip, room, meets, gapOf, lookPeer, lookFree, lookHeld, lookGrow, lookShrink, look, Scan, open-ended, within, over, withLook, scanStep, isEmpty, scanAnswer, scanBoundary, Peers, noPeer, peer, twoPeers, meetsPeer, meet, stopStep, stopWith, stopAnswer, shrinkLimit, scan}
 
 -- ---- lengths
 
@@ -23,49 +26,15 @@ unfoldable pub longAs : ℕ → ℤ → Bool
 longAs m (pos x) = leb m x
 longAs m (negsuc x) = false
 
+-- a free answer of at least m
 unfoldable pub answerLong : ℕ → Answer → Bool
-answerLong m (NonZeroGrow l e) = longAs m l
-answerLong m (Unlimited e) = true
-answerLong m (Conflicting p g n h) = false
-answerLong m (TouchingVirtual n g v) = false
-answerLong m (BlossomNeedExpand n) = false
-answerLong m (VertexShrinkStop n) = false
-answerLong m (VertexShrinkStopPeer n p g) = false
-answerLong m Done = false
-answerLong m (Node n) = false
-answerLong m (Prepared k) = false
-answerLong m (Refused k) = false
-answerLong m (Vertex v) = false
+answerLong m a = freeOr false (λ l e. longAs m l) (λ e. true) a
 
--- an answer that is a length, or none at all
-unfoldable pub isLength : Answer → Bool
-isLength (NonZeroGrow l e) = true
-isLength (Unlimited e) = true
-isLength (Conflicting p g n k) = false
-isLength (TouchingVirtual n g v) = false
-isLength (BlossomNeedExpand n) = false
-isLength (VertexShrinkStop n) = false
-isLength (VertexShrinkStopPeer n p g) = false
-isLength Done = false
-isLength (Node n) = false
-isLength (Prepared k) = false
-isLength (Refused k) = false
-isLength (Vertex v) = false
-
-long-is-length : (m : ℕ) (a : Answer) → answerLong m a ≡ true → isLength a ≡ true
-unfolding answerLong isLength
-long-is-length m (NonZeroGrow l e) h = refl
-long-is-length m (Unlimited e) h = refl
-long-is-length m (Conflicting p g n k) h = h
-long-is-length m (TouchingVirtual n g v) h = h
-long-is-length m (BlossomNeedExpand n) h = h
-long-is-length m (VertexShrinkStop n) h = h
-long-is-length m (VertexShrinkStopPeer n p g) h = h
-long-is-length m Done h = h
-long-is-length m (Node n) h = h
-long-is-length m (Prepared k) h = h
-long-is-length m (Refused k) h = h
-long-is-length m (Vertex v) h = h
+long-is-free : (m : ℕ) (a : Answer) → answerLong m a ≡ true → isFree a ≡ true
+unfolding answerLong isFree
+long-is-free m =
+    free-cases (λ a. answerLong m a ≡ true → isFree a ≡ true) (λ l e h. refl) (λ e h. refl)
+    (λ a k h. clash (answerLong m a) h (free-other false (λ l e. longAs m l) (λ e. true) a k))
 
 unfoldable scanLong : ℕ → Scan → Bool
 scanLong m open-ended = true
@@ -113,12 +82,12 @@ scan-long m c n d r (s ∷ l) h =
 unfoldable lookPlain : Look → Bool
 lookPlain skip = true
 lookPlain (room l) = true
-lookPlain (meets a) = not (isLength a)
+lookPlain (meets a) = not (isFree a)
 
 unfoldable scanPlain : Scan → Bool
 scanPlain open-ended = true
 scanPlain (within l) = true
-scanPlain (over a) = not (isLength a)
+scanPlain (over a) = not (isFree a)
 
 join-plain : (r : Scan) (k : Look) → scanPlain r ≡ true → lookPlain k ≡ true → scanPlain (withLook r k) ≡ true
 unfolding scanPlain lookPlain withLook
@@ -134,7 +103,7 @@ abbrev Plain : Look → Type 0
 Plain k = lookPlain k ≡ true
 
 look-plain : (c : State) (n d s : ℕ) → lookPlain (look c n d s) ≡ true
-unfolding look lookGrow lookFree lookHeld lookPeer lookShrink lookPlain isLength
+unfolding look lookGrow lookFree lookHeld lookPeer lookShrink lookPlain isFree
 look-plain c n d s =
     if-both Plain (eqb d up)
     (if-both Plain (eqb (holderAt c (opposite s)) (n + 1)) refl
@@ -148,7 +117,7 @@ answer-long : (m : ℕ) (e : Bool) (r : Scan) → scanPlain r ≡ true → answe
 unfolding answerLong scanAnswer scanLong scanPlain
 answer-long m e open-ended p h = refl
 answer-long m e (within l) p h = h
-answer-long m e (over a) p h = clash (isLength a) (long-is-length m a h) (not-true (isLength a) p)
+answer-long m e (over a) p h = clash (isFree a) (long-is-free m a h) (not-true (isFree a) p)
 
 boundary-long : (m : ℕ) (c : State) (n d : ℕ) (r : Scan) → scanPlain r ≡ true
     → answerLong m (scanBoundary c n d r) ≡ true
@@ -161,32 +130,17 @@ boundary-long m c n d r p h =
 
 -- ---- a node of dual variable 0 answers no length
 
-unfoldable peersPlain : Peers → Bool
-peersPlain noPeer = true
-peersPlain (peer p g) = true
-peersPlain (conflicting a) = not (isLength a)
+stop-with-short : (n : ℕ) (r : Peers) → isFree (Length (stopWith n r)) ≡ false
+unfolding stopWith isFree
+stop-with-short n noPeer = refl
+stop-with-short n (peer p g) = refl
+stop-with-short n (twoPeers q h p g) = refl
 
-meet-plain : (r : Peers) (p g : ℕ) → peersPlain r ≡ true → peersPlain (meet r p g) ≡ true
-unfolding peersPlain meet isLength
-meet-plain noPeer p g h = refl
-meet-plain (peer q k) p g h = if-both (λ (x : Peers). peersPlain x ≡ true) (eqb p q) refl refl
-meet-plain (conflicting a) p g h = h
-
-stop-plain : (n : ℕ) (r : Peers) → peersPlain r ≡ true → isLength (stopWith n r) ≡ false
-unfolding peersPlain stopWith isLength
-stop-plain n noPeer h = refl
-stop-plain n (peer p g) h = refl
-stop-plain n (conflicting a) h = not-true (isLength a) h
-
-pub stop-short : (c : State) (n : ℕ) (k : NodeClass) → isLength (stopAnswer c n k) ≡ false
-unfolding stopAnswer isLength stopStep peersPlain
+pub stop-short : (c : State) (n : ℕ) (k : NodeClass) → isFree (Length (stopAnswer c n k)) ≡ false
+unfolding stopAnswer isFree
 stop-short c n (blossom m) = refl
 stop-short c n removed = refl
-stop-short c n (defectVertex v) =
-    stop-plain n (fold (stopStep c) noPeer (sidesAt c v))
-    (fold-keeps (stopStep c) (λ (x : Peers). peersPlain x ≡ true)
-    (λ x t q. if-both (λ (y : Peers). peersPlain y ≡ true) (meetsPeer c t) (meet-plain x _ _ q) q) noPeer
-    (sidesAt c v) refl)
+stop-short c n (defectVertex v) = stop-with-short n (fold (stopStep c) noPeer (sidesAt c v))
 
 -- ---- shrinking
 
@@ -214,7 +168,7 @@ pub scan-down-long : (m : ℕ) (c : State) (n : ℕ) → answerLong m (scan c n 
 unfolding scan
 scan-down-long m c n h =
     by-test (eqb (dualOf c n) 0)
-    (λ e. clash (isLength (stopAnswer c n (classOf c n))) (long-is-length m _ (rw e at h)) (stop-short c n (classOf c n)))
+    (λ e. clash (isFree (Length (stopAnswer c n (classOf c n)))) (long-is-free m _ (rw e at h)) (stop-short c n (classOf c n)))
     (λ e.
     let r : Scan = within (pos (shrinkLimit (dualOf c n) (overgrownOf c n))) in
     let k : scanLong m r && all (λ s. lookLong m (look c n down s)) (boundaryOf c n) ≡ true =

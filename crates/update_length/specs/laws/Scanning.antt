@@ -15,8 +15,9 @@ use Rattle.graph.specs.Word.{toNat, wordAt}
 use Rattle.graph.specs.Layout.{classFrom, overgrownFrom}
 use Rattle.graph.specs.laws.State.{fold-none, fold-more, fold-done}
 use Rattle.graph.specs.laws.Number.{word-entry}
-use Rattle.update_length.specs.declared.Answer.{Answer}
-use Rattle.update_length.specs.declared.Answer.the-variants.{BlossomNeedExpand}
+use Rattle.answers.specs.declared.Answer.{Answer}
+use Rattle.answers.specs.declared.MaxUpdateLength.{MaxUpdateLength}
+use Rattle.answers.specs.declared.MaxUpdateLength.the-variants.{BlossomNeedExpand}
 use Rattle.update_length.specs.declared.look.Look as LookType
 use Rattle.update_length.specs.declared.join.Scan as ScanType
 use Rattle.update_length.specs.declared.stop.Peers.the-variants.{Nobody}
@@ -75,7 +76,7 @@ module _ (c : State) (v : ℕ) where
 -- ---- a node that shrinks no further, by the word of its class
 
 module _ (c : State) (n x : ℕ) (e : classFrom (vertexCount c) x ≡ classOf c n) where
-  pub stop-defect : {r : Peers} {a : Answer} → x < vertexCount c → r ≡ fold (stopStep c) noPeer (sidesAt c x)
+  pub stop-defect : {r : Peers} {a : MaxUpdateLength} → x < vertexCount c → r ≡ fold (stopStep c) noPeer (sidesAt c x)
       → a ≡ stopWith n r → a ≡ stopAnswer c n (classOf c n)
   unfolding classFrom stopAnswer
   stop-defect h k p = p ∙ rw (← e, lt-ltb x (vertexCount c) h, k)

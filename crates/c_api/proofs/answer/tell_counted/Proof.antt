@@ -3,9 +3,10 @@ use mathlib.Core.Path.{_≡_, refl, sym, ap}
 use mathlib.Core.List.{[], _∷_}
 use types.Run.{OneOf, miss}
 use denote.Enum.Declared.{tagOf}
-use Rattle.update_length.specs.declared.Answer.{Answer}
-use Rattle.update_length.specs.declared.Answer.the-variants.{NonZeroGrow, Unlimited, Conflicting, TouchingVirtual, BlossomNeedExpand, VertexShrinkStop, VertexShrinkStopPeer, Done, Node, Prepared, Vertex, Refused}
-use Rattle.update_length.proofs.Answer as Kinds
+use Rattle.answers.specs.declared.Answer.{Answer}
+use Rattle.answers.specs.declared.Answer.the-variants.{Length, Done, Node, Prepared, Vertex, Refused}
+use Rattle.answers.specs.Answer.{isDone}
+use Rattle.answers.proofs.Answer as Kinds
 use Rattle.c_api.specs.Words.{answerNumbers, countNumbers}
 use Rattle.c_api.specs.laws.Words.{tells-as}
 use borrow.Author.Needs.{needs}
@@ -13,16 +14,10 @@ use Rattle.c_api.proofs.answer.tell_counted.Statement.{statement}
 use Rattle.c_api.proofs.answer.tell_counted.Tie as tie
 
 -- an answer of another case is told as it is
-others : (a : Answer) (n : ℕ) → OneOf (0 ∷ 1 ∷ 2 ∷ 3 ∷ 4 ∷ 5 ∷ 6 ∷ 8 ∷ 9 ∷ 10 ∷ 11 ∷ []) (tagOf Kinds.the-type a) → countNumbers a n ≡ answerNumbers a
-unfolding countNumbers answerNumbers
-others (NonZeroGrow l e) n h = refl
-others (Unlimited e) n h = refl
-others (Conflicting p g m k) n h = refl
-others (TouchingVirtual m g v) n h = refl
-others (BlossomNeedExpand m) n h = refl
-others (VertexShrinkStop m) n h = refl
-others (VertexShrinkStopPeer m p g) n h = refl
-others Done n h = absurd (miss (0 ∷ 1 ∷ 2 ∷ 3 ∷ 4 ∷ 5 ∷ 6 ∷ 8 ∷ 9 ∷ 10 ∷ 11 ∷ []) 7 tt h)
+others : (a : Answer) (n : ℕ) → OneOf (0 ∷ 2 ∷ 3 ∷ 4 ∷ 5 ∷ []) (tagOf Kinds.the-type a) → countNumbers a n ≡ answerNumbers a
+unfolding countNumbers isDone
+others (Length m) n h = refl
+others Done n h = absurd (miss (0 ∷ 2 ∷ 3 ∷ 4 ∷ 5 ∷ []) 1 tt h)
 others (Node m) n h = refl
 others (Prepared k) n h = refl
 others (Vertex v) n h = refl
@@ -44,7 +39,7 @@ same-length : tie.Need-same-length
 same-length c = search needs
 
 returns : tie.Need-returns
-unfolding countNumbers answerNumbers
+unfolding countNumbers isDone
 returns c =
     let s = c .before .before .before .before .before in
     tells-as (c .before .before .front .ensures) (ap (λ a. countNumbers a (s .before .before .before .args .c .count)) (sym (s .enum-told .given .1)))

@@ -1,5 +1,5 @@
 use Prim.Native.Nat.{ℕ}
-use mathlib.Core.Path.{_≡_, refl, sym, _∙_}
+use mathlib.Core.Path.{_≡_, refl, sym, ap, _∙_}
 use mathlib.Core.Bool.{true}
 use mathlib.Core.List.{[], _∷_}
 use types.Run.{OneOf, miss}
@@ -7,37 +7,45 @@ use denote.Enum.Declared.{tagOf}
 use mir.Facts.{toZ-ofZ}
 use Rattle.graph.specs.State.{State}
 use Rattle.graph.specs.Layout.{stateOf}
-use Rattle.update_length.specs.declared.Answer.{Answer}
-use Rattle.update_length.specs.declared.Answer.the-variants.{NonZeroGrow, Unlimited, Conflicting, TouchingVirtual, BlossomNeedExpand, VertexShrinkStop, VertexShrinkStopPeer, Done, Node, Prepared, Vertex, Refused}
-use Rattle.update_length.specs.Answer.{says}
+use Rattle.answers.specs.declared.Answer.{Answer}
+use Rattle.answers.specs.declared.Answer.the-variants.{Length, Done, Node, Prepared, Vertex, Refused}
+use Rattle.answers.specs.declared.MaxUpdateLength.{MaxUpdateLength}
+use Rattle.answers.specs.declared.MaxUpdateLength.the-variants.{NonZeroGrow, Unlimited, Conflicting, TouchingVirtual, BlossomNeedExpand, VertexShrinkStop, VertexShrinkStopPeer}
+use Rattle.answers.specs.Answer.{says}
+use Rattle.answers.proofs.Answer as Kinds
+use Rattle.answers.proofs.MaxUpdateLength as LengthKinds
 use Rattle.calls.specs.Calls.{follow}
 use Rattle.calls.specs.laws.Advance.{length-below, advance-other, advance-free}
 use borrow.Author.Needs.{needs, sfits-of}
-use Rattle.update_length.proofs.Answer as Kinds
 use Rattle.calls.proofs.advance.advance_by.Statement.{statement}
 use Rattle.calls.proofs.advance.advance_by.Tie as tie
 
--- an answer of another case is handed back
-others : (c : State) (n x : ℕ) (a : Answer) → OneOf (1 ∷ 2 ∷ 3 ∷ 4 ∷ 5 ∷ 6 ∷ 7 ∷ 8 ∷ 9 ∷ 10 ∷ 11 ∷ []) (tagOf Kinds.the-type a) → follow c n x a ≡ says a c
+-- an answer that is no length is handed back
+others : (c : State) (n x : ℕ) (a : Answer) → OneOf (1 ∷ 2 ∷ 3 ∷ 4 ∷ 5 ∷ []) (tagOf Kinds.the-type a) → follow c n x a ≡ says a c
 unfolding follow
-others c n x (NonZeroGrow l e) h = absurd (miss (1 ∷ 2 ∷ 3 ∷ 4 ∷ 5 ∷ 6 ∷ 7 ∷ 8 ∷ 9 ∷ 10 ∷ 11 ∷ []) 0 tt h)
-others c n x (Unlimited e) h = refl
-others c n x (Conflicting p g m k) h = refl
-others c n x (TouchingVirtual m g v) h = refl
-others c n x (BlossomNeedExpand m) h = refl
-others c n x (VertexShrinkStop m) h = refl
-others c n x (VertexShrinkStopPeer m p g) h = refl
+others c n x (Length m) h = absurd (miss (1 ∷ 2 ∷ 3 ∷ 4 ∷ 5 ∷ []) 0 tt h)
 others c n x Done h = refl
 others c n x (Node m) h = refl
 others c n x (Prepared k) h = refl
 others c n x (Vertex v) h = refl
 others c n x (Refused k) h = refl
 
+-- and so is a length answer that gives no limit
+no-limit : (c : State) (n x : ℕ) (m : MaxUpdateLength) → OneOf (1 ∷ 2 ∷ 3 ∷ 4 ∷ 5 ∷ 6 ∷ []) (tagOf LengthKinds.the-type m)
+    → follow c n x (Length m) ≡ says (Length m) c
+unfolding follow
+no-limit c n x (NonZeroGrow l e) h = absurd (miss (1 ∷ 2 ∷ 3 ∷ 4 ∷ 5 ∷ 6 ∷ []) 0 tt h)
+no-limit c n x (Unlimited e) h = refl
+no-limit c n x (Conflicting p g m k) h = refl
+no-limit c n x (TouchingVirtual m g v) h = refl
+no-limit c n x (BlossomNeedExpand m) h = refl
+no-limit c n x (VertexShrinkStop m) h = refl
+no-limit c n x (VertexShrinkStopPeer m p g) h = refl
+
 direction-requires : tie.Need-direction-requires
 direction-requires c κs = search needs
 
-length-prepared-requires :
-    tie.Need-length-prepared-requires
+length-prepared-requires : tie.Need-length-prepared-requires
 length-prepared-requires c κs = search needs
 
 enum-known-answer : tie.Need-enum-known-answer
@@ -60,17 +68,8 @@ returns c =
       p .1,
     )
 
-grow-along-requires : tie.Need-grow-along-requires
-grow-along-requires c κs =
-    let r = c .before .before .before .before .before .before .before .length-prepared in
-    let a = c .before .before .before .answer .given in
-    let s = c .before .before .before .before .before .before .before .before .before .before .before in
-    let d = c .before .before .before .before .before .before .before .before .before .before .direction in (
-      r .ensures .2,
-      d .ensures .1,
-      λ e. length-below (stateOf (s .args .b .now)) (s .args .n) (d .result) true (sym (a .1) ∙ r .ensures .0 .answer)
-          (rw (toZ-ofZ (sfits-of ((rw (a .1) at (r .ok)) .1 .1 .1 .1 .0 .1))) at e),
-    )
+enum-known-found : tie.Need-enum-known-found
+enum-known-found c = search needs
 
 same-length-3 : tie.Need-same-length-3
 same-length-3 c = search needs
@@ -80,14 +79,45 @@ same-length-4 c = search needs
 
 returns-2 : tie.Need-returns-2
 returns-2 c =
-    let f = c .before .before .before in
-    let r = f .before .before .before .before .before .before .before .length-prepared in
-    let a = f .before .before .before .answer .given in
-    let s = f .before .before .before .before .before .before .before .before .before .before .before in
-    let d = f .before .before .before .before .before .before .before .before .before .before .direction in
+    let s = c .before .before .before .before .before .before .before .before .before .before in
+    let p = c .before .before .before .before .before .before .length-prepared .ensures in
+    let a = c .before .before .answer .given in
+    let d = c .before .before .before .before .before .before .before .before .before .direction .ensures .0 in (
+      advance-other (s .args .n) (s .args .x) (rw (d, a .1) at (p .0)) (no-limit _ (s .args .n) (s .args .x) (a .0 .0) (c .match2 .keys2)),
+      p .1,
+    )
+
+grow-along-requires : tie.Need-grow-along-requires
+grow-along-requires c κs =
+    let r = c .before .before .before .before .before .before .before .before .before .before .length-prepared in
+    let a = c .before .before .before .before .before .before .answer .given in
+    let f = c .before .before .before .found .given in
+    let s = c .before .before .before .before .before .before .before .before .before .before .before .before .before .before in
+    let d = c .before .before .before .before .before .before .before .before .before .before .before .before .before .direction in (
+      r .ensures .2,
+      d .ensures .1,
+      λ e. length-below (stateOf (s .args .b .now)) (s .args .n) (d .result) true (sym (a .1 ∙ ap Length (f .1)) ∙ r .ensures .0 .answer)
+          (rw (toZ-ofZ (sfits-of ((rw (a .1 ∙ ap Length (f .1)) at (r .ok)) .1 .1 .1 .1 .0 .1 .1 .1 .1 .0 .1))) at e),
+    )
+
+same-length-5 : tie.Need-same-length-5
+same-length-5 c = search needs
+
+same-length-6 : tie.Need-same-length-6
+same-length-6 c = search needs
+
+returns-3 : tie.Need-returns-3
+returns-3 c =
+    let q = c .before .before .before in
+    let r = q .before .before .before .before .before .before .before .before .before .before .length-prepared in
+    let a = q .before .before .before .before .before .before .answer .given in
+    let f = q .before .before .before .found .given in
+    let e = a .1 ∙ ap Length (f .1) in
+    let s = q .before .before .before .before .before .before .before .before .before .before .before .before .before .before in
+    let d = q .before .before .before .before .before .before .before .before .before .before .before .before .before .direction in
     let g = c .before .before .grow-along .ensures in (
-      advance-free (s .args .n) (s .args .x) (rw (d .ensures .0) at (r .ensures .0)) (a .1)
-          (rw (d .ensures .0, toZ-ofZ (sfits-of ((rw (a .1) at (r .ok)) .1 .1 .1 .1 .0 .1))) at (g .0)),
+      advance-free (s .args .n) (s .args .x) (rw (d .ensures .0) at (r .ensures .0)) e
+          (rw (d .ensures .0, toZ-ofZ (sfits-of ((rw e at (r .ok)) .1 .1 .1 .1 .0 .1 .1 .1 .1 .0 .1))) at (g .0)),
       g .1 ∙ r .ensures .1,
     )
 
@@ -101,7 +131,11 @@ advance-by-spec =
     same-length
     same-length-2
     returns
-    grow-along-requires
+    enum-known-found
     same-length-3
     same-length-4
-    returns-2)
+    returns-2
+    grow-along-requires
+    same-length-5
+    same-length-6
+    returns-3)

@@ -15,16 +15,17 @@ use Rattle.graph.specs.laws.Members.{by-test}
 use Rattle.graph.specs.Open.{Edge, blankState, opened, withOriginals, cleared, openRefusal}
 use Rattle.graph.specs.laws.Opened.{getD-zeros}
 use Rattle.pass.specs.laws.Passes.{Passed}
-use Rattle.update_length.specs.declared.Answer.{Answer}
-use Rattle.update_length.specs.declared.Answer.the-variants.{NonZeroGrow, Unlimited, Conflicting, TouchingVirtual, BlossomNeedExpand, VertexShrinkStop, VertexShrinkStopPeer, Done, Node, Prepared, Refused, Vertex}
-use Rattle.update_length.specs.Answer.{Reply, says}
+use Rattle.answers.specs.declared.Answer.{Answer}
+use Rattle.answers.specs.declared.Answer.the-variants.{Done}
+use Rattle.answers.specs.Answer.{Reply, says}
+use Rattle.calls.specs.laws.Follow.{follow-cases}
 use Rattle.calls.specs.Refuse.{nodeRefusal, storeShort, unless}
 use Rattle.pass.specs.Prepare.{prepareNode}
 use Rattle.pass.specs.laws.Prepare.{prepare-passed}
 use Rattle.growth.specs.Growth.{growCheck, growApply}
 use Rattle.calls.specs.Insert.{prepareStep, insertDefect, defectPut, defectRefusal, insertBlossom, blossomPut, blossomRefusal}
 use Rattle.calls.specs.Remove.{removeRefusal, openPrepared, removeBlossom}
-use Rattle.calls.specs.Calls.{setGrowState, prepareDualNodeGrowth, maxUpdateLength, readied, growPrepared, growToward, growDualNode, signedFor, follow, advanceBy, toward, advance, representativeVertex, clear, Call, InsertDefect, InsertBlossom, SetGrowState, Prepare, MaxUpdateLength, Grow, ReadTable, Advance, Contacts, RepresentativeVertex, Clear, RenewActiveList, PrepareAll, GroupLength, Round, RemoveBlossom, LoadEdgeModifier, response, respond}
+use Rattle.calls.specs.Calls.{setGrowState, prepareDualNodeGrowth, maxUpdateLength, readied, growPrepared, growToward, growDualNode, signedFor, follow, advanceBy, toward, advance, representativeVertex, clear, Call, InsertDefect, InsertBlossom, SetGrowState, Prepare, UpdateLength, Grow, ReadTable, Advance, Contacts, RepresentativeVertex, Clear, RenewActiveList, PrepareAll, GroupLength, Round, RemoveBlossom, LoadEdgeModifier, response, respond}
 use Rattle.calls.specs.Round.{renewActiveList, preparing, preparedAll, prepareAll, moving, movedAll, round, GroupReply, groupRefusal, groupLength}
 use Rattle.calls.specs.laws.Trial.{turn-keeps, tried-keeps}
 use Rattle.graph.specs.Active.{joinActive, activated, renewed}
@@ -147,19 +148,8 @@ length-past c g n d true =
     (λ e. prepare-past c g n d (node-accepted c n (ltb up d) (storeShort c (n ∷ []) 1) e))
 
 follow-past : {log : ℕ → State} (c : State) → PastInvariant log c → (n x : ℕ) (a : Answer) → PastInvariant log (follow c n x a .state)
-unfolding follow says
-follow-past c g n x (NonZeroGrow l e) = grow-past c g n (signedFor x l)
-follow-past c g n x (Unlimited e) = g
-follow-past c g n x (Conflicting p q m h) = g
-follow-past c g n x (TouchingVirtual m q v) = g
-follow-past c g n x (BlossomNeedExpand m) = g
-follow-past c g n x (VertexShrinkStop m) = g
-follow-past c g n x (VertexShrinkStopPeer m p q) = g
-follow-past c g n x Done = g
-follow-past c g n x (Node m) = g
-follow-past c g n x (Prepared k) = g
-follow-past c g n x (Refused k) = g
-follow-past c g n x (Vertex v) = g
+unfolding says
+follow-past {log} c g n x a = follow-cases (λ (r : Reply). PastInvariant log (r .state)) c n x a (λ l e. grow-past c g n (signedFor x l)) g
 
 advance-past : {log : ℕ → State} (c : State) → PastInvariant log c → (n : ℕ) → PastInvariant log (advance c n .state)
 unfolding advance advanceBy says
@@ -260,7 +250,7 @@ call-past c s (InsertBlossom x circle) = insert-past c s x circle
 call-past c s (SetGrowState n x) =
     unless-past (nodeRefusal c n (ltb shrinking x) false) c _ s (λ e. set-past c s n x (node-accepted c n (ltb shrinking x) false e))
 call-past c s (Prepare n d) = prepare-call-past c s n d
-call-past c s (MaxUpdateLength n d first) = length-past c s n d first
+call-past c s (UpdateLength n d first) = length-past c s n d first
 call-past c s (Grow n l) = grow-past c s n l
 call-past c s ReadTable = s
 call-past c s (Advance n) = advance-past c s n

@@ -10,12 +10,12 @@ use Rattle.graph.specs.Basic.{any, member}
 use Rattle.graph.specs.State.{State, removed, nodeCount, classOf, shrinking, up}
 use Rattle.graph.specs.Sound.{isRemoved}
 use Rattle.graph.specs.laws.Members.{by-test, clash, or-right, none-member}
-use Rattle.update_length.specs.declared.Answer.the-variants.{Refused}
-use Rattle.update_length.specs.Answer.{Reply, says}
+use Rattle.answers.specs.declared.Answer.the-variants.{Refused}
+use Rattle.answers.specs.Answer.{Reply, says}
 use Rattle.calls.specs.Refuse.{badNode, storeShort, nodeRefusal, unless}
 use Rattle.calls.specs.Insert.{insertBlossom, blossomRefusal}
 use Rattle.calls.specs.Remove.{removeRefusal, removeBlossom}
-use Rattle.calls.specs.Calls.{setGrowState, prepareDualNodeGrowth, maxUpdateLength, growToward, growDualNode, advance, representativeVertex, Call, InsertDefect, InsertBlossom, SetGrowState, Prepare, MaxUpdateLength, Grow, ReadTable, Advance, Contacts, RepresentativeVertex, Clear, RenewActiveList, PrepareAll, GroupLength, Round, RemoveBlossom, LoadEdgeModifier, response, respond}
+use Rattle.calls.specs.Calls.{setGrowState, prepareDualNodeGrowth, maxUpdateLength, growToward, growDualNode, advance, representativeVertex, Call, InsertDefect, InsertBlossom, SetGrowState, Prepare, UpdateLength, Grow, ReadTable, Advance, Contacts, RepresentativeVertex, Clear, RenewActiveList, PrepareAll, GroupLength, Round, RemoveBlossom, LoadEdgeModifier, response, respond}
 use Rattle.reachable.specs.Opening.{names}
 
 module _ (c : State) (n : ℕ) (is-removed : classOf c n ≡ removed) where
@@ -52,7 +52,7 @@ module _ (c : State) (n : ℕ) (is-removed : classOf c n ≡ removed) where
   named-refused (InsertBlossom x circle) h = ap response (three (blossomRefusal c x circle) _ (circle-refused x circle h))
   named-refused (SetGrowState m x) h = rw (eqb-true m n h) (ap response (three (nodeRefusal c n (ltb shrinking x) false) _ (node-refused _ false)))
   named-refused (Prepare m d) h = rw (eqb-true m n h) (ap response (three (nodeRefusal c n (ltb up d) (storeShort c (n ∷ []) 1)) _ (node-refused _ _)))
-  named-refused (MaxUpdateLength m d first) h =
+  named-refused (UpdateLength m d first) h =
       rw (eqb-true m n h) (ap response (three (nodeRefusal c n (ltb up d) (first && storeShort c (n ∷ []) 1)) _ (node-refused _ _)))
   named-refused (Grow m l) h = rw (eqb-true m n h) (ap response (grow-refused l))
   named-refused (Advance m) h = rw (eqb-true m n h) (ap response (three (nodeRefusal c n false false) _ (node-refused false false)))

@@ -1,5 +1,5 @@
-use Rattle.calls.specs.Round.{refusalOf}
 use mathlib.Core.Path.{sym, ap}
+use Rattle.answers.specs.Answer.{refusalOf}
 use borrow.Author.Needs.{needs}
 use Rattle.round.proofs.trial.refusal_of.Statement.{statement}
 use Rattle.round.proofs.trial.refusal_of.Tie as tie
@@ -18,24 +18,6 @@ enum-told-4 c = search needs
 
 enum-told-5 : tie.Need-enum-told-5
 enum-told-5 c = search needs
-
-enum-told-6 : tie.Need-enum-told-6
-enum-told-6 c = search needs
-
-enum-told-7 : tie.Need-enum-told-7
-enum-told-7 c = search needs
-
-enum-told-8 : tie.Need-enum-told-8
-enum-told-8 c = search needs
-
-enum-told-9 : tie.Need-enum-told-9
-enum-told-9 c = search needs
-
-enum-told-10 : tie.Need-enum-told-10
-enum-told-10 c = search needs
-
-enum-told-11 : tie.Need-enum-told-11
-enum-told-11 c = search needs
 
 enum-known-a : tie.Need-enum-known-a
 enum-known-a c = search needs
@@ -62,31 +44,7 @@ returns-5 c = ap refusalOf (sym (c .enum-told5 .given .1))
 
 returns-6 : tie.Need-returns-6
 unfolding refusalOf
-returns-6 c = ap refusalOf (sym (c .enum-told6 .given .1))
-
-returns-7 : tie.Need-returns-7
-unfolding refusalOf
-returns-7 c = ap refusalOf (sym (c .enum-told7 .given .1))
-
-returns-8 : tie.Need-returns-8
-unfolding refusalOf
-returns-8 c = ap refusalOf (sym (c .enum-told8 .given .1))
-
-returns-9 : tie.Need-returns-9
-unfolding refusalOf
-returns-9 c = ap refusalOf (sym (c .enum-told9 .given .1))
-
-returns-10 : tie.Need-returns-10
-unfolding refusalOf
-returns-10 c = ap refusalOf (sym (c .enum-told10 .given .1))
-
-returns-11 : tie.Need-returns-11
-unfolding refusalOf
-returns-11 c = ap refusalOf (sym (c .enum-told11 .given .1))
-
-returns-12 : tie.Need-returns-12
-unfolding refusalOf
-returns-12 c = ap refusalOf (sym (c .before .a .given .1))
+returns-6 c = ap refusalOf (sym (c .before .a .given .1))
 
 pub refusal-of-spec : {M : Type 1} → statement M
 refusal-of-spec =
@@ -97,22 +55,10 @@ refusal-of-spec =
     enum-told-3
     enum-told-4
     enum-told-5
-    enum-told-6
-    enum-told-7
-    enum-told-8
-    enum-told-9
-    enum-told-10
-    enum-told-11
     enum-known-a
     returns
     returns-2
     returns-3
     returns-4
     returns-5
-    returns-6
-    returns-7
-    returns-8
-    returns-9
-    returns-10
-    returns-11
-    returns-12)
+    returns-6)

@@ -1,6 +1,7 @@
 use native.Mathlib.Omega.{arith}
-use mathlib.Core.Path.{sym, _∙_}
+use mathlib.Core.Path.{sym, _∙_, ap}
 use borrow.Author.Tests.{eq-eqb, ne-eqb}
+use Rattle.answers.specs.declared.Answer.the-variants.{Length}
 use Rattle.update_length.specs.Scan.{scan}
 use Rattle.update_length.specs.inner.Length.{scanOf, withinIn}
 use Rattle.update_length.specs.laws.Length.{length-above}
@@ -29,7 +30,7 @@ returns-2 c =
       ne-eqb _ _ (c .before .before .before .if1 .left),
       eq-eqb _ _ (sym (c .before .before .dual .ensures .0) ∙ c .before .if2 .taken),
     )
-    (c .stop-answer .ensures)
+    (ap Length (c .stop-answer .ensures))
 
 shrink-limit-requires : tie.Need-shrink-limit-requires
 shrink-limit-requires c κs = search needs

@@ -1,3 +1,0 @@
--- An answer as numbers, and laws about it.
-pub mod Numbers
-pub mod laws

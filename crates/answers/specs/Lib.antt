@@ -1,0 +1,5 @@
+-- What a call answers, an answer as numbers, and laws about them.
+pub mod Answer
+pub mod Numbers
+pub mod Theorems
+pub mod laws

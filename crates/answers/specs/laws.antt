@@ -1,0 +1,4 @@
+-- Laws about answers.
+pub mod Answer
+pub mod Numbers
+pub mod Decoded
