@@ -35,15 +35,16 @@ def answer(a):
     kind, values = a[0], [max(x, 0) for x in a[1:]]
     SEEN[f'refused {a[1]}' if kind == 'refused' else kind] += 1
     if kind == 'free':
-        return f'(Unlimited {truth(a[2])})' if a[3] else f'(NonZeroGrow {whole(a[1])} {truth(a[2])})'
+        return f'(Length (Unlimited {truth(a[2])}))' if a[3] else f'(Length (NonZeroGrow {whole(a[1])} {truth(a[2])}))'
     if kind == 'virtual':
         values = values[:3]
     if kind == 'stop' and len(values) > 1:
         kind = 'stop peer'
-    name = {'conflict': 'Conflicting', 'virtual': 'TouchingVirtual', 'expand': 'BlossomNeedExpand', 'stop': 'VertexShrinkStop',
-            'stop peer': 'VertexShrinkStopPeer', 'done': 'Done', 'node': 'Node', 'prepared': 'Prepared', 'vertex': 'Vertex',
-            'refused': 'Refused'}[kind]
-    return '(' + ' '.join([name] + [str(v) for v in values]) + ')'
+    lengths = {'conflict': 'Conflicting', 'virtual': 'TouchingVirtual', 'expand': 'BlossomNeedExpand',
+               'stop': 'VertexShrinkStop', 'stop peer': 'VertexShrinkStopPeer'}
+    others = {'done': 'Done', 'node': 'Node', 'prepared': 'Prepared', 'vertex': 'Vertex', 'refused': 'Refused'}
+    said = '(' + ' '.join([{**lengths, **others}[kind]] + [str(v) for v in values]) + ')'
+    return f'(Length {said})' if kind in lengths else said
 
 
 def grouped(a, listed):
@@ -90,7 +91,7 @@ def line(st, c):
         'erase': (M.load_edge_modifier, lambda pairs: f"LoadEdgeModifier {items(f'takes {e} {w}' for e, w in pairs)}"),
         'state': (M.set_state, lambda n, x: f'SetGrowState {n} {x}'),
         'prepare': (M.prepare, lambda n, d: f'Prepare {n} {d}'),
-        'length': (M.length, lambda n, d, p: f'MaxUpdateLength {n} {d} {truth(p)}'),
+        'length': (M.length, lambda n, d, p: f'UpdateLength {n} {d} {truth(p)}'),
         'grow': (M.grow, lambda n, l: f'Grow {n} {whole(l)}'),
         'advance': (M.advance, lambda n: f'Advance {n}'),
         'representative': (M.representative, lambda n: f'RepresentativeVertex {n}'),
@@ -208,7 +209,8 @@ use Rattle.graph.specs.Basic.{{below}}
 use Rattle.graph.specs.State.{{State, Overgrown, NodeClass, defectVertex, blossom, removed}}
 use Rattle.graph.specs.Open.{{opened}}
 use Rattle.graph.specs.Sound.{{stateSound}}
-use Rattle.answers.specs.declared.Answer.the-variants.{{NonZeroGrow, Unlimited, Conflicting, TouchingVirtual, BlossomNeedExpand, VertexShrinkStop, VertexShrinkStopPeer, Done, Node, Prepared, Vertex, Refused}}
+use Rattle.answers.specs.declared.Answer.the-variants.{{Length, Done, Node, Prepared, Vertex, Refused}}
+use Rattle.answers.specs.declared.MaxUpdateLength.the-variants.{{NonZeroGrow, Unlimited, Conflicting, TouchingVirtual, BlossomNeedExpand, VertexShrinkStop, VertexShrinkStopPeer}}
 use Rattle.calls.specs.Calls.{{InsertDefect, InsertBlossom, SetGrowState, Prepare, UpdateLength, Grow, ReadTable, Advance, Contacts, RepresentativeVertex, Clear, RenewActiveList, PrepareAll, GroupLength, Round, RemoveBlossom, LoadEdgeModifier, answered, growths, touching, grouped, respond}}
 use Rattle.calls.specs.declared.group.GroupMaxUpdateLength.the-variants.{{NonZeroGrow as groupFree, Unlimited as groupUnlimited, Conflicts as groupConflicts, Refused as groupRefused}}
 use Rattle.calls.specs.Insert.{{occupied}}
@@ -369,7 +371,7 @@ def main():
     os.makedirs(specs, exist_ok=True)
     os.makedirs(os.path.join(top, 'crates', 'trial', 'src'), exist_ok=True)
     open(os.path.join(top, 'crates', 'trial', 'src', 'lib.rt'), 'w').write('// Tests only.\n')
-    deps = 'graph open_graph pass update_length growth calls records dual_module_node'
+    deps = 'graph open_graph pass answers update_length growth calls records dual_module_node'
     open(os.path.join(top, 'crates.txt'), 'a').write(f'trial: {deps}\n')
     open(os.path.join(specs, 'Lib.antt'), 'w').write('-- Tests.\n' + ''.join(f'pub mod {m}\n' for m in modules))
     for m, text in modules.items(): open(os.path.join(specs, m + '.antt'), 'w').write(text)

@@ -8,15 +8,17 @@ import textwrap
 MODULES = {
     'graph': ['Basic', 'State', 'Open', 'Sound', 'Active', 'Node'],
     'pass': ['Work', 'Grow', 'Shrink', 'Prepare'],
-    'update_length': ['Answer', 'Scan'],
+    'answers': ['Answer', 'Numbers'],
+    'update_length': ['Scan'],
     'growth': ['Growth'],
-    'calls': ['Refuse', 'Insert', 'Occupied', 'Each', 'Round', 'Remove', 'Erasures', 'Calls'],
+    'calls': ['Refuse', 'Insert', 'Occupied', 'Each', 'Contacts', 'Round', 'Remove', 'Erasures', 'Calls'],
     'records': ['Text', 'Record', 'Lines', 'Run'],
 }
 BELOW = {
     'graph': [],
     'pass': ['graph'],
-    'update_length': [],
+    'answers': [],
+    'update_length': ['answers'],
     'growth': [],
     'calls': ['pass', 'update_length', 'growth'],
     'records': ['calls'],
