@@ -109,68 +109,67 @@ fn put_sizes(b: &mut [i64], n: usize, c: usize, k: usize, o: usize, y: usize)
     rows::put_node(b, rows::OVERGROWN_LENGTH, n, o);
 }
 
-// ---- the lists of a node, which start at a and have y words, the first x of them boundary
+// ---- the lists of a node
 
-// Counted from a, the m words at x move to k, and the `rest` words behind the lists, at y, move to z: first what the other would overwrite.
-fn make_room(b: &mut [i64], a: usize, x: usize, y: usize, rest: usize, k: usize, m: usize, z: usize)
-    requires { ⌜ Laid (now b) × (x + m ≤ y) × (k + m ≤ z) × (a + y + rest ≤ stateOf (now b) .storeLimit)
-        × (a + z + rest ≤ stateOf (now b) .storeLimit) × (stateOf (now b) .storeLimit ≤ 65536) ⌝ }
-    ensures { λ r. ⌜ Moved (now (b .entry)) (now (b .exit)) a x y rest k m z ⌝ }
+// The lists of a node as they stand in the store.
+struct Place {
+    start: usize, // where they start
+    boundary: usize, // how many words the boundary has
+    length: usize, // how many words both have
+    rest: usize, // how many words of other lists stand behind them
+}
+
+// What they become.
+struct Change {
+    boundary: usize, // how many words of the scratch, from 0 on, are the boundary
+    stays: usize, // how many words of the stack, the lowest, stay
+    from: usize, // where in the scratch the words of the stack that come on top start
+    pushed: usize, // how many these are
+}
+
+// From the start on, the lowest words of the stack move to `to`, and what stands behind the lists to `end`: first what the other would overwrite.
+fn make_room(b: &mut [i64], p: Place, to: usize, stays: usize, end: usize)
+    requires { ⌜ Laid (now b) × (p .boundary + stays ≤ p .length) × (to + stays ≤ end)
+        × (p .start + p .length + p .rest ≤ stateOf (now b) .storeLimit)
+        × (p .start + end + p .rest ≤ stateOf (now b) .storeLimit) × (stateOf (now b) .storeLimit ≤ 65536) ⌝ }
+    ensures { λ r. ⌜ Moved (now (b .entry)) (now (b .exit)) (p .start) (p .boundary) (p .length) (p .rest) to stays end ⌝ }
 {
-    if y < z {
-        move_words(b, a + y, a + z, rest);
-        move_words(b, a + x, a + k, m);
+    if p.length < end {
+        move_words(b, p.start + p.length, p.start + end, p.rest);
+        move_words(b, p.start + p.boundary, p.start + to, stays);
     } else {
-        move_words(b, a + x, a + k, m);
-        move_words(b, a + y, a + z, rest);
+        move_words(b, p.start + p.boundary, p.start + to, stays);
+        move_words(b, p.start + p.length, p.start + end, p.rest);
     }
 }
 
-// The lists become k words of t from 0 on, the m lowest words of the stack, and o words of t from q on.
-fn put_lists(
-    b: &mut [i64],
-    t: &[i64],
-    a: usize,
-    x: usize,
-    y: usize,
-    rest: usize,
-    k: usize,
-    m: usize,
-    q: usize,
-    o: usize,
-)
-    requires { ⌜ Laid (now b) × (x + m ≤ y) × (a + y + rest ≤ stateOf (now b) .storeLimit)
-        × (a + (k + (m + o)) + rest ≤ stateOf (now b) .storeLimit) × (stateOf (now b) .storeLimit ≤ 65536)
-        × (k ≤ length (now t)) × (q + o ≤ length (now t)) ⌝ }
-    ensures { λ r. ⌜ Stored (now (b .entry)) (now (b .exit)) (now (t .entry)) a x y rest k m q o ⌝ }
+// The lists become those of the change.
+fn put_lists(b: &mut [i64], t: &[i64], p: Place, c: Change)
+    requires { ⌜ Laid (now b) × (p .boundary + c .stays ≤ p .length) × (p .start + p .length + p .rest ≤ stateOf (now b) .storeLimit)
+        × (p .start + (c .boundary + (c .stays + c .pushed)) + p .rest ≤ stateOf (now b) .storeLimit)
+        × (stateOf (now b) .storeLimit ≤ 65536) × (c .boundary ≤ length (now t)) × (c .from + c .pushed ≤ length (now t)) ⌝ }
+    ensures { λ r.
+        ⌜ Stored (now (b .entry)) (now (b .exit)) (now (t .entry)) (p .start) (p .boundary) (p .length) (p .rest)
+        (c .boundary) (c .stays) (c .from) (c .pushed) ⌝ }
 {
-    make_room(b, a, x, y, rest, k, m, k + (m + o));
-    fill(b, t, 0, a, k);
-    fill(b, t, q, a + k + m, o);
+    make_room(b, p, c.boundary, c.stays, c.boundary + (c.stays + c.pushed));
+    fill(b, t, 0, p.start, c.boundary);
+    fill(b, t, c.from, p.start + c.boundary + c.stays, c.pushed);
 }
 
 // The lists of node n are replaced, where all of it is known to fit.
-fn replace_at(
-    b: &mut [i64],
-    n: usize,
-    t: &[i64],
-    k: usize,
-    m: usize,
-    q: usize,
-    o: usize,
-    a: usize,
-    x: usize,
-    y: usize,
-    rest: usize,
-)
-    requires { ⌜ Formed (now b) × Replaceable (now b) n a x y rest k m o × (k ≤ length (now t)) × (q + o ≤ length (now t)) ⌝ }
+fn replace_at(b: &mut [i64], n: usize, t: &[i64], p: Place, c: Change)
+    requires { ⌜ Formed (now b)
+        × Replaceable (now b) n (p .start) (p .boundary) (p .length) (p .rest) (c .boundary) (c .stays) (c .pushed)
+        × (c .boundary ≤ length (now t)) × (c .from + c .pushed ≤ length (now t)) ⌝ }
     ensures { λ r.
         ⌜ Becomes (now (b .entry)) (now (b .exit))
-        (withLists (stateOf (now (b .entry))) n (numbersAt (now (t .entry)) 0 k) m (numbersAt (now (t .entry)) q o)) ⌝ }
+        (withLists (stateOf (now (b .entry))) n (numbersAt (now (t .entry)) 0 (c .boundary)) (c .stays)
+        (numbersAt (now (t .entry)) (c .from) (c .pushed))) ⌝ }
 {
-    let c = rows::node_count(b);
-    put_lists(b, t, a, x, y, rest, k, m, q, o);
-    put_sizes(b, n, c, k, m + o, y);
+    let count = rows::node_count(b);
+    put_lists(b, t, p, c);
+    put_sizes(b, n, count, c.boundary, c.stays + c.pushed, p.length);
 }
 
 // The boundary of node n becomes the k numbers that stand in t from 0 on; of its overgrown stack the lowest m entries stay,
@@ -183,9 +182,21 @@ pub fn replace_lists(b: &mut [i64], n: usize, t: &[i64], k: usize, m: usize, q: 
         ⌜ Becomes (now (b .entry)) (now (b .exit))
         (withLists (stateOf (now (b .entry))) n (numbersAt (now (t .entry)) 0 k) m (numbersAt (now (t .entry)) q o)) ⌝ }
 {
-    let a = lists::start(b, n);
-    let x = lists::boundary_len(b, n);
-    let y = x + lists::overgrown_len(b, n);
-    let rest = lists::entry_count(b) - (a + y);
-    replace_at(b, n, t, k, m, q, o, a, x, y, rest);
+    let start = lists::start(b, n);
+    let boundary = lists::boundary_len(b, n);
+    let both = boundary + lists::overgrown_len(b, n);
+    let rest = lists::entry_count(b) - (start + both);
+    let p = Place {
+        start: start,
+        boundary: boundary,
+        length: both,
+        rest: rest,
+    };
+    let c = Change {
+        boundary: k,
+        stays: m,
+        from: q,
+        pushed: o,
+    };
+    replace_at(b, n, t, p, c);
 }

@@ -19,9 +19,9 @@ use graph::sides;
 
 // The Grow peers met at a defect's vertex.
 pub enum Peers {
-    Nobody,
+    NoPeer,
     Peer(usize, usize), // a node and its grandson
-    Clash(usize, usize, usize, usize), // two of them
+    TwoPeers(usize, usize, usize, usize), // two of them
 }
 
 // Whether side s has a full edge whose far side is held by a Grow node.
@@ -48,13 +48,13 @@ fn meet(r: Peers, p: usize, g: usize) -> Peers
     ensures { λ q. ⌜ peersOf q ≡ meet (peersOf r) p g ⌝ }
 {
     match r {
-        Peers::Nobody => Peers::Peer(p, g),
+        Peers::NoPeer => Peers::Peer(p, g),
         Peers::Peer(q, h) => if p == q {
             Peers::Peer(q, h)
         } else {
-            Peers::Clash(q, h, p, g)
+            Peers::TwoPeers(q, h, p, g)
         },
-        Peers::Clash(a, x, c, d) => Peers::Clash(a, x, c, d),
+        Peers::TwoPeers(a, x, c, d) => Peers::TwoPeers(a, x, c, d),
     }
 }
 
@@ -79,7 +79,7 @@ fn peers_at(b: &[i64], v: usize) -> Peers
     ensures { λ r. ⌜ peersOf r ≡ fold (stopStep (stateOf (now (b .entry)))) noPeer (sidesAt (stateOf (now (b .entry))) v) ⌝ }
 {
     let l = sides::sides_len(b, v);
-    let mut r = Peers::Nobody;
+    let mut r = Peers::NoPeer;
     let mut i = 0;
     while i < l {
         let s = sides::vertex_side(b, v, i);
@@ -94,9 +94,9 @@ fn stop_with(n: usize, r: Peers) -> MaxUpdateLength
     ensures { λ a. ⌜ a ≡ stopWith n (peersOf r) ⌝ }
 {
     match r {
-        Peers::Nobody => MaxUpdateLength::VertexShrinkStop(n),
+        Peers::NoPeer => MaxUpdateLength::VertexShrinkStop(n),
         Peers::Peer(p, g) => MaxUpdateLength::VertexShrinkStopPeer(n, p, g),
-        Peers::Clash(q, h, p, g) => MaxUpdateLength::Conflicting(q, h, p, g),
+        Peers::TwoPeers(q, h, p, g) => MaxUpdateLength::Conflicting(q, h, p, g),
     }
 }
 

@@ -1,6 +1,6 @@
 use native.Mathlib.Omega.{arith}
 use Rattle.calls.specs.Insert.{joinStep}
-use Rattle.blossom.specs.laws.Blossom.{joined-seated}
+use Rattle.blossom.specs.laws.Blossom.{joined-member-stays}
 use borrow.Author.Needs.{needs}
 use Rattle.blossom.proofs.join_member.Statement.{statement}
 use Rattle.blossom.proofs.join_member.Tie as tie
@@ -31,7 +31,7 @@ same-length-2 c = search needs
 returns : tie.Need-returns
 unfolding joinStep
 returns c =
-    joined-seated (c .before .before .before .before .before .before .before .before .before .before .before .args .m)
+    joined-member-stays (c .before .before .before .before .before .before .before .before .before .before .before .args .m)
     (c .before .before .before .before .before .before .before .before .join-sides .ensures)
     (c .before .before .before .before .set-grow-state .ensures) (c .before .set-parent .ensures)
 

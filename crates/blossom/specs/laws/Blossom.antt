@@ -300,11 +300,11 @@ module _ {b₀ b t₀ t : List ℤ} {m n k i q : ℕ} (p : SidesJoined b₀ b t�
 -- ---- the members
 
 -- member m becomes Stay and lies in blossom n
-pub joined-seated : {b₀ b b' b'' t : List ℤ} {n k : ℕ} {j : Joining} (m : ℕ) → JoinedIn b₀ b t n k j
+pub joined-member-stays : {b₀ b b' b'' t : List ℤ} {n k : ℕ} {j : Joining} (m : ℕ) → JoinedIn b₀ b t n k j
     → Becomes b b' (withGrowState (stateOf b) m 0) → Becomes b' b'' (withParent (stateOf b') m (n + 1))
     → JoinedIn b₀ b'' t n k (memberStays n m j)
 unfolding memberStays withParent withGrowState withNodes
-joined-seated {b₀} {b} {b'} {b''} {t} {n} {k} {j} m p x y = record {
+joined-member-stays {b₀} {b} {b'} {b''} {t} {n} {k} {j} m p x y = record {
   block = becomes-then (becomes-then (p .block) x) (rw (x .state, p .block .state) at y);
   holding = p .holding;
   count = p .count;

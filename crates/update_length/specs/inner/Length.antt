@@ -7,7 +7,7 @@ use Rattle.update_length.specs.declared.look.Look.the-variants.{Skip, Ro
 use Rattle.update_length.specs.declared.join.Scan as ScanType
 use Rattle.update_length.specs.declared.join.Scan.the-variants.{OpenEnded, Within, Over}
 use Rattle.update_length.specs.declared.stop.Peers as PeersType
-use Rattle.update_length.specs.declared.stop.Peers.the-variants.{Nobody, Peer, Clash}
+use Rattle.update_length.specs.declared.stop.Peers.the-variants.{NoPeer, Peer, TwoPeers}
 use Rattle.update_length.specs.Scan.{Look, skip, room, meets, Scan, open-ended, within, over, Peers, noPeer, peer, twoPeers}
 
 -- ---- lengths
@@ -66,6 +66,6 @@ pub record Knows (r : ScanType.Scan) (k : Scan) : Type 0 where
 
 -- what r stands for
 unfoldable pub peersOf : PeersType.Peers → Peers
-peersOf Nobody = noPeer
+peersOf NoPeer = noPeer
 peersOf (Peer p g) = peer p g
-peersOf (Clash q h p g) = twoPeers q h p g
+peersOf (TwoPeers q h p g) = twoPeers q h p g

@@ -17,7 +17,7 @@ use Rattle.update_length.specs.declared.look.Look.the-variants.{Skip, Ro
 use Rattle.update_length.specs.declared.join.Scan as ScanType
 use Rattle.update_length.specs.declared.join.Scan.the-variants.{OpenEnded, Within, Over}
 use Rattle.update_length.specs.declared.stop.Peers as PeersType
-use Rattle.update_length.specs.declared.stop.Peers.the-variants.{Nobody, Peer, Clash}
+use Rattle.update_length.specs.declared.stop.Peers.the-variants.{NoPeer, Peer, TwoPeers}
 use Rattle.update_length.specs.Scan.{half, isZero, lesser, within, withLook, scanAnswer, meet, stopWith}
 use Rattle.update_length.specs.inner.Length.{zeroLength, lengthEnd, lengthOf, lookOf, roomIn, scanOf, withinIn, Knows, peersOf}
 
@@ -164,7 +164,7 @@ within-is e h = rw e at h
 -- ---- the Grow peers met
 
 module _ {r : PeersType.Peers} (p g : ℕ) where
-  pub meet-first : r ≡ Nobody → peersOf (Peer p g) ≡ meet (peersOf r) p g
+  pub meet-first : r ≡ NoPeer → peersOf (Peer p g) ≡ meet (peersOf r) p g
   unfolding peersOf meet
   meet-first e = rw e
 
@@ -172,23 +172,23 @@ module _ {r : PeersType.Peers} (p g : ℕ) where
   unfolding peersOf meet
   meet-again {q} {h} e s = rw (e, eq-eqb p q s)
 
-  pub meet-second : {q h : ℕ} → r ≡ Peer q h → p ≢ q → peersOf (Clash q h p g) ≡ meet (peersOf r) p g
+  pub meet-second : {q h : ℕ} → r ≡ Peer q h → p ≢ q → peersOf (TwoPeers q h p g) ≡ meet (peersOf r) p g
   unfolding peersOf meet
   meet-second {q} {h} e s = rw (e, ne-eqb p q s)
 
-  pub meet-more : {q h x y : ℕ} → r ≡ Clash q h x y → peersOf (Clash q h x y) ≡ meet (peersOf r) p g
+  pub meet-more : {q h x y : ℕ} → r ≡ TwoPeers q h x y → peersOf (TwoPeers q h x y) ≡ meet (peersOf r) p g
   unfolding peersOf meet
   meet-more e = rw e
 
 module _ {r : PeersType.Peers} (n : ℕ) where
-  pub stop-nobody : r ≡ Nobody → VertexShrinkStop n ≡ stopWith n (peersOf r)
+  pub stop-no-peer : r ≡ NoPeer → VertexShrinkStop n ≡ stopWith n (peersOf r)
   unfolding peersOf stopWith
-  stop-nobody e = rw e
+  stop-no-peer e = rw e
 
   pub stop-peer : {p g : ℕ} → r ≡ Peer p g → VertexShrinkStopPeer n p g ≡ stopWith n (peersOf r)
   unfolding peersOf stopWith
   stop-peer e = rw e
 
-  pub stop-clash : {q h p g : ℕ} → r ≡ Clash q h p g → Conflicting q h p g ≡ stopWith n (peersOf r)
+  pub stop-two-peers : {q h p g : ℕ} → r ≡ TwoPeers q h p g → Conflicting q h p g ≡ stopWith n (peersOf r)
   unfolding peersOf stopWith
-  stop-clash e = rw e
+  stop-two-peers e = rw e

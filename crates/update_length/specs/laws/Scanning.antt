@@ -20,7 +20,7 @@ use Rattle.answers.specs.declared.MaxUpdateLength.{MaxUpdateLength}
 use Rattle.answers.specs.declared.MaxUpdateLength.the-variants.{BlossomNeedExpand}
 use Rattle.update_length.specs.declared.look.Look as LookType
 use Rattle.update_length.specs.declared.join.Scan as ScanType
-use Rattle.update_length.specs.declared.stop.Peers.the-variants.{Nobody}
+use Rattle.update_length.specs.declared.stop.Peers.the-variants.{NoPeer}
 use Rattle.update_length.specs.Scan.{Scan, over, Look, gapOf, look, withLook, scanStep, isEmpty, scanAnswer, scanBoundary, Peers, noPeer, stopStep, stopWith, stopAnswer, shrinkLimit}
 use Rattle.update_length.specs.inner.Length.{lengthEnd, lookOf, scanOf, withinIn, Shows, Knows, peersOf}
 
@@ -60,7 +60,7 @@ module _ (c : State) (n d : ℕ) (start : ScanType.Scan) (l : List ℤ) where
 -- ---- the peers met after the first i sides at vertex v
 
 module _ (c : State) (v : ℕ) where
-  pub peers-none : peersOf Nobody ≡ fold (stopStep c) noPeer (take 0 (sidesAt c v))
+  pub peers-none : peersOf NoPeer ≡ fold (stopStep c) noPeer (take 0 (sidesAt c v))
   unfolding peersOf
   peers-none = sym (fold-none (stopStep c) noPeer (sidesAt c v))
 

@@ -44,20 +44,18 @@ same-length c = search needs
 
 returns : tie.Need-returns
 returns c =
-    let s = c .before .before .before .before .before .before .before in
-    moved-up _ _ _ (s .args .a) (s .args .x) (s .args .y) (s .args .rest) (s .args .k) (s .args .m) (s .args .z) (s .pre .1)
-    (s .pre .2) (c .before .before .before .before .before .before .if1 .taken)
-    (c .before .before .before .before .move-words .ensures) (c .before .move-words2 .ensures)
+    let s = c .before .before .before .before .before .before .before .before .before .before .before .before in
+    moved-up _ _ _ (s .args .p .start) (s .args .p .boundary) (s .args .p .length) (s .args .p .rest) (s .args .to) (s .args .stays) (s .args .end)
+    (s .pre .1) (s .pre .2) (search needs) (search needs) (c .before .move-words2 .ensures)
 
 same-length-2 : tie.Need-same-length-2
 same-length-2 c = search needs
 
 returns-2 : tie.Need-returns-2
 returns-2 c =
-    let s = c .before .before .before .before .before .before .before in
-    moved-down _ _ _ (s .args .a) (s .args .x) (s .args .y) (s .args .rest) (s .args .k) (s .args .m) (s .args .z)
-    (s .pre .1) (s .pre .2) (c .before .before .before .before .before .before .if1 .left)
-    (c .before .before .before .before .move-words3 .ensures) (c .before .move-words4 .ensures)
+    let s = c .before .before .before .before .before .before .before .before .before .before .before .before in
+    moved-down _ _ _ (s .args .p .start) (s .args .p .boundary) (s .args .p .length) (s .args .p .rest) (s .args .to) (s .args .stays) (s .args .end)
+    (s .pre .1) (s .pre .2) (search needs) (search needs) (c .before .move-words4 .ensures)
 
 pub make-room-spec : {M : Type 1} → statement M
 make-room-spec =

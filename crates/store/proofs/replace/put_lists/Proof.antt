@@ -29,11 +29,10 @@ same-length c = search needs
 
 returns : tie.Need-returns
 returns c =
-    let s = c .before .before .before .before .before .before .before .before .before in
-    stored _ _ _ _ (s .args .t .now) (s .args .a) (s .args .x) (s .args .y) (s .args .rest) (s .args .k) (s .args .m)
-    (s .args .q) (s .args .o) (s .pre .0) (s .pre .1) (s .pre .2)
-    (c .before .before .before .before .before .before .before .make-room .ensures)
-    (c .before .before .before .before .fill .ensures) (c .before .fill2 .ensures) (s .pre .5) (s .pre .6)
+    let s = c .before .before .before .before .before .before .before .before .before .before .before .before .before .before in
+    stored _ _ _ _ (s .args .t .now) (s .args .p .start) (s .args .p .boundary) (s .args .p .length) (s .args .p .rest) (s .args .c .boundary) (s .args .c .stays)
+    (s .args .c .from) (s .args .c .pushed) (s .pre .0) (s .pre .1) (s .pre .2)
+    (c .before .before .before .before .before .before .before .before .before .before .make-room .ensures) (c .before .before .before .before .before .before .before .fill .ensures) (c .before .fill2 .ensures) (s .pre .5) (s .pre .6)
 
 pub put-lists-spec : {M : Type 1} → statement M
 put-lists-spec =

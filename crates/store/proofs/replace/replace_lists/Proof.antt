@@ -12,8 +12,8 @@ boundary-len-requires c κs = search needs
 overgrown-len-requires : tie.Need-overgrown-len-requires
 overgrown-len-requires c κs = search needs
 
-add-y : tie.Need-add-y
-add-y c = search needs
+add-both : tie.Need-add-both
+add-both c = search needs
 
 entry-count-requires : tie.Need-entry-count-requires
 entry-count-requires c κs = search needs
@@ -55,7 +55,7 @@ replace-lists-spec =
     start-requires
     boundary-len-requires
     overgrown-len-requires
-    add-y
+    add-both
     entry-count-requires
     add-rest
     sub-rest
