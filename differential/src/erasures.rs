@@ -2,7 +2,6 @@
 //! the weights that stand, those that the graph was opened with and the mark among them. Shot after shot on one graph,
 //! with repeated edges, weights of 0, empty lists, and lists that are refused.
 use crate::graphs::{self, Graph};
-use crate::library::a_graph;
 use crate::random::Random;
 use crate::rounds::{different, Both, Counts, End, Step};
 use std::collections::{BTreeMap, BTreeSet};
@@ -191,7 +190,7 @@ pub fn compare(runs: u64, seed: u64) -> bool {
     for i in 0..runs {
         let one = seed.wrapping_mul(1_000_003).wrapping_add(i);
         let r = &mut Random::new(!one);
-        let g = if r.chance(85) { graphs::graph(r) } else { a_graph(r) };
+        let g = if r.chance(85) { graphs::graph(r) } else { graphs::any_size(r) };
         if g.v > 1024 || g.edges.len() > 4096 {
             continue;
         }

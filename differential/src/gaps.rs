@@ -1,6 +1,6 @@
 //! The gap of every edge against the Rust's weight less its growths, and inner against its holders. The Rust has no such call.
 use crate::graphs;
-use crate::library::{a_graph, circle, Lent};
+use crate::lent::{circle, Lent};
 use crate::random::Random;
 use crate::records::{fields, kind};
 use crate::streams;
@@ -96,7 +96,7 @@ pub fn compare(runs: u64, seed: u64) -> bool {
     println!("{runs} streams from seed {seed}");
     for i in 0..runs {
         let one = seed.wrapping_mul(1_000_003).wrapping_add(i);
-        let g = a_graph(&mut Random::new(!one));
+        let g = graphs::any_size(&mut Random::new(!one));
         if g.v > 1024 || g.edges.len() > 4096 {
             continue;
         }

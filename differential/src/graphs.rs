@@ -309,6 +309,18 @@ pub fn any_large(r: &mut Random, w: Weights) -> Graph {
     }
 }
 
+/// Whole patches of distance 3 to 15 in several rounds, and the other kinds of graphs, up to V 1,024 and E 4,096.
+pub fn any_size(r: &mut Random) -> Graph {
+    let w = r.pick(&[Weights::Same, Weights::Even, Weights::Odd, Weights::Sparse, Weights::Zero]);
+    if r.chance(40) {
+        return any_large(r, w);
+    }
+    let d = r.pick(&[3, 5, 7, 9, 11, 13, 15]);
+    let most = [204, 73, 38, 23, 16, 11, 8][(d as usize - 3) / 2];
+    let (rounds, diagonal) = (if r.chance(50) { r.range(1, 3) } else { r.range(1, most) }, r.chance(30));
+    large(r, d, rounds, diagonal, w)
+}
+
 #[cfg(test)]
 mod tests {
     use super::*;

@@ -2,11 +2,16 @@
 mod compare;
 mod count;
 #[cfg(library)]
-mod gaps;
 mod erasures;
+#[cfg(library)]
+mod gaps;
 mod graphs;
 #[cfg(library)]
+mod lent;
+#[cfg(library)]
 mod library;
+#[cfg(library)]
+mod library_speed;
 #[cfg(library)]
 mod openings;
 mod patches;
@@ -16,9 +21,12 @@ mod records;
 mod reduce;
 #[cfg(library)]
 mod rounds;
+#[cfg(library)]
+mod rounds_speed;
 mod sample;
 mod speed;
 mod streams;
+mod timed;
 
 use random::Random;
 
@@ -94,14 +102,20 @@ fn main() {
         Some("openings") => openings::compare(number(a.get(2), 2000), number(a.get(3), 1)),
         #[cfg(library)]
         Some("gaps") => gaps::compare(number(a.get(2), 500), number(a.get(3), 1)),
+        #[cfg(library)]
         Some("erasures") => erasures::compare(number(a.get(2), 2000), number(a.get(3), 1)),
         #[cfg(library)]
         Some("rounds-speed") => {
-            rounds::speed();
+            rounds_speed::table();
             true
         }
         Some("speed") => {
             speed::table();
+            #[cfg(library)]
+            {
+                library_speed::table();
+                rounds_speed::table();
+            }
             true
         }
         _ => {
