@@ -1,4 +1,5 @@
 -- What only contracts inside the code cite, in `calls` and above it.
 pub mod Front
+pub mod Keeps
 pub mod Phase
 pub mod Reply

@@ -1,0 +1,8 @@
+-- Laws about a list of calls.
+pub mod Refused
+pub mod Leaves
+pub mod Left
+pub mod Done
+pub mod Steps
+pub mod Run
+pub mod Reached
