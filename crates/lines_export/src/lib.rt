@@ -6,17 +6,13 @@ ghost use lib.ListN.{length};
 ghost use Rattle.records.specs.Run.{ends, LinesCalled};
 ghost use Rattle.record_step.specs.Standing.{memory, Standing, MemorySuffices, Stepped};
 ghost use Rattle.records.specs.Write.{LinesPut};
+
+pub mod stream;
+
+use crate::stream::Step;
 use record_step::one_record;
 use record_step::one_record::Run;
-use records::bytes;
 use records::lines::Out;
-
-// Where a run stands after a record, how far its lines go, and where the next record begins.
-struct Step {
-    run: Run,
-    out: Out,
-    at: usize,
-}
 
 // Input that ends inside a record.
 fn cut(records: &[u8], i: usize, r: Run, o: Out, lines: &mut [u8]) -> Step
@@ -58,32 +54,10 @@ fn step_on(
         (now (lines .entry)) (o .at) (o .full) (now (lines .exit)) (x .out .at) (x .out .full)
         × (x .run .record ≡ r .record + 1) × (now (scratch .exit) ≡ now (scratch .entry)) ⌝ }
 {
-    let n = records.len() - i;
-    if n < 2 {
-        return cut(records, i, r, o, lines);
+    if stream::whole(records, i) {
+        return stream::step_whole(records, i, r, o, lines, block, scratch, edges, virtuals);
     }
-    let k = bytes::pair(records, i);
-    if n - 2 < k {
-        return cut(records, i, r, o, lines);
-    }
-    let e = i + 2 + k;
-    let t = one_record::step_record(
-        lines,
-        r,
-        o,
-        &records[i + 2..e],
-        block,
-        scratch,
-        edges,
-        virtuals,
-    );
-    let p = t.run;
-    let q = t.out;
-    Step {
-        run: p,
-        out: q,
-        at: e,
-    }
+    cut(records, i, r, o, lines)
 }
 
 // The lines of the records are written over the front of `lines`, up to the first that does not fit; how many bytes they are. The words are lent.

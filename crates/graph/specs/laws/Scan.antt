@@ -193,12 +193,6 @@ node-inner c n h p = rw (node-parts c n, h, ne-eqb (parentOf c n) 0 p)
 pub node-outermost : (c : State) (n : ℕ) → nodeRange c n ≡ true → parentOf c n ≡ 0 → ownLists c n ≡ nodeSound c n
 node-outermost c n h p = rw (node-parts c n, h, eq-eqb (parentOf c n) 0 p)
 
-pub range-sides : (c : State) (n : ℕ) → nodeRange c n ≡ true → sidesOk c n ≡ true
-range-sides c n h = and-right (nodeNumbers c n) (sidesOk c n) (and-left (nodeNumbers c n && sidesOk c n) (all (overSound c) (overgrownOf c n)) h)
-
-pub range-overgrown : (c : State) (n : ℕ) → nodeRange c n ≡ true → all (overSound c) (overgrownOf c n) ≡ true
-range-overgrown c n h = and-right (nodeNumbers c n && sidesOk c n) (all (overSound c) (overgrownOf c n)) h
-
 -- the parent of node n, as it is stored
 pub parent-get : (b : List ℤ) (n : ℕ) → Laid b → n < nodeCount (stateOf b) → parentOf (stateOf b) n ≡ getD (row (rowsOf b) 13) n 0
 unfolding stateOf stateFrom

@@ -2,7 +2,7 @@
 use Prim.Native.Nat.{ℕ, suc, _*_, _≤_, _<_}
 use native.Mathlib.Omega.{arith}
 use mathlib.Core.Path.{_≡_, refl, sym, ap, _∙_}
-use mathlib.Core.Bool.{true, _&&_}
+use mathlib.Core.Bool.{Bool, true, false, _&&_}
 use mathlib.Core.List.{List, [], _∷_, map}
 use lib.IntN.{ℤ}
 use lib.Dec.{leb, ltb}
@@ -15,7 +15,7 @@ use Rattle.graph.specs.Open.{weightLimit, sidesOf}
 use Rattle.graph.specs.Sound.{edgeSound, vertexSound, sideSound, nodeSound, entries, activeSound, sound, soundRemoved, stateSound}
 use Rattle.graph.specs.Rows.{offset}
 use Rattle.graph.specs.laws.State.{and-left, and-right}
-use Rattle.graph.specs.laws.Members.{length-below, all-below-from}
+use Rattle.graph.specs.laws.Members.{by-test, length-below, all-below-from}
 use Rattle.graph.specs.laws.Shape.{sound-edge, sound-vertex, edge-facts, vertex-facts}
 use Rattle.graph.specs.laws.Opened.{getD-tabled}
 use Rattle.graph.specs.Layout.{eOf, nOf, countOf, activeCountOf, rowsOf, row, stretches, risingTo, packed, stateFrom, stateOf, sized, blockSound}
@@ -25,7 +25,7 @@ use Rattle.graph.specs.laws.Row.{header-get, rows-length, laid-of, formed-of}
 use Rattle.graph.specs.laws.Form.{laid-shape}
 use Rattle.graph.specs.laws.Size.{sized-of}
 use Rattle.graph.specs.laws.Scan.{list-from, ends-of}
-use Rattle.memory_tests.specs.laws.Pack.{packed-of}
+use Rattle.node_tests.specs.laws.Pack.{packed-of}
 use Rattle.graph.specs.laws.Used.{entries-within}
 
 -- ---- the parts of the test
@@ -42,6 +42,18 @@ sound-parts b q p =
       le-leb (nodeCount (stateOf b)) (stateOf b .nodeLimit) (omega arith),
       le-leb (entries (stateOf b)) (stateOf b .storeLimit) (entries-within b q p),
     )
+
+-- a graph that is not sound: the state is not either
+pub graph-fails : (b : List ℤ) → Laid b → Listed b
+    → risingTo (row (rowsOf b) 4) (2 * eOf b)
+    && (allBelow (edgeSound (stateOf b)) (edgeCount (stateOf b)) && allBelow (vertexSound (stateOf b)) (vertexCount (stateOf b))) ≡ false
+    → false ≡ risingTo (row (rowsOf b) 4) (2 * eOf b) && stateSound (stateOf b)
+unfolding stateSound
+graph-fails b q p h =
+    let g : Bool = allBelow (edgeSound (stateOf b)) (edgeCount (stateOf b)) && allBelow (vertexSound (stateOf b)) (vertexCount (stateOf b)) in
+    by-test (risingTo (row (rowsOf b) 4) (2 * eOf b))
+    (λ t. let z : g ≡ false = rw t at h in rw (t, sound-parts b q p, z))
+    (λ t. rw t)
 
 pub listed-of : (b : List ℤ) → Laid b → packed b ≡ true → Listed b
 unfolding Listed
