@@ -26,7 +26,7 @@ exported t listOther = []
 -- the exchanges of the calls of a list: each has the scratch of its time, and five numbers of the list for its answer
 pub data Exchanges : List ListCall → List ℕ → List ℕ → List HostExchange → Type 0 where
   none-left : {answers : List ℕ} → Exchanges [] answers answers []
-  call-next : {c : ListCall} {cs : List ListCall} {t : List ℤ} {k : LentCall} {part part' rest rest' : List ℕ} {count : ℕ} {xs : List HostExchange}
+  call-next : {c : ListCall} {cs : List ListCall} (t : List ℤ) {k : LentCall} {part part' rest rest' : List ℕ} {count : ℕ} {xs : List HostExchange}
       → exported t c ≡ (k ∷ []) → length part ≡ 5 → length part' ≡ 5 → Exchanges cs rest rest' xs
       → Exchanges (c ∷ cs) (part ++ rest) (part' ++ rest')
       (record { call = k; list = part; got = record { told = part'; count = count; words = [] } } ∷ xs)

@@ -52,6 +52,24 @@ decimal-some n =
     (λ e. rw (decimal-last n (ltb-true n 10 e)) (omega arith))
     (λ e. omega (arith, decimal-shorter n (ltb-false n 10 e)))
 
+-- by two digits
+pub decimal-two : (n : ℕ) → 10 ≤ n → n < 100 → decimal n ≡ (48 + n / 10) ∷ (48 + n % 10) ∷ []
+decimal-two n h k = rw (decimal-more n h, decimal-last (n / 10) (omega arith)) refl
+
+pub decimal-hundreds : (n : ℕ) → 100 ≤ n → decimal n ≡ decimal (n / 100) ++ ((48 + n % 100 / 10) ∷ (48 + n % 100 % 10) ∷ [])
+decimal-hundreds n h =
+    let a : n / 10 / 10 ≡ n / 100 = omega arith in
+    let b : n / 10 % 10 ≡ n % 100 / 10 = omega arith in
+    let d : n % 10 ≡ n % 100 % 10 = omega arith in
+    rw (decimal-more n (omega arith), decimal-more (n / 10) (omega arith), a, b, d)
+    (append-assoc (decimal (n / 100)) ((48 + n % 100 / 10) ∷ []) ((48 + n % 100 % 10) ∷ []))
+
+pub two-long : (n : ℕ) → 10 ≤ n → n < 100 → length (decimal n) ≡ 2
+two-long n h k = ap length (decimal-two n h k)
+
+pub hundreds-long : (n : ℕ) → 100 ≤ n → length (decimal n) ≡ length (decimal (n / 100)) + 2
+hundreds-long n h = ap length (decimal-hundreds n h) ∙ length-append (decimal (n / 100)) ((48 + n % 100 / 10) ∷ (48 + n % 100 % 10) ∷ [])
+
 -- ---- text behind text
 
 sets-append : (b : List ℕ) (n : ℕ) (w v : List ℕ) → sets b n (w ++ v) ≡ sets (sets b n w) (n + length w) v
