@@ -6,15 +6,15 @@ ghost use mathlib.Core.Logic.{_≢_};
 ghost use mathlib.Core.Bool.{true};
 ghost use Prim.Native.Nat.{_+_, _*_, _≤_, _<_, min};
 ghost use lib.ListN.{length, replicate};
-ghost use Rattle.table_check.specs.Verdict.{sizesRight};
+ghost use Rattle.table_refuse.specs.Refuse.{sizesRight};
 ghost use Rattle.tablecheck.specs.File.{fileSizes, fileWords, verdictNumber, RowsRead};
 ghost use Rattle.graph.specs.Word.{wordLimit};
 use graph::words;
 use libc::STDIN_FILENO;
 use libc::STDOUT_FILENO;
 use table_check::Verdict;
-use table_check::refuse;
 use table_check::stream;
+use table_refuse::refuse;
 
 // ---- words
 
