@@ -27,11 +27,18 @@ NAMES = {
 STRANGE = [-1, -(2**63), 2**63 - 1, 2**32, 5000, 1024, 0, 1, 2, 3, 10, 12, 17]  # words that are none, mostly
 
 
-def random_calls(rng, st, count):
+def shrinking(rng, st):
+    """A call that prepares for shrinking, if it is not refused."""
+    n = rng.randrange(len(st.nodes))
+    circle = ('blossom', 1, rng.sample(range(len(st.nodes)), 3 if len(st.nodes) > 2 else 1))
+    return rng.choice([('prepare', n, 0), ('length', n, 0, True), ('grow', n, -1), ('advance', n), circle])
+
+
+def random_calls(rng, st, count, shrinks=0.0):
     """Calls of a list, each chosen on the state that those before it leave, as far as that is sound."""
     st, out = st.copy(), []
     while len(out) < count:
-        call = compare.call(rng, st)
+        call = shrinking(rng, st) if st.nodes and rng.random() < shrinks else compare.call(rng, st)
         if call[0] not in NAMES:
             n = rng.randrange(len(st.nodes) + 1)
             call = rng.choice([('representative', n), ('node', n), ('gap', rng.randrange(st.E + 1))])
@@ -125,8 +132,8 @@ class Lists(Compared):
         SEEN[f'{min(tests, 2)} tests'] += 1
         return tests
 
-    def random_list(self, m, st, rng, most=12):
+    def random_list(self, m, st, rng, most=12, shrinks=0.0):
         """A list of random calls, spoiled now and then, and room for all of them or for fewer."""
-        words, circles = spoiled(rng, *encoded(rng, random_calls(rng, st, rng.randint(0, most))))
+        words, circles = spoiled(rng, *encoded(rng, random_calls(rng, st, rng.randint(0, most), shrinks)))
         room = rng.randrange(len(words) * 2 + 1) if rng.random() < 0.2 else None
         return self.listed(m, st, rng, words, circles, room)

@@ -38,7 +38,7 @@ class Random(Lists):
         for _ in range(count):
             st = compare.unreached(rng) if rng.random() < 0.8 else compare.changed(rng)
             if sum(len(n.boundary) + len(n.overgrown) for n in st.nodes) <= st.L:  # else the store has no room for them
-                self.random_list(module_of(st), st, rng)
+                self.random_list(module_of(st), st, rng, shrinks=0.6)
 
     def damaged(self, count, seed):
         """On blocks with words changed, against single calls alone."""
