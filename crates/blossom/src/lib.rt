@@ -18,7 +18,7 @@ ghost use Rattle.pass.specs.Scratch.{scratchOf};
 ghost use Rattle.calls.specs.Refuse.{badNode, inBlossom, entriesBut, storeShort};
 ghost use Rattle.calls.specs.Insert.{noCircle, blossomRefusal, prepareStep, joinSide, joinStep, joinCircle, insertBlossom};
 ghost use Rattle.blossom.specs.inner.Circle.{Joinable, JoinedIn, joinedIn};
-ghost use Rattle.calls.specs.inner.Keeps.{circleKeeps};
+ghost use Rattle.calls.specs.Keeps.{circleKeeps};
 ghost use Rattle.calls.specs.inner.Reply.{RepliesInsert, Usable};
 use answers::Answer;
 use calls::refuse;

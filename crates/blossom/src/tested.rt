@@ -7,7 +7,7 @@ ghost use mathlib.Core.List.{map};
 ghost use Rattle.graph.specs.Word.{toNat};
 ghost use Rattle.graph.specs.Layout.{stateOf};
 ghost use Rattle.calls.specs.Insert.{insertBlossom};
-ghost use Rattle.calls.specs.inner.Keeps.{blossomKeeps};
+ghost use Rattle.calls.specs.Keeps.{blossomKeeps};
 ghost use Rattle.calls.specs.inner.Reply.{RepliesInsert, Usable};
 use answers::Answer;
 use calls::tested::Tested;

@@ -11,11 +11,11 @@ use Rattle.graph.specs.Word.{toNat}
 use Rattle.graph.specs.Layout.{stateOf, memoryRefusal}
 use Rattle.calls.specs.Insert.{insertDefect, insertBlossom}
 use Rattle.calls.specs.Each.{setGrowState, prepareDualNodeGrowth, maxUpdateLength, growDualNode, advance, clear}
-use Rattle.calls.specs.inner.Keeps.{prepareKeeps, lengthKeeps, growKeeps, advanceKeeps, blossomKeeps}
-use Rattle.c_api_calls.specs.Listed.{Listed, listDefect, listBlossom, listState, listPrepare, listLength, listGrow, listAdvance, listClear, listVertex, listNode, listGap, listOther}
+use Rattle.calls.specs.Keeps.{prepareKeeps, lengthKeeps, growKeeps, advanceKeeps, blossomKeeps}
+use Rattle.c_api_calls.specs.ListCall.{ListCall, listDefect, listBlossom, listState, listPrepare, listLength, listGrow, listAdvance, listClear, listVertex, listNode, listGap, listOther}
 
 -- whether a call certainly keeps a sound state sound
-unfoldable pub keeps : State → Listed → Bool
+unfoldable pub keeps : State → ListCall → Bool
 keeps c (listDefect v x) = true
 keeps c (listBlossom x circle) = blossomKeeps c x (map toNat circle)
 keeps c (listState n x) = true
@@ -30,7 +30,7 @@ keeps c (listGap e) = true
 keeps c listOther = true
 
 -- the state that it leaves
-unfoldable pub leaves : State → Listed → State
+unfoldable pub leaves : State → ListCall → State
 leaves c (listDefect v x) = insertDefect c v x .state
 leaves c (listBlossom x circle) = insertBlossom c x (map toNat circle) .state
 leaves c (listState n x) = setGrowState c n x .state
@@ -45,13 +45,13 @@ leaves c (listGap e) = c
 leaves c listOther = c
 
 -- tests from state c on, of which `known` says whether it is known to be sound; behind a test that fails every call is refused without one
-unfoldable pub testsFrom : Bool → State → List Listed → ℕ
+unfoldable pub testsFrom : Bool → State → List ListCall → ℕ
 testsFrom known c [] = 0
 testsFrom known c (k ∷ ks) =
     if known then testsFrom (keeps c k) (leaves c k) ks
     else 1 + (if stateSound c then testsFrom (keeps c k) (leaves c k) ks else 0)
 
 -- on block b with scratch t: memory is tested before the first call
-unfoldable pub testsIn : List ℤ → List ℤ → List Listed → ℕ
+unfoldable pub testsIn : List ℤ → List ℤ → List ListCall → ℕ
 testsIn b t [] = 0
 testsIn b t (k ∷ ks) = 1 + (if eqb (memoryRefusal b t) 0 then testsFrom (keeps (stateOf b) k) (leaves (stateOf b) k) ks else 0)

@@ -16,7 +16,7 @@ use Rattle.c_api_node.specs.Told.{ReadNodeTold}
 use Rattle.c_api_gap.specs.Told.{GapTold}
 use Rattle.c_api_calls.specs.declared.CallsAnswer.{CallsAnswer}
 use Rattle.c_api_calls.specs.declared.CallsAnswer.the-variants.{Made, Refused}
-use Rattle.c_api_calls.specs.Listed.{Listed, listDefect, listBlossom, listState, listPrepare, listLength, listGrow, listAdvance, listClear, listVertex, listNode, listGap, listOther, callsIn}
+use Rattle.c_api_calls.specs.ListCall.{ListCall, listDefect, listBlossom, listState, listPrepare, listLength, listGrow, listAdvance, listClear, listVertex, listNode, listGap, listOther, listCalls}
 use Rattle.c_api_calls.specs.Tests.{testsIn}
 
 -- ---- one call
@@ -26,7 +26,7 @@ unfoldable pub otherRefusal : List ℤ → List ℤ → ℕ
 otherRefusal b t = if eqb (memoryRefusal b t) 0 then 3 else memoryRefusal b t
 
 -- what the exported call of that name promises; one that only reads leaves block and scratch
-unfoldable pub ListedTold : List ℤ → List ℤ → Listed → List ℤ → List ℤ → List ℕ → List ℕ → ℕ → Type 0
+unfoldable pub ListedTold : List ℤ → List ℤ → ListCall → List ℤ → List ℤ → List ℕ → List ℕ → ℕ → Type 0
 ListedTold b t (listDefect v x) b' t' list list' k = DefectTold b t v x b' t' list list' k
 ListedTold b t (listBlossom x circle) b' t' list list' k = BlossomTold b t x circle b' t' list list' k
 ListedTold b t (listState n x) b' t' list list' k = StateTold b t n x b' list list' k × (t' ≡ t)
@@ -42,16 +42,16 @@ ListedTold b t listOther b' t' list list' k =
     Told answerNumbers list list' k Unit (λ a. OnPaper a (RefusedCall (otherRefusal b t))) × Kept b t b' t'
 
 -- so with some number of numbers told
-pub record OneTold (b t : List ℤ) (c : Listed) (b' t' : List ℤ) (list list' : List ℕ) : Type 0 where
+pub record OneTold (b t : List ℤ) (c : ListCall) (b' t' : List ℤ) (list list' : List ℕ) : Type 0 where
   pub count : ℕ
   pub promise : ListedTold b t c b' t' list list' count
 
 -- ---- one after another
 
 -- from block b and scratch t the calls lead to b' and t', each with the next five numbers of the list for its answer; the rest of it is left
-pub data ListedSteps : List ℤ → List ℤ → List Listed → List ℕ → List ℤ → List ℤ → List ℕ → Type 0 where
+pub data ListedSteps : List ℤ → List ℤ → List ListCall → List ℕ → List ℤ → List ℤ → List ℕ → Type 0 where
   no-call : {b t : List ℤ} {list : List ℕ} → ListedSteps b t [] list b t list
-  next-call : {b t b₁ t₁ b₂ t₂ : List ℤ} {c : Listed} {cs : List Listed} {part part' rest rest' : List ℕ} → length part ≡ 5
+  next-call : {b t b₁ t₁ b₂ t₂ : List ℤ} {c : ListCall} {cs : List ListCall} {part part' rest rest' : List ℕ} → length part ≡ 5
       → length part' ≡ 5 → OneTold b t c b₁ t₁ part part' → ListedSteps b₁ t₁ cs rest b₂ t₂ rest'
       → ListedSteps b t (c ∷ cs) (part ++ rest) b₂ t₂ (part' ++ rest')
 
@@ -64,9 +64,9 @@ callCount words answers = min (length words / 4) (length answers / 5)
 -- words that are no calls of four are refused 1, and nothing is called; else the calls are made, and memory is tested as often as is told
 pub record CallsMade (b t words circles : List ℤ) (answers : List ℕ) (b' t' : List ℤ) (answers' : List ℕ) (r : CallsAnswer) : Type 0 where
   pub refused : length words % 4 ≢ 0 → (r ≡ Refused 1) × Kept b t b' t' × (answers' ≡ answers)
-  pub steps : length words % 4 ≡ 0 → ListedSteps b t (callsIn circles words (callCount words answers)) answers b' t' answers'
+  pub steps : length words % 4 ≡ 0 → ListedSteps b t (listCalls circles words (callCount words answers)) answers b' t' answers'
   pub counted : length words % 4 ≡ 0
-      → r ≡ Made (callCount words answers) (testsIn b t (callsIn circles words (callCount words answers)))
+      → r ≡ Made (callCount words answers) (testsIn b t (listCalls circles words (callCount words answers)))
 
 -- case 20 with the number of calls made and of tests
 unfoldable pub callsNumbers : CallsAnswer → List ℕ

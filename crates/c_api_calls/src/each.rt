@@ -8,7 +8,7 @@ ghost use lib.ListN.{length, getD};
 ghost use Rattle.graph.specs.Word.{wordAt};
 ghost use Rattle.answers.specs.declared.Answer.the-variants.{Refused};
 ghost use Rattle.answers.specs.Numbers.{answerNumbers, Tells};
-ghost use Rattle.c_api_calls.specs.Listed.{listDefect, circleCall, listState, listPrepare, lengthCall, listGrow, listAdvance, listClear, listVertex, listNode, listGap};
+ghost use Rattle.c_api_calls.specs.ListCall.{listDefect, circleCall, listState, listPrepare, lengthCall, listGrow, listAdvance, listClear, listVertex, listNode, listGap};
 ghost use Rattle.c_api_calls.specs.inner.Running.{Passed, CallDone};
 use answers::Answer;
 use dual_module::sound;
@@ -73,7 +73,14 @@ pub fn defect(b: &mut [i64], t: &mut [i64], w: &[i64], part: &mut [usize], zero:
     tell_known(part, k)
 }
 
-pub fn blossom(b: &mut [i64], t: &mut [i64], w: &[i64], circles: &[i64], part: &mut [usize], zero: bool) -> After
+pub fn blossom(
+    b: &mut [i64],
+    t: &mut [i64],
+    w: &[i64],
+    circles: &[i64],
+    part: &mut [usize],
+    zero: bool,
+) -> After
     requires { ⌜ Passed (now b) (now t) zero × (length (now w) ≡ 4) × (length (now part) ≡ 5) ⌝ }
     ensures { λ r.
         ⌜ CallDone (now (b .entry)) (now (t .entry))

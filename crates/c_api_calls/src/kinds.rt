@@ -2,17 +2,24 @@
 
 ghost use mathlib.Core.Path.{_≡_};
 ghost use lib.ListN.{length};
-ghost use Rattle.c_api_calls.specs.Listed.{callOf};
+ghost use Rattle.c_api_calls.specs.ListCall.{listCallOf};
 ghost use Rattle.c_api_calls.specs.inner.Running.{Passed, CallDone};
 use crate::each;
 use crate::each::After;
 use graph::words;
 
 // The call of the words w is made.
-pub fn make(b: &mut [i64], t: &mut [i64], w: &[i64], circles: &[i64], part: &mut [usize], zero: bool) -> After
+pub fn make(
+    b: &mut [i64],
+    t: &mut [i64],
+    w: &[i64],
+    circles: &[i64],
+    part: &mut [usize],
+    zero: bool,
+) -> After
     requires { ⌜ Passed (now b) (now t) zero × (length (now w) ≡ 4) × (length (now part) ≡ 5) ⌝ }
     ensures { λ r.
-        ⌜ CallDone (now (b .entry)) (now (t .entry)) (callOf (now (circles .entry)) (now (w .entry))) (now (b .exit))
+        ⌜ CallDone (now (b .entry)) (now (t .entry)) (listCallOf (now (circles .entry)) (now (w .entry))) (now (b .exit))
         (now (t .exit)) (now (part .entry)) (now (part .exit)) (r .kept) (r .zero) ⌝ }
 {
     let k = words::word(w, 0);

@@ -2,13 +2,13 @@
 // kept the block sound.
 
 ghost use mathlib.Core.Path.{_≡_};
-ghost use Prim.Native.Nat.{_+_, _≤_, _<_, min};
+ghost use Prim.Native.Nat.{_+_, _*_, _≤_, _<_, min};
 ghost use lib.ListN.{length};
 ghost use Rattle.graph.specs.Word.{wordLimit};
 ghost use Rattle.answers.specs.Numbers.{Tells};
-ghost use Rattle.c_api_calls.specs.Listed.{callOf, callsIn};
+ghost use Rattle.c_api_calls.specs.ListCall.{listCallOf, listCallAt, listCalls};
 ghost use Rattle.c_api_calls.specs.Told.{callCount, callsNumbers, CallsMade, CallsTold};
-ghost use Rattle.c_api_calls.specs.inner.Running.{Between, Tested, Stepped, Ran};
+ghost use Rattle.c_api_calls.specs.inner.Running.{Between, Tested, CallStepped, CallSteppedAt, Ran};
 use answers::Answer;
 
 pub mod each; // a call of a list, kind by kind
@@ -48,11 +48,18 @@ fn test(b: &[i64], t: &[i64], s: Standing) -> Standing
 }
 
 // One call more, its words w.
-fn step(b: &mut [i64], t: &mut [i64], w: &[i64], circles: &[i64], part: &mut [usize], s: Standing) -> Standing
+fn step(
+    b: &mut [i64],
+    t: &mut [i64],
+    w: &[i64],
+    circles: &[i64],
+    part: &mut [usize],
+    s: Standing,
+) -> Standing
     requires { ⌜ Between (now b) (now t) (s .refusal) (s .known) (s .zero) × (s .tests ≤ s .made) × (s .made < wordLimit)
         × (length (now w) ≡ 4) × (length (now part) ≡ 5) ⌝ }
     ensures { λ r.
-        ⌜ Stepped (now (b .entry)) (now (t .entry)) (callOf (now (circles .entry)) (now (w .entry))) (now (b .exit)) (now (t .exit))
+        ⌜ CallStepped (now (b .entry)) (now (t .entry)) (listCallOf (now (circles .entry)) (now (w .entry))) (now (b .exit)) (now (t .exit))
         (now (part .entry)) (now (part .exit)) (s .tests) (s .refusal) (s .known) (r .tests) (r .refusal) (r .known) (r .zero)
         × (r .made ≡ s .made + 1) × (r .tests ≤ r .made) ⌝ }
 {
@@ -77,6 +84,33 @@ fn step(b: &mut [i64], t: &mut [i64], w: &[i64], circles: &[i64], part: &mut [us
     }
 }
 
+// The next call of the list, its answer in its five numbers.
+fn step_at(
+    b: &mut [i64],
+    t: &mut [i64],
+    words: &[i64],
+    circles: &[i64],
+    answers: &mut [usize],
+    s: Standing,
+) -> Standing
+    requires { ⌜ Between (now b) (now t) (s .refusal) (s .known) (s .zero) × (s .tests ≤ s .made) × (s .made < wordLimit)
+        × (4 * s .made + 4 ≤ length (now words)) × (5 * s .made + 5 ≤ length (now answers)) ⌝ }
+    ensures { λ r.
+        ⌜ CallSteppedAt (now (b .entry)) (now (t .entry)) (listCallAt (now (circles .entry)) (now (words .entry)) (s .made)) (now (b .exit)) (now (t .exit))
+        (s .made) (now (answers .entry)) (now (answers .exit)) (s .tests) (s .refusal) (s .known) (r .tests) (r .refusal) (r .known) (r .zero)
+        × (r .made ≡ s .made + 1) × (r .tests ≤ r .made) ⌝ }
+{
+    let i = s.made;
+    step(
+        b,
+        t,
+        &words[4 * i..4 * i + 4],
+        circles,
+        &mut answers[5 * i..5 * i + 5],
+        s,
+    )
+}
+
 // The smaller of two numbers.
 fn lesser(x: usize, y: usize) -> usize
     ensures { λ r. ⌜ r ≡ min x y ⌝ }
@@ -85,9 +119,15 @@ fn lesser(x: usize, y: usize) -> usize
 }
 
 // The calls are made, as many as have room for their answer.
-fn make_all(b: &mut [i64], t: &mut [i64], words: &[i64], circles: &[i64], answers: &mut [usize]) -> Standing
+fn make_all(
+    b: &mut [i64],
+    t: &mut [i64],
+    words: &[i64],
+    circles: &[i64],
+    answers: &mut [usize],
+) -> Standing
     ensures { λ r.
-        ⌜ Ran (now (b .entry)) (now (t .entry)) (callsIn (now (circles .entry)) (now (words .entry)) (callCount (now (words .entry)) (now (answers .entry))))
+        ⌜ Ran (now (b .entry)) (now (t .entry)) (listCalls (now (circles .entry)) (now (words .entry)) (callCount (now (words .entry)) (now (answers .entry))))
         (now (answers .entry)) (now (b .exit)) (now (t .exit)) (now (answers .exit)) (r .made) (r .tests) ⌝ }
 {
     let m = lesser(words.len() / 4, answers.len() / 5);
@@ -99,14 +139,19 @@ fn make_all(b: &mut [i64], t: &mut [i64], words: &[i64], circles: &[i64], answer
         zero: false,
     };
     while s.made < m {
-        let i = s.made;
-        s = step(b, t, &words[4 * i..4 * i + 4], circles, &mut answers[5 * i..5 * i + 5], s);
+        s = step_at(b, t, words, circles, answers, s);
     }
     s
 }
 
 // The same, where the words are calls of four.
-fn make_calls(b: &mut [i64], t: &mut [i64], words: &[i64], circles: &[i64], answers: &mut [usize]) -> CallsAnswer
+fn make_calls(
+    b: &mut [i64],
+    t: &mut [i64],
+    words: &[i64],
+    circles: &[i64],
+    answers: &mut [usize],
+) -> CallsAnswer
     ensures { λ r.
         ⌜ CallsMade (now (b .entry)) (now (t .entry)) (now (words .entry)) (now (circles .entry)) (now (answers .entry))
         (now (b .exit)) (now (t .exit)) (now (answers .exit)) r ⌝ }

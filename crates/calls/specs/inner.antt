@@ -1,5 +1,4 @@
 -- What only contracts inside the code cite, in `calls` and above it.
 pub mod Front
-pub mod Keeps
 pub mod Phase
 pub mod Reply

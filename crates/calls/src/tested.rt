@@ -8,7 +8,7 @@ ghost use lib.Signed.{nonNeg};
 ghost use Rattle.graph.specs.Layout.{stateOf};
 ghost use Rattle.graph.specs.Word.{wordLimit};
 ghost use Rattle.calls.specs.inner.Reply.{Replies, along, MemoryPreparable, Usable};
-ghost use Rattle.calls.specs.inner.Keeps.{prepareKeeps, lengthKeeps, towardKeeps, growKeeps, movesKeeps, advanceKeeps};
+ghost use Rattle.calls.specs.Keeps.{prepareKeeps, lengthKeeps, towardKeeps, growKeeps, movesKeeps, advanceKeeps};
 ghost use Rattle.calls.specs.Calls.{prepareDualNodeGrowth, maxUpdateLength, growToward, growDualNode, toward, advanceBy, advance};
 use crate::advance;
 use crate::core;

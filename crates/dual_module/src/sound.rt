@@ -7,7 +7,7 @@ ghost use mathlib.Core.Bool.{true, _&&_};
 ghost use lib.ListN.{length};
 ghost use Rattle.graph.specs.Layout.{stateOf, memoryRefusal};
 ghost use Rattle.pass.specs.Scratch.{zeroScratch};
-ghost use Rattle.calls.specs.inner.Keeps.{prepareKeeps, lengthKeeps, growKeeps, advanceKeeps};
+ghost use Rattle.calls.specs.Keeps.{prepareKeeps, lengthKeeps, growKeeps, advanceKeeps};
 ghost use Rattle.dual_module.specs.inner.Known.{KnownZero};
 ghost use Rattle.dual_module.specs.Called.{StateCalled, PrepareCalled, LengthCalled, GrowCalled, AdvanceCalled, ClearCalled};
 use answers::Answer;

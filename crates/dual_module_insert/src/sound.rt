@@ -6,7 +6,7 @@ ghost use mathlib.Core.Bool.{true, _&&_};
 ghost use mathlib.Core.List.{map};
 ghost use Rattle.graph.specs.Word.{toNat};
 ghost use Rattle.graph.specs.Layout.{stateOf, memoryRefusal};
-ghost use Rattle.calls.specs.inner.Keeps.{blossomKeeps};
+ghost use Rattle.calls.specs.Keeps.{blossomKeeps};
 ghost use Rattle.dual_module.specs.inner.Known.{KnownZero};
 ghost use Rattle.dual_module.specs.Called.{DefectCalled, BlossomCalled};
 use answers::Answer;

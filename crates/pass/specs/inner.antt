@@ -2,7 +2,6 @@
 pub mod Ready
 pub mod Ends
 pub mod Free
-pub mod KeepsSound
 pub mod Once
 pub mod Own
 pub mod Scratch

@@ -7,7 +7,7 @@ ghost use Rattle.graph.specs.Basic.{all};
 ghost use Rattle.graph.specs.State.{Overgrown, nodeCount, holderAt, vertexHolderAt, boundaryOf, overgrownOf};
 ghost use Rattle.graph.specs.Layout.{stateOf};
 ghost use Rattle.graph.specs.Form.{Formed};
-ghost use Rattle.pass.specs.inner.KeepsSound.{holdsLists};
+ghost use Rattle.pass.specs.KeepsSound.{holdsLists};
 ghost use Rattle.pass.specs.inner.Ready.{Shrinkable};
 use graph::lists;
 use graph::side;

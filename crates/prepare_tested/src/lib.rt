@@ -7,7 +7,7 @@ ghost use lib.Dec.{eqb};
 ghost use Rattle.graph.specs.State.{vertexCount, up, down};
 ghost use Rattle.graph.specs.Layout.{stateOf};
 ghost use Rattle.pass.specs.Prepare.{prepareNode};
-ghost use Rattle.pass.specs.inner.KeepsSound.{keepsSound};
+ghost use Rattle.pass.specs.KeepsSound.{keepsSound};
 ghost use Rattle.pass.specs.inner.Ready.{Ready, Preparable, AfterPreparation};
 use graph::dual_node::DOWN;
 use graph::dual_node::UP;

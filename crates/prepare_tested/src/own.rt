@@ -7,7 +7,7 @@ ghost use Rattle.graph.specs.State.{vertexCount, sideCount, nodeCount, sidesAt,
 ghost use Rattle.graph.specs.Layout.{stateOf};
 ghost use Rattle.graph.specs.Form.{Formed};
 ghost use Rattle.pass.specs.Shrink.{emptyTops};
-ghost use Rattle.pass.specs.inner.KeepsSound.{ownSide, mayGo, sideMayGo, passOwn};
+ghost use Rattle.pass.specs.KeepsSound.{ownSide, mayGo, sideMayGo, passOwn};
 ghost use Rattle.pass.specs.inner.Ready.{Shrinkable};
 use graph::lists;
 use graph::side;

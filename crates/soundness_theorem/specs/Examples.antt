@@ -8,7 +8,7 @@ use Rattle.graph.specs.State.{State, Overgrown, defectVertex, down}
 use Rattle.graph.specs.Open.{graphOf}
 use Rattle.graph.specs.Sound.{stateSound}
 use Rattle.pass.specs.Prepare.{prepareNode}
-use Rattle.pass.specs.inner.KeepsSound.{ownSide, ownVertex, mayGo, sideMayGo, passOwn, passesOwn, holdsLists, keepsSound}
+use Rattle.pass.specs.KeepsSound.{ownSide, ownVertex, mayGo, sideMayGo, passOwn, passesOwn, holdsLists, keepsSound}
 use Rattle.calls.specs.Opens.{everything}
 
 -- two nodes: who holds the two vertices and the two sides, what each of the nodes lists, and what has grown

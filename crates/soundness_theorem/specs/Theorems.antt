@@ -9,7 +9,7 @@ use Rattle.graph.specs.Sound.{stateSound}
 use Rattle.graph.specs.Shape.{Shape}
 use Rattle.calls.specs.Insert.{insertDefect, insertBlossom}
 use Rattle.calls.specs.Each.{setGrowState, prepareDualNodeGrowth, maxUpdateLength, growDualNode, advance, clear}
-use Rattle.calls.specs.inner.Keeps.{prepareKeeps, lengthKeeps, growKeeps, advanceKeeps, blossomKeeps}
+use Rattle.calls.specs.Keeps.{prepareKeeps, lengthKeeps, growKeeps, advanceKeeps, blossomKeeps}
 use Rattle.reachable.specs.Reachable.{Reachable}
 use Rattle.reachable.specs.laws.past.Calls.{reachable-invariant}
 use Rattle.soundness_theorem.specs.KeptSound.{KeptSound}

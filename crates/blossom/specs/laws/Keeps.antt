@@ -9,9 +9,9 @@ use lib.ListN.{length, getD, drop, drop-of-length-le}
 use lib.Seq.{drop-cons}
 use Rattle.graph.specs.State.{State, down}
 use Rattle.pass.specs.Prepare.{prepareNode}
-use Rattle.pass.specs.inner.KeepsSound.{keepsSound}
+use Rattle.pass.specs.KeepsSound.{keepsSound}
 use Rattle.calls.specs.Insert.{blossomRefusal, prepareStep}
-use Rattle.calls.specs.inner.Keeps.{circleKeeps, blossomKeeps}
+use Rattle.calls.specs.Keeps.{circleKeeps, blossomKeeps}
 use Rattle.calls.specs.laws.Keeps.{refused-passes, accepted-asks}
 
 circle-rest : (c : State) (l : List ℕ) (i : ℕ) → i < length l

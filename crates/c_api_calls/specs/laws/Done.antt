@@ -11,14 +11,14 @@ use Rattle.answers.specs.declared.Answer.the-variants.{Refused}
 use Rattle.answers.specs.Numbers.{answerNumbers, Tells}
 use Rattle.c_api.specs.laws.Words.{told-all}
 use Rattle.dual_module.specs.inner.Known.{KnownZero}
-use Rattle.c_api_calls.specs.Listed.{Listed, listOther}
+use Rattle.c_api_calls.specs.ListCall.{ListCall, listOther}
 use Rattle.c_api_calls.specs.Told.{otherRefusal, ListedTold}
 use Rattle.c_api_calls.specs.Tests.{keeps}
 use Rattle.c_api_calls.specs.inner.Running.{CallDone}
 
 module _ {b t b' t' : List ℤ} {part part' : List ℕ} {kept zero kept' zero' : Bool} where
   -- what is known is handed on
-  pub call-done : (c : Listed) (k : ℕ) → ListedTold b t c b' t' part part' k → kept ≡ keeps (stateOf b) c → KnownZero zero t'
+  pub call-done : (c : ListCall) (k : ℕ) → ListedTold b t c b' t' part part' k → kept ≡ keeps (stateOf b) c → KnownZero zero t'
       → kept' ≡ kept → zero' ≡ zero → CallDone b t c b' t' part part' kept' zero'
   call-done c k p q z e f = record { told = record { count = k; promise = p }; kept-is = e ∙ q; cleared = λ h. z (sym f ∙ h) }
 

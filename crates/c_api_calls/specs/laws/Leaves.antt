@@ -27,12 +27,12 @@ use Rattle.dual_module.specs.Called.{lentWrites, Called, CalledWithScratch}
 use Rattle.soundness_theorem.specs.KeptSound.{KeptSound}
 use Rattle.soundness_theorem.specs.Theorems.{prepare-keeps, length-keeps, grow-keeps, advance-keeps, blossom-keeps, defect-keeps, state-keeps, clear-keeps}
 use Rattle.c_api.specs.Words.{Kept}
-use Rattle.c_api_calls.specs.Listed.{Listed, listDefect, listBlossom, listState, listPrepare, listLength, listGrow, listAdvance, listClear, listVertex, listNode, listGap, listOther}
+use Rattle.c_api_calls.specs.ListCall.{ListCall, listDefect, listBlossom, listState, listPrepare, listLength, listGrow, listAdvance, listClear, listVertex, listNode, listGap, listOther}
 use Rattle.c_api_calls.specs.Told.{ListedTold, OneTold}
 use Rattle.c_api_calls.specs.Tests.{keeps, leaves}
 
 -- the state of the call's definition, in form, and a scratch of the same length
-pub record Leaves (b t : List ℤ) (c : Listed) (b' t' : List ℤ) : Type 0 where
+pub record Leaves (b t : List ℤ) (c : ListCall) (b' t' : List ℤ) : Type 0 where
   pub state : stateOf b' ≡ leaves (stateOf b) c
   pub formed : Formed b'
   pub scratch : length t' ≡ length t
@@ -46,7 +46,7 @@ module _ (b t b' t' : List ℤ) (e : memoryRefusal b t ≡ 0) where
   unfolding unless
   unless-none r = rw e
 
-  called-leaves : {c : Listed} {a : Answer} {w : Bool} {r : Reply} → r .state ≡ leaves (stateOf b) c
+  called-leaves : {c : ListCall} {a : Answer} {w : Bool} {r : Reply} → r .state ≡ leaves (stateOf b) c
       → Called (memoryRefusal b t) b b' a w r → length t' ≡ length t → Leaves b t c b' t'
   called-leaves {r = r} q p l = record {
     state = p .state ∙ ap (λ (x : Reply). x .state) (unless-none r) ∙ q;
@@ -54,14 +54,14 @@ module _ (b t b' t' : List ℤ) (e : memoryRefusal b t ≡ 0) where
     scratch = l;
   }
 
-  scratch-leaves : {c : Listed} {a : Answer} {w : Bool} {r : Reply} → r .state ≡ leaves (stateOf b) c
+  scratch-leaves : {c : ListCall} {a : Answer} {w : Bool} {r : Reply} → r .state ≡ leaves (stateOf b) c
       → CalledWithScratch (memoryRefusal b t) b t b' t' a w r → Leaves b t c b' t'
   scratch-leaves {w = w} q p =
       called-leaves q (p .block)
       (ap length (p .scratch)
       ∙ if-both (λ x. length x ≡ length t) (lentWrites (memoryRefusal b t) w) (zero-length (length t)) refl)
 
-  kept-leaves : {c : Listed} → stateOf b ≡ leaves (stateOf b) c → Kept b t b' t' → Leaves b t c b' t'
+  kept-leaves : {c : ListCall} → stateOf b ≡ leaves (stateOf b) c → Kept b t b' t' → Leaves b t c b' t'
   kept-leaves q p = record {
     state = ap stateOf (p .0) ∙ q;
     formed = subst Formed (sym (p .0)) (memory-accepted b t e .formed);
@@ -69,7 +69,7 @@ module _ (b t b' t' : List ℤ) (e : memoryRefusal b t ≡ 0) where
   }
 
   module _ (part part' : List ℕ) (k : ℕ) (r : 5 ≤ length part) where
-    promise-leaves : (c : Listed) → ListedTold b t c b' t' part part' k → Leaves b t c b' t'
+    promise-leaves : (c : ListCall) → ListedTold b t c b' t' part part' k → Leaves b t c b' t'
     unfolding ListedTold leaves
     promise-leaves (listDefect v x) p = scratch-leaves refl (p .told r .says)
     promise-leaves (listBlossom x circle) p = scratch-leaves refl (p .told r .says)
@@ -84,14 +84,14 @@ module _ (b t b' t' : List ℤ) (e : memoryRefusal b t ≡ 0) where
     promise-leaves (listGap x) p = kept-leaves refl (p .1)
     promise-leaves listOther p = kept-leaves refl (p .1)
 
-pub told-leaves : {b t b' t' : List ℤ} {c : Listed} {part part' : List ℕ} → memoryRefusal b t ≡ 0 → 5 ≤ length part
+pub told-leaves : {b t b' t' : List ℤ} {c : ListCall} {part part' : List ℕ} → memoryRefusal b t ≡ 0 → 5 ≤ length part
     → OneTold b t c b' t' part part' → Leaves b t c b' t'
 told-leaves {b} {t} {b'} {t'} {c} {part} {part'} e r p = promise-leaves b t b' t' e part part' (p .count) r c (p .promise)
 
 -- ---- by the calls of the definitions
 
 -- the calls that a call of a list is: none, where it only reads
-unfoldable pub asCalls : Listed → List Call
+unfoldable pub asCalls : ListCall → List Call
 asCalls (listDefect v x) = InsertDefect v x ∷ []
 asCalls (listBlossom x circle) = InsertBlossom x (map toNat circle) ∷ []
 asCalls (listState n x) = SetGrowState n x ∷ []
@@ -105,7 +105,7 @@ asCalls (listNode n) = []
 asCalls (listGap x) = []
 asCalls listOther = []
 
-pub leaves-after : (c : State) (k : Listed) → leaves c k ≡ after c (asCalls k)
+pub leaves-after : (c : State) (k : ListCall) → leaves c k ≡ after c (asCalls k)
 unfolding leaves asCalls after respond response
 leaves-after c (listDefect v x) = refl
 leaves-after c (listBlossom x circle) = refl
@@ -126,7 +126,7 @@ module _ (c : State) (z : Shape c) (v1 : 1 ≤ vertexCount c) (h : stateSound c 
   same-sound : KeptSound c c
   same-sound = record { sounds = h; shape = z; vertices = refl; edges = refl; sides = refl }
 
-  pub keeps-sound : (k : Listed) → keeps c k ≡ true → KeptSound c (leaves c k)
+  pub keeps-sound : (k : ListCall) → keeps c k ≡ true → KeptSound c (leaves c k)
   unfolding keeps leaves
   keeps-sound (listDefect v x) e = defect-keeps c z v1 h v x
   keeps-sound (listBlossom x circle) e = blossom-keeps c z v1 h x (map toNat circle) e

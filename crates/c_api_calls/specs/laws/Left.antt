@@ -24,9 +24,9 @@ use Rattle.answers.specs.Numbers.{answerNumbers, Tells}
 use Rattle.table_theorem.specs.laws.Kept.{Wiring, wiringOf, calls-wired}
 use Rattle.soundness_theorem.specs.KeptSound.{KeptSound}
 use Rattle.dual_module.specs.inner.Known.{KnownZero}
-use Rattle.c_api_calls.specs.Listed.{Listed}
+use Rattle.c_api_calls.specs.ListCall.{ListCall}
 use Rattle.c_api_calls.specs.Tests.{keeps, leaves, testsFrom, testsIn}
-use Rattle.c_api_calls.specs.inner.Running.{CallDone, Between, testsLeft, Tested, Stepped}
+use Rattle.c_api_calls.specs.inner.Running.{CallDone, Between, testsLeft, Tested, CallStepped}
 use Rattle.c_api_calls.specs.laws.Leaves.{Leaves, told-leaves, asCalls, leaves-after, keeps-sound}
 use Rattle.c_api_calls.specs.laws.Refused.{refused-told}
 
@@ -52,7 +52,7 @@ module _ (b t : List ℤ) where
 
 -- ---- after a call on accepted memory
 
-module _ {b t b' t' : List ℤ} {c : Listed} (e : memoryRefusal b t ≡ 0) (p : Leaves b t c b' t') where
+module _ {b t b' t' : List ℤ} {c : ListCall} (e : memoryRefusal b t ≡ 0) (p : Leaves b t c b' t') where
   wired : wiringOf (stateOf b') ≡ wiringOf (stateOf b)
   wired = ap wiringOf (p .state ∙ leaves-after (stateOf b) c) ∙ calls-wired (stateOf b) (asCalls c)
 
@@ -71,12 +71,12 @@ module _ {b t b' t' : List ℤ} {c : Listed} (e : memoryRefusal b t ≡ 0) (p : 
       keeps-sound (stateOf b) (formed-shape b f) (formed-vertices b f) (accepted-sounds b t e) c k in
       formed-accepted b' t' (p .formed) size-after (ap stateSound (p .state) ∙ s .sounds)
 
-  tests-again : (cs : List Listed) → testsFrom false (stateOf b') cs ≡ testsIn b' t' cs
+  tests-again : (cs : List ListCall) → testsFrom false (stateOf b') cs ≡ testsIn b' t' cs
   unfolding testsFrom testsIn
   tests-again [] = refl
   tests-again (x ∷ cs) = rw (accepted-is b' t' (p .formed) size-after)
 
-  tests-after : (cs : List Listed)
+  tests-after : (cs : List ListCall)
       → testsFrom (keeps (stateOf b) c) (leaves (stateOf b) c) cs ≡ testsLeft b' t' 0 (keeps (stateOf b) c) cs
   unfolding testsLeft
   tests-after cs =
@@ -85,10 +85,10 @@ module _ {b t b' t' : List ℤ} {c : Listed} (e : memoryRefusal b t ≡ 0) (p : 
 
 -- ---- one call more
 
-module _ {b t b' t' : List ℤ} {c : Listed} {part part' : List ℕ} {tests refusal tests' : ℕ} {known : Bool} (r : 5 ≤ length part) where
+module _ {b t b' t' : List ℤ} {c : ListCall} {part part' : List ℕ} {tests refusal tests' : ℕ} {known : Bool} (r : 5 ≤ length part) where
   -- made, on memory that passed its tests
   pub made-steps : {kept known' zero : Bool} → Tested b t tests refusal known tests' 0 known' → CallDone b t c b' t' part part' kept zero
-      → Stepped b t c b' t' part part' tests refusal known tests' 0 kept zero
+      → CallStepped b t c b' t' part part' tests refusal known tests' 0 kept zero
   made-steps {kept} q d =
       let e : memoryRefusal b t ≡ 0 = q .sounds refl in
       let l : Leaves b t c b' t' = told-leaves e r (d .told) in
@@ -104,10 +104,10 @@ module _ {b t b' t' : List ℤ} {c : Listed} {part part' : List ℕ} {tests refu
       }
 
 -- refused, with all calls behind it
-module _ {b t : List ℤ} {c : Listed} {part part' : List ℕ} {tests refusal tests' j k : ℕ} {known : Bool} (r : 5 ≤ length part) where
+module _ {b t : List ℤ} {c : ListCall} {part part' : List ℕ} {tests refusal tests' j k : ℕ} {known : Bool} (r : 5 ≤ length part) where
   pub refused-steps : {known' zero : Bool} → j ≢ 0 → Tested b t tests refusal known tests' j known' → KnownZero zero t
       → Tells (answerNumbers (Refused j)) part part' k
-      → Stepped b t c b t part part' tests refusal known tests' j known' zero
+      → CallStepped b t c b t part part' tests refusal known tests' j known' zero
   unfolding testsLeft
   refused-steps {known'} {zero} h q z p = record {
     told = refused-told b t (sym (q .refused h)) h r p c;

@@ -13,12 +13,12 @@ use Rattle.graph.specs.laws.State.{if-both}
 use Rattle.reachable.specs.Reachable.{after, Reachable}
 use Rattle.table_theorem.specs.laws.Append.{after-append}
 use Rattle.soundness_theorem.specs.Theorems.{reached-prepare, reached-length, reached-grow, reached-advance, reached-blossom}
-use Rattle.c_api_calls.specs.Listed.{Listed, listDefect, listBlossom, listState, listPrepare, listLength, listGrow, listAdvance, listClear, listVertex, listNode, listGap, listOther}
+use Rattle.c_api_calls.specs.ListCall.{ListCall, listDefect, listBlossom, listState, listPrepare, listLength, listGrow, listAdvance, listClear, listVertex, listNode, listGap, listOther}
 use Rattle.c_api_calls.specs.Tests.{keeps, leaves, testsFrom, testsIn}
 use Rattle.c_api_calls.specs.laws.Leaves.{asCalls, leaves-after}
 
 module _ (c : State) (r : Reachable c) where
-  reached-leaves : (k : Listed) → Reachable (leaves c k)
+  reached-leaves : (k : ListCall) → Reachable (leaves c k)
   reached-leaves k = record {
     vertices = r .vertices;
     edgeNumber = r .edgeNumber;
@@ -32,7 +32,7 @@ module _ (c : State) (r : Reachable c) where
     is = leaves-after c k ∙ ap (λ (x : State). after x (asCalls k)) (r .is) ∙ sym (after-append _ (r .calls) (asCalls k));
   }
 
-  reached-keeps : (k : Listed) → keeps c k ≡ true
+  reached-keeps : (k : ListCall) → keeps c k ≡ true
   unfolding keeps
   reached-keeps (listDefect v x) = refl
   reached-keeps (listBlossom x circle) = reached-blossom c r x (map toNat circle)
@@ -48,12 +48,12 @@ module _ (c : State) (r : Reachable c) where
   reached-keeps listOther = refl
 
 -- no test where the block is known to be sound
-pub no-more-tests : (c : State) → Reachable c → (ks : List Listed) → testsFrom true c ks ≡ 0
+pub no-more-tests : (c : State) → Reachable c → (ks : List ListCall) → testsFrom true c ks ≡ 0
 unfolding testsFrom
 no-more-tests c r [] = refl
 no-more-tests c r (k ∷ ks) = rw (reached-keeps c r k) (no-more-tests (leaves c k) (reached-leaves c r k) ks)
 
-pub one-test-made : (b t : List ℤ) → Reachable (stateOf b) → (ks : List Listed) → testsIn b t ks ≤ 1
+pub one-test-made : (b t : List ℤ) → Reachable (stateOf b) → (ks : List ListCall) → testsIn b t ks ≤ 1
 unfolding testsIn
 one-test-made b t r [] = omega arith
 one-test-made b t r (k ∷ ks) =

@@ -16,12 +16,12 @@ use Rattle.dual_module_gap.specs.declared.GapAnswer.the-variants.{Refused as Ga
 use Rattle.c_api.specs.laws.Words.{told-all}
 use Rattle.c_api_node.specs.Told.{readNodeNumbers}
 use Rattle.c_api_gap.specs.Told.{gapNumbers}
-use Rattle.c_api_calls.specs.Listed.{Listed, listDefect, listBlossom, listState, listPrepare, listLength, listGrow, listAdvance, listClear, listVertex, listNode, listGap, listOther}
+use Rattle.c_api_calls.specs.ListCall.{ListCall, listDefect, listBlossom, listState, listPrepare, listLength, listGrow, listAdvance, listClear, listVertex, listNode, listGap, listOther}
 use Rattle.c_api_calls.specs.Told.{otherRefusal, ListedTold, OneTold}
 
 module _ (b t : List ℤ) {j : ℕ} (e : j ≡ memoryRefusal b t) (h : j ≢ 0) {part part' : List ℕ} {k : ℕ} (r : 5 ≤ length part)
     (p : Tells (answerNumbers (Refused j)) part part' k) where
-  promised : (c : Listed) → ListedTold b t c b t part part' k
+  promised : (c : ListCall) → ListedTold b t c b t part part' k
   unfolding ListedTold otherRefusal readNodeNumbers gapNumbers
   promised (listDefect v x) = told-all r (Refused j) (lent-refused-scratch e h b t _ _) p
   promised (listBlossom x circle) = told-all r (Refused j) (lent-refused-scratch e h b t _ _) p
@@ -36,5 +36,5 @@ module _ (b t : List ℤ) {j : ℕ} (e : j ≡ memoryRefusal b t) (h : j ≢ 0) 
   promised (listGap x) = (told-all r (GapRefused j) (rw (← e, ne-eqb j 0 h) refl) p, (refl, refl))
   promised listOther = (told-all r (Refused j) (rw (← e, ne-eqb j 0 h) refl) p, (refl, refl))
 
-  pub refused-told : (c : Listed) → OneTold b t c b t part part'
+  pub refused-told : (c : ListCall) → OneTold b t c b t part part'
   refused-told c = record { count = k; promise = promised c }

@@ -6,12 +6,9 @@ use mathlib.Core.List.{List, [], _∷_, _++_, append-assoc}
 use lib.IntN.{ℤ}
 use lib.ListN.{length, take, drop, length-append, length-take, take-append-drop}
 use lib.Seq.{take-append-add, drop-append-add}
-use Rattle.c_api_calls.specs.Listed.{Listed}
+use Rattle.c_api_calls.specs.ListCall.{ListCall}
 use Rattle.c_api_calls.specs.Told.{OneTold, ListedSteps, no-call, next-call}
-
--- the five numbers of a list from place n on become others
-abbrev pub withPart : List ℕ → ℕ → List ℕ → List ℕ
-withPart list n part = take n list ++ (part ++ drop (n + 5) list)
+use Rattle.c_api_calls.specs.inner.Running.{withPart}
 
 -- behind five numbers more
 later-part : (front rest part : List ℕ) (m n : ℕ) → length front ≡ 5 → n ≡ 5 + m → front ++ withPart rest m part ≡ withPart (front ++ rest) n part
@@ -23,8 +20,8 @@ later-part front rest part m n h e =
 later-drop : (front rest : List ℕ) (m n : ℕ) → length front ≡ 5 → n ≡ 5 + m → drop n (front ++ rest) ≡ drop m rest
 later-drop front rest m n h e = let a : n ≡ length front + m = omega arith in rw (a, drop-append-add front rest m)
 
-module _ {b₁ t₁ b₂ t₂ : List ℤ} {c : Listed} {part' : List ℕ} (l : length part' ≡ 5) where
-  pub steps-more : {b t : List ℤ} {cs : List Listed} {list list₁ : List ℕ} (n : ℕ) → n ≡ 5 * length cs → n + 5 ≤ length list
+module _ {b₁ t₁ b₂ t₂ : List ℤ} {c : ListCall} {part' : List ℕ} (l : length part' ≡ 5) where
+  pub steps-more : {b t : List ℤ} {cs : List ListCall} {list list₁ : List ℕ} (n : ℕ) → n ≡ 5 * length cs → n + 5 ≤ length list
       → ListedSteps b t cs list b₁ t₁ list₁ → OneTold b₁ t₁ c b₂ t₂ (take 5 (drop n list₁)) part'
       → ListedSteps b t (cs ++ (c ∷ [])) list b₂ t₂ (withPart list₁ n part')
   steps-more {list = list} n e h no-call p =

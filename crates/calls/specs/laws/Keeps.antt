@@ -11,7 +11,7 @@ use lib.Dec.{eqb, ltb}
 use borrow.Author.Tests.{eqb-true, eqb-false, eq-eqb, ne-eqb}
 use Rattle.graph.specs.State.{State, growStateOf, stay, up, down}
 use Rattle.graph.specs.laws.Members.{by-test}
-use Rattle.pass.specs.inner.KeepsSound.{keepsSound}
+use Rattle.pass.specs.KeepsSound.{keepsSound}
 use Rattle.answers.specs.declared.Answer.{Answer}
 use Rattle.answers.specs.declared.Answer.the-variants.{Length}
 use Rattle.answers.specs.declared.MaxUpdateLength.the-variants.{NonZeroGrow, Unlimited}
@@ -19,7 +19,7 @@ use Rattle.answers.specs.Answer.{says}
 use Rattle.answers.specs.laws.Answer.{free-cases, free-other}
 use Rattle.calls.specs.Refuse.{nodeRefusal, storeShort}
 use Rattle.calls.specs.Each.{maxUpdateLength, growDualNode, signedFor, toward, follow}
-use Rattle.calls.specs.inner.Keeps.{refusedOr, prepareKeeps, lengthKeeps, towardKeeps, growKeeps, followKeeps, movesKeeps, advanceKeeps}
+use Rattle.calls.specs.Keeps.{refusedOr, prepareKeeps, lengthKeeps, towardKeeps, growKeeps, followKeeps, movesKeeps, advanceKeeps}
 use Rattle.calls.specs.inner.Reply.{along}
 use Rattle.calls.specs.laws.Advance.{along-toward}
 

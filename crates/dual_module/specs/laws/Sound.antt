@@ -19,7 +19,7 @@ use Rattle.answers.specs.declared.Answer.{Answer}
 use Rattle.answers.specs.Answer.{Reply, says}
 use Rattle.calls.specs.Refuse.{storeShort, nodeRefusal}
 use Rattle.calls.specs.Calls.{toward}
-use Rattle.calls.specs.inner.Keeps.{refusedOr, growKeeps, followKeeps, movesKeeps, advanceKeeps}
+use Rattle.calls.specs.Keeps.{refusedOr, growKeeps, followKeeps, movesKeeps, advanceKeeps}
 use Rattle.calls.specs.inner.Reply.{RepliesInsert, Replies, Usable}
 use Rattle.calls.specs.laws.Keeps.{asked-true, length-refused-passes, toward-refused-passes}
 use Rattle.dual_module.specs.Called.{CalledWithScratch}

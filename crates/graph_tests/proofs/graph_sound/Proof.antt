@@ -14,6 +14,7 @@ use native.Mathlib.Omega.{arith}
 use borrow.Author.Needs.{needs}
 use Rattle.graph_tests.proofs.graph_sound.Statement.{statement}
 use Rattle.graph_tests.proofs.graph_sound.Tie as tie
+use Rattle.graph.specs.Rows.{firstRow}
 
 slice-aggregate-vertices-sound : tie.Need-slice-aggregate-vertices-sound
 slice-aggregate-vertices-sound c = search needs
@@ -32,7 +33,7 @@ wired-requires c κs = let b = c .before .before .before .before .before .args .
     let e = sym (w .ensures .0) ∙ c .before .if1 .taken in (
       c .before .before .before .before .before .pre,
       and-right (allBelow (vertexNumbers (stateOf b)) (vertexCount (stateOf b)))
-          (risingTo (row (rowsOf b) 4) (2 * eOf b)) e,
+          (risingTo (row (rowsOf b) firstRow) (2 * eOf b)) e,
       search needs,
       w .ensures .1 (c .before .if1 .taken),
     )
@@ -41,7 +42,7 @@ returns : tie.Need-returns
 returns c = let b = c .before .before .before .before .before .before .before .args .b .now in
     let w = c .before .before .before .before .before .vertices-sound in
     let n = allBelow (vertexNumbers (stateOf b)) (vertexCount (stateOf b)) in
-    let r = risingTo (row (rowsOf b) 4) (2 * eOf b) in
+    let r = risingTo (row (rowsOf b) firstRow) (2 * eOf b) in
     let e : n && r ≡ true = sym (w .ensures .0) ∙ c .before .before .before .if1 .taken in
     rw (and-right n r e, vertices-both (stateOf b) (vertexCount (stateOf b)), and-left n r e) (c .before .wired .ensures)
 
@@ -49,7 +50,7 @@ returns-2 : tie.Need-returns-2
 returns-2 c = let b = c .before .before .before .before .args .b .now in
     let w = c .before .before .vertices-sound in
     rw (vertices-both (stateOf b) (vertexCount (stateOf b)))
-    (first-fails (allBelow (vertexNumbers (stateOf b)) (vertexCount (stateOf b))) (risingTo (row (rowsOf b) 4) (2 * eOf b))
+    (first-fails (allBelow (vertexNumbers (stateOf b)) (vertexCount (stateOf b))) (risingTo (row (rowsOf b) firstRow) (2 * eOf b))
     (allBelow (edgeSound (stateOf b)) (edgeCount (stateOf b))) (allBelow (wiredAt (stateOf b)) (vertexCount (stateOf b))) (sym (w .ensures .0) ∙ c .if1 .left))
 
 pub graph-sound-spec : {M : Type 1} → statement M

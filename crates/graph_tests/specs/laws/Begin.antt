@@ -13,7 +13,7 @@ use lib.Seq.{drop-cons, getD-set-same, getD-set-other}
 use borrow.Author.Tests.{le-leb, lt-leb, leb-true}
 use Rattle.graph.specs.Basic.{allBelow}
 use Rattle.graph.specs.State.{vertexCount, sideCount}
-use Rattle.graph.specs.Rows.{offset}
+use Rattle.graph.specs.Rows.{offset, firstRow}
 use Rattle.graph.specs.Layout.{eOf, rowsOf, row, risingTo, stateOf}
 use Rattle.graph.specs.Form.{Laid}
 use Rattle.graph.specs.inner.SidesAt.{firstWord}
@@ -61,7 +61,7 @@ rises-all m fs = rises-rising m 0 fs (omega arith) ∙ rw (le-leb 0 (getD fs 0 m
 -- the first v vertices passed; a is where the sides of the last of them begin
 pub record Begun (b : List ℤ) (v a : ℕ) (next : List ℕ) : Type 0 where
   pub numbers : allBelow (vertexNumbers (stateOf b)) v ≡ true
-  pub rest : risesFrom a (drop v (row (rowsOf b) 4)) (2 * eOf b) ≡ risesFrom 0 (row (rowsOf b) 4) (2 * eOf b)
+  pub rest : risesFrom a (drop v (row (rowsOf b) firstRow)) (2 * eOf b) ≡ risesFrom 0 (row (rowsOf b) firstRow) (2 * eOf b)
   pub firsts : Firsts b v next
   pub low : a ≤ 8192
 
@@ -82,16 +82,16 @@ module _ (b : List ℤ) (q : Laid b) where
   unfolding Laid
   few-sides = omega arith
 
-  first-length : length (row (rowsOf b) 4) ≡ vertexCount (stateOf b)
+  first-length : length (row (rowsOf b) firstRow) ≡ vertexCount (stateOf b)
   unfolding Laid offset
-  first-length = rows-length b 4 (omega arith) ∙ sym (q .counted .vertices)
+  first-length = rows-length b firstRow (omega arith) ∙ sym (q .counted .vertices)
 
   module _ (v a : ℕ) (next : List ℕ) (w : Begun b v a next) (h : v < vertexCount (stateOf b)) where
     -- what is left begins with the first of v
-    next-first : risesFrom a (drop v (row (rowsOf b) 4)) (2 * eOf b)
-        ≡ leb a (firstWord b v) && leb (firstWord b v) (2 * eOf b) && risesFrom (firstWord b v) (drop (v + 1) (row (rowsOf b) 4)) (2 * eOf b)
+    next-first : risesFrom a (drop v (row (rowsOf b) firstRow)) (2 * eOf b)
+        ≡ leb a (firstWord b v) && leb (firstWord b v) (2 * eOf b) && risesFrom (firstWord b v) (drop (v + 1) (row (rowsOf b) firstRow)) (2 * eOf b)
     unfolding risesFrom
-    next-first = rw (add-one, drop-cons (row (rowsOf b) 4) v 0 (omega (arith, h, first-length)))
+    next-first = rw (add-one, drop-cons (row (rowsOf b) firstRow) v 0 (omega (arith, h, first-length)))
 
     pub first-low : passes b a v ≡ true → firstWord b v ≤ 8192
     first-low e =
@@ -119,21 +119,21 @@ module _ (b : List ℤ) (q : Laid b) where
         }
 
     pub begun-fails : passes b a v ≡ false
-        → false ≡ allBelow (vertexNumbers (stateOf b)) (vertexCount (stateOf b)) && risingTo (row (rowsOf b) 4) (2 * eOf b)
+        → false ≡ allBelow (vertexNumbers (stateOf b)) (vertexCount (stateOf b)) && risingTo (row (rowsOf b) firstRow) (2 * eOf b)
     begun-fails e =
         by-test (vertexNumbers (stateOf b) v)
         (λ t.
         let f : leb a (firstWord b v) && leb (firstWord b v) (2 * eOf b) ≡ false = rw (t, sides-count) at e in
-        let z : risingTo (row (rowsOf b) 4) (2 * eOf b) ≡ false = sym (rises-all (2 * eOf b) (row (rowsOf b) 4)) ∙ sym (w .rest) ∙ next-first ∙ rw f in
+        let z : risingTo (row (rowsOf b) firstRow) (2 * eOf b) ≡ false = sym (rises-all (2 * eOf b) (row (rowsOf b) firstRow)) ∙ sym (w .rest) ∙ next-first ∙ rw f in
         rw z (sym (and-false (allBelow (vertexNumbers (stateOf b)) (vertexCount (stateOf b))))))
         (λ t. rw (all-fails (vertexNumbers (stateOf b)) (vertexCount (stateOf b)) v h t))
 
   -- at the end the firsts do not fall
   pub begun-all : (a : ℕ) (next : List ℕ) → Begun b (vertexCount (stateOf b)) a next
-      → true ≡ allBelow (vertexNumbers (stateOf b)) (vertexCount (stateOf b)) && risingTo (row (rowsOf b) 4) (2 * eOf b)
+      → true ≡ allBelow (vertexNumbers (stateOf b)) (vertexCount (stateOf b)) && risingTo (row (rowsOf b) firstRow) (2 * eOf b)
   unfolding risesFrom
   begun-all a next w =
-      let z : drop (vertexCount (stateOf b)) (row (rowsOf b) 4) ≡ [] =
-      drop-of-length-le (row (rowsOf b) 4) {i = vertexCount (stateOf b)} (omega (arith, first-length)) in
-      let r : risingTo (row (rowsOf b) 4) (2 * eOf b) ≡ true = sym (rw z at (w .rest) ∙ rises-all (2 * eOf b) (row (rowsOf b) 4)) in
+      let z : drop (vertexCount (stateOf b)) (row (rowsOf b) firstRow) ≡ [] =
+      drop-of-length-le (row (rowsOf b) firstRow) {i = vertexCount (stateOf b)} (omega (arith, first-length)) in
+      let r : risingTo (row (rowsOf b) firstRow) (2 * eOf b) ≡ true = sym (rw z at (w .rest) ∙ rises-all (2 * eOf b) (row (rowsOf b) firstRow)) in
       rw (w .numbers, r)

@@ -26,6 +26,7 @@ use Rattle.graph.specs.laws.SidesAt.{Around, around-of, side-entry}
 use Rattle.graph.specs.laws.Count.{met-all}
 use Rattle.graph.specs.laws.Walk.{met-here, met-elsewhere, met-stays}
 use Rattle.graph_tests.specs.inner.Walk.{Firsts, placedAt, placeOf, Walking, reachedAt}
+use Rattle.graph.specs.Rows.{atRow}
 
 -- ---- the sides that were met
 
@@ -95,14 +96,14 @@ module _ (b : List ℤ) (s : ℕ) (next : List ℕ) (w : Walking b s next) (h : 
                 (w .places v j)
           ])
 
-      stood : (t : ℕ) → t < s + 1 → getD (row (rowsOf b) 9) (placeOf b t) 0 ≡ t
+      stood : (t : ℕ) → t < s + 1 → getD (row (rowsOf b) atRow) (placeOf b t) 0 ≡ t
       stood t j =
           elim (decEq t s) [
             | yes q ↦
                 rw (q, ← place-now)
-                (eqb-true (getD (row (rowsOf b) 9) (getD next (endAt (stateOf b) s) 0) 0) s
+                (eqb-true (getD (row (rowsOf b) atRow) (getD next (endAt (stateOf b) s) 0) 0) s
                 (and-right (ltb (getD next (endAt (stateOf b) s) 0) (sideCount (stateOf b)))
-                (eqb (getD (row (rowsOf b) 9) (getD next (endAt (stateOf b) s) 0) 0) s) e))
+                (eqb (getD (row (rowsOf b) atRow) (getD next (endAt (stateOf b) s) 0) 0) s) e))
             | no q ↦ w .stand t (omega arith)
           ]
 
@@ -119,8 +120,8 @@ module _ (b : List ℤ) (s : ℕ) (next : List ℕ) (w : Walking b s next) (h : 
       let m = met-stays ends s v (length ends) refl k in
       let l : sidesAt (stateOf b) v ≡ met ends (length ends) v = e ∙ sym (met-all ends v) in
       let u : i < lastWord b v - firstWord b v = omega (arith, m .0, ap length l, a .size) in
-      let z : getD (row (rowsOf b) 9) (firstWord b v + i) 0 ≡ s = side-entry b v i a u ∙ ap (λ x. getD x i 0) l ∙ m .1 in
-      rw (place-now, lt-ltb (placeOf b s) (sideCount (stateOf b)) (omega (arith, u, a .within)), eq-eqb (getD (row (rowsOf b) 9) (placeOf b s) 0) s z)
+      let z : getD (row (rowsOf b) atRow) (firstWord b v + i) 0 ≡ s = side-entry b v i a u ∙ ap (λ x. getD x i 0) l ∙ m .1 in
+      rw (place-now, lt-ltb (placeOf b s) (sideCount (stateOf b)) (omega (arith, u, a .within)), eq-eqb (getD (row (rowsOf b) atRow) (placeOf b s) 0) s z)
 
   -- where it does not, some vertex has not the right sides
   pub walking-fails : Laid b → Rising b → s < sideCount (stateOf b) → placedAt b (getD next (endAt (stateOf b) s) 0) s ≡ false
@@ -157,7 +158,7 @@ module _ (b : List ℤ) (next : List ℕ) (q : Laid b) (r : Rising b) (w : Walki
       let a : Around b v = around-of b v q r h in
       let t : ℕ = getD (sidesOf ends v) i 0 in
       let m : MetAt ends (length ends) v i t = rw (met-all ends v) at (met-at ends (length ends) v i (rw (met-all ends v) (omega (arith, k, e)))) in
-      let z : getD (row (rowsOf b) 9) (firstWord b v + i) 0 ≡ t = rw (m .here, m .count) at (w .stand t (m .before)) in
+      let z : getD (row (rowsOf b) atRow) (firstWord b v + i) 0 ≡ t = rw (m .here, m .count) at (w .stand t (m .before)) in
       sym (side-entry b v i a (omega (arith, k, a .size))) ∙ z)
 
   reached-wired : (v : ℕ) → v < vertexCount (stateOf b) → reachedAt b next v ≡ wiredAt (stateOf b) v

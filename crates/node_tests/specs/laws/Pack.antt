@@ -11,7 +11,7 @@ use lib.ListN.{length, getD, take, drop, drop-of-length-le}
 use lib.Seq.{drop-cons, getD-take, length-take-le}
 use borrow.Author.Tests.{leb-true, eqb-true}
 use Rattle.graph.specs.State.{nodeCount}
-use Rattle.graph.specs.Rows.{offset}
+use Rattle.graph.specs.Rows.{offset, headerRow, startRow, boundaryLengthRow, overgrownLengthRow}
 use Rattle.graph.specs.laws.State.{and-left, and-right}
 use Rattle.graph.specs.Layout.{nOf, lOf, countOf, rowsOf, row, fitsAt, packedFrom, packed, stateOf}
 use Rattle.graph.specs.Form.{startsFrom, totalFrom, PackedRows, Laid}
@@ -74,7 +74,7 @@ nodeRow b k = take (countOf b) (row (rowsOf b) k)
 pub record Packing (b : List ℤ) (n a : ℕ) : Type 0 where
   pub below : n ≤ nodeCount (stateOf b)
   pub within : a ≤ stateOf b .storeLimit
-  pub same : packedFrom (stateOf b .storeLimit) a (drop n (nodeRow b 15)) (drop n (nodeRow b 16)) (drop n (nodeRow b 17)) ≡ packed b
+  pub same : packedFrom (stateOf b .storeLimit) a (drop n (nodeRow b startRow)) (drop n (nodeRow b boundaryLengthRow)) (drop n (nodeRow b overgrownLengthRow)) ≡ packed b
 
 -- the lists of node n fit at place a
 abbrev pub nodeFits : List ℤ → ℕ → ℕ → Bool
@@ -85,17 +85,17 @@ module _ (b : List ℤ) (q : Laid b) where
   unfolding Laid
   cut-length k e = length-take-le (countOf b) (row (rowsOf b) k) (omega (arith, e, q .counted .count-max)) ∙ sym (q .counted .nodes)
 
-  length-starts : length (nodeRow b 15) ≡ nodeCount (stateOf b)
+  length-starts : length (nodeRow b startRow) ≡ nodeCount (stateOf b)
   unfolding Laid offset
-  length-starts = cut-length 15 (rows-length b 15 (omega arith))
+  length-starts = cut-length 15 (rows-length b startRow (omega arith))
 
-  length-blens : length (nodeRow b 16) ≡ nodeCount (stateOf b)
+  length-blens : length (nodeRow b boundaryLengthRow) ≡ nodeCount (stateOf b)
   unfolding Laid offset
-  length-blens = cut-length 16 (rows-length b 16 (omega arith))
+  length-blens = cut-length 16 (rows-length b boundaryLengthRow (omega arith))
 
-  length-olens : length (nodeRow b 17) ≡ nodeCount (stateOf b)
+  length-olens : length (nodeRow b overgrownLengthRow) ≡ nodeCount (stateOf b)
   unfolding Laid offset
-  length-olens = cut-length 17 (rows-length b 17 (omega arith))
+  length-olens = cut-length 17 (rows-length b overgrownLengthRow (omega arith))
 
   cut-at : (k n : ℕ) → n < nodeCount (stateOf b) → getD (row (rowsOf b) k) n 0 ≡ getD (nodeRow b k) n 0
   unfolding Laid
@@ -109,9 +109,9 @@ module _ (b : List ℤ) (q : Laid b) where
   pub packed-of : packed b ≡ true → PackedRows (rowsOf b)
   unfolding packed Laid
   packed-of e =
-      let c : getD (row (rowsOf b) 0) 4 0 ≡ countOf b = header-get b 4 (omega arith) in
+      let c : getD (row (rowsOf b) headerRow) 4 0 ≡ countOf b = header-get b 4 (omega arith) in
       let r =
-      packed-from (lOf b) 0 (nodeRow b 15) (nodeRow b 16) (nodeRow b 17) (length-starts ∙ sym length-blens)
+      packed-from (lOf b) 0 (nodeRow b startRow) (nodeRow b boundaryLengthRow) (nodeRow b overgrownLengthRow) (length-starts ∙ sym length-blens)
       (length-olens ∙ sym length-blens) (omega arith) e in
       record {
         count-max = omega (arith, c, header-get b 2 (omega arith), q .counted .count-max);
@@ -124,17 +124,17 @@ module _ (b : List ℤ) (q : Laid b) where
   packing-none = record { below = omega arith; within = omega arith; same = rw limit-is }
 
   turn : (n a : ℕ) → n < nodeCount (stateOf b)
-      → packedFrom (stateOf b .storeLimit) a (drop n (nodeRow b 15)) (drop n (nodeRow b 16)) (drop n (nodeRow b 17))
+      → packedFrom (stateOf b .storeLimit) a (drop n (nodeRow b startRow)) (drop n (nodeRow b boundaryLengthRow)) (drop n (nodeRow b overgrownLengthRow))
       ≡ nodeFits b a n
-      && packedFrom (stateOf b .storeLimit) (a + blenWord b n + olenWord b n) (drop (n + 1) (nodeRow b 15))
-      (drop (n + 1) (nodeRow b 16)) (drop (n + 1) (nodeRow b 17))
+      && packedFrom (stateOf b .storeLimit) (a + blenWord b n + olenWord b n) (drop (n + 1) (nodeRow b startRow))
+      (drop (n + 1) (nodeRow b boundaryLengthRow)) (drop (n + 1) (nodeRow b overgrownLengthRow))
   unfolding packedFrom
   turn n a h =
       rw (
         add-one,
-        drop-cons (nodeRow b 15) n 0 (omega (arith, length-starts)),
-        drop-cons (nodeRow b 16) n 0 (omega (arith, length-blens)),
-        drop-cons (nodeRow b 17) n 0 (omega (arith, length-olens)),
+        drop-cons (nodeRow b startRow) n 0 (omega (arith, length-starts)),
+        drop-cons (nodeRow b boundaryLengthRow) n 0 (omega (arith, length-blens)),
+        drop-cons (nodeRow b overgrownLengthRow) n 0 (omega (arith, length-olens)),
         cut-at 15 n h,
         cut-at 16 n h,
         cut-at 17 n h,
@@ -150,4 +150,4 @@ module _ (b : List ℤ) (q : Laid b) where
 
   pub packing-all : (n a : ℕ) → Packing b n a → nodeCount (stateOf b) ≤ n → true ≡ packed b
   unfolding packedFrom
-  packing-all n a p h = let e : drop n (nodeRow b 15) ≡ [] = drop-of-length-le (nodeRow b 15) {i = n} (rw length-starts h) in (rw e at (p .same))
+  packing-all n a p h = let e : drop n (nodeRow b startRow) ≡ [] = drop-of-length-le (nodeRow b startRow) {i = n} (rw length-starts h) in (rw e at (p .same))

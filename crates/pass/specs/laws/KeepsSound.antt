@@ -6,7 +6,7 @@ use Rattle.graph.specs.State.{State, down}
 use Rattle.pass.specs.Work.{Work, finishPass}
 use Rattle.pass.specs.Shrink.{shrinkPass}
 use Rattle.pass.specs.Prepare.{onePass}
-use Rattle.pass.specs.inner.KeepsSound.{passOwn, passesOwn}
+use Rattle.pass.specs.KeepsSound.{passOwn, passesOwn}
 use Rattle.pass.specs.laws.Prepare.{passState, one-down}
 
 module _ (n fuel : ℕ) (c : State) where

@@ -1,7 +1,7 @@
 use borrow.Author.Needs.{needs}
 use mathlib.Core.Path.{_∙_}
 use Rattle.graph.specs.Layout.{stateOf}
-use Rattle.pass.specs.inner.KeepsSound.{keepsSound}
+use Rattle.pass.specs.KeepsSound.{keepsSound}
 use Rattle.prepare_tested.specs.laws.Testing.{prepare-down-same, to-down, from-down, asked-down, asked-test, not-asked}
 use Rattle.prepare_tested.proofs.prepare_asked.Statement.{statement}
 use Rattle.prepare_tested.proofs.prepare_asked.Tie as tie

@@ -8,7 +8,7 @@ use lib.Dec.{eqb}
 use borrow.Author.Tests.{eq-eqb, ne-eqb}
 use Rattle.graph.specs.Basic.{all}
 use Rattle.graph.specs.State.{State, endAt, holderAt, sidesAt, vertexHolderAt}
-use Rattle.pass.specs.inner.KeepsSound.{ownSide, ownVertex, mayGo, sideMayGo}
+use Rattle.pass.specs.KeepsSound.{ownSide, ownVertex, mayGo, sideMayGo}
 use Rattle.shrink_pass.specs.inner.Shrinking.{vertexLeft}
 
 pub and-same : {a b x y : Bool} → a ≡ x → b ≡ y → (a && b) ≡ (x && y)

@@ -17,7 +17,7 @@ use Rattle.graph.specs.laws.State.{and-left}
 use Rattle.pass.specs.Work.{Work, finishPass}
 use Rattle.pass.specs.Prepare.{Prepared, onePass, prepareFrom, prepareNode}
 use Rattle.pass.specs.inner.Ends.{EndsIn}
-use Rattle.pass.specs.inner.KeepsSound.{passOwn, passesOwn, holdsLists, keepsSound}
+use Rattle.pass.specs.KeepsSound.{passOwn, passesOwn, holdsLists, keepsSound}
 use Rattle.pass.specs.inner.Ready.{Ready, Preparable, AfterPass}
 use Rattle.pass.specs.laws.Prepare.{passState, one-down, one-passed, prepare-more, prepare-last, left, left-le, ends-passed, pass-falls}
 use Rattle.pass.specs.laws.KeepsSound.{passes-more, passes-last}

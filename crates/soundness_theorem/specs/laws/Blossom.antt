@@ -17,12 +17,12 @@ use Rattle.graph.specs.laws.State.{and-left, and-right}
 use Rattle.graph.specs.laws.Members.{by-test, clash, all-from, all-member, member-head, member-tail}
 use Rattle.graph.specs.laws.Shape.{OwnLists, sound-active}
 use Rattle.pass.specs.Prepare.{prepareNode}
-use Rattle.pass.specs.inner.KeepsSound.{keepsSound}
+use Rattle.pass.specs.KeepsSound.{keepsSound}
 use Rattle.pass.specs.laws.Passes.{Passed}
 use Rattle.pass.specs.laws.Prepare.{prepare-passed}
 use Rattle.calls.specs.Refuse.{entriesBut}
 use Rattle.calls.specs.Insert.{blossomRefusal, prepareStep, blossomPut, insertBlossom}
-use Rattle.calls.specs.inner.Keeps.{circleKeeps, blossomKeeps}
+use Rattle.calls.specs.Keeps.{circleKeeps, blossomKeeps}
 use Rattle.calls.specs.laws.Accepted.{BlossomAccepted, blossom-accepted, entries-passed}
 use Rattle.calls.specs.laws.Keeps.{refused-or}
 use Rattle.reachable.specs.Numbers.{SoundNumbers}

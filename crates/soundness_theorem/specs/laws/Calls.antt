@@ -19,7 +19,7 @@ use Rattle.graph.specs.laws.Opened.{emptied-sound}
 use Rattle.graph.specs.laws.Removed.{blank-removed}
 use Rattle.graph.specs.laws.Shape.{shape-state, emptied-shape, sound-active}
 use Rattle.pass.specs.Prepare.{prepareNode}
-use Rattle.pass.specs.inner.KeepsSound.{keepsSound}
+use Rattle.pass.specs.KeepsSound.{keepsSound}
 use Rattle.pass.specs.laws.Passes.{Passed}
 use Rattle.pass.specs.laws.Prepare.{prepare-passed}
 use Rattle.growth.specs.Growth.{growCheck}
@@ -27,7 +27,7 @@ use Rattle.answers.specs.declared.Answer.{Answer}
 use Rattle.answers.specs.Answer.{Reply, says}
 use Rattle.calls.specs.Refuse.{nodeRefusal, storeShort}
 use Rattle.calls.specs.Each.{setGrowState, prepareDualNodeGrowth, readied, maxUpdateLength, growPrepared, growToward, growDualNode, signedFor, follow, advanceBy, toward, advance, clear}
-use Rattle.calls.specs.inner.Keeps.{prepareKeeps, lengthKeeps, towardKeeps, growKeeps, followKeeps, movesKeeps, advanceKeeps}
+use Rattle.calls.specs.Keeps.{prepareKeeps, lengthKeeps, towardKeeps, growKeeps, followKeeps, movesKeeps, advanceKeeps}
 use Rattle.calls.specs.laws.Accepted.{NodeAccepted, node-accepted}
 use Rattle.calls.specs.laws.Keeps.{refused-or, answer-cases}
 use Rattle.calls.specs.laws.Shapes.{shape-prepared, shape-apply}

@@ -16,7 +16,7 @@ use Rattle.graph.specs.inner.Kept.{SameButHolders}
 use Rattle.graph.specs.laws.Members.{by-test, clash, or-cases, all-member, all-snoc, member-head, member-cons, member-nil, member-append-left, member-append-right}
 use Rattle.pass.specs.Work.{Work, onState, keep, keepOnce, note, startPass}
 use Rattle.pass.specs.Shrink.{emptyTops, belowTops, dropSide, dropStep, shrinkStep, closed, releaseSide, releaseStep, dropped, shrinkScanned, shrinkPass}
-use Rattle.pass.specs.inner.KeepsSound.{ownSide, ownVertex, mayGo, sideMayGo, passOwn}
+use Rattle.pass.specs.KeepsSound.{ownSide, ownVertex, mayGo, sideMayGo, passOwn}
 use Rattle.pass.specs.laws.Passes.{keeps-drop-step, keeps-shrink-step, keeps-release-step, dropped-keeps}
 use Rattle.pass.specs.laws.Fits.{Noted, noted-drop-step}
 use Rattle.reachable.specs.laws.shrink.FreeSides.{vertex-freed, vertex-other, vertex-sides, freeing, always, drop-freeing, release-freeing, Test, always-test, closed-test, SidesFreed, free-sides, keep-once-noted}

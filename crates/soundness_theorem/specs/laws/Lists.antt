@@ -20,7 +20,7 @@ use Rattle.graph.specs.laws.Sounds.{own-test, sound-test}
 use Rattle.pass.specs.Work.{Work, finishPass}
 use Rattle.pass.specs.Shrink.{shrinkPass}
 use Rattle.pass.specs.Prepare.{onePass, prepareFrom, prepareNode}
-use Rattle.pass.specs.inner.KeepsSound.{passOwn, passesOwn, holdsLists, keepsSound}
+use Rattle.pass.specs.KeepsSound.{passOwn, passesOwn, holdsLists, keepsSound}
 use Rattle.pass.specs.laws.KeepsSound.{passes-more, passes-last}
 use Rattle.pass.specs.laws.Passes.{Passed, shrink-passed}
 use Rattle.pass.specs.laws.Prepare.{passState, one-down, prepare-more, prepare-last, prepare-passed, prepare-leaves}

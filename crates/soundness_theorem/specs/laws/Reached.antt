@@ -14,7 +14,7 @@ use Rattle.graph.specs.laws.State.{and-right}
 use Rattle.graph.specs.laws.Members.{by-test, both, or-left, or-right, all-from, all-unmap, member-head, member-tail, member-cons, member-nil}
 use Rattle.pass.specs.Shrink.{emptyTops, shrinkPass}
 use Rattle.pass.specs.Prepare.{onePass, prepareNode}
-use Rattle.pass.specs.inner.KeepsSound.{ownSide, ownVertex, mayGo, sideMayGo, passOwn, passesOwn, holdsLists, keepsSound}
+use Rattle.pass.specs.KeepsSound.{ownSide, ownVertex, mayGo, sideMayGo, passOwn, passesOwn, holdsLists, keepsSound}
 use Rattle.pass.specs.laws.KeepsSound.{passes-more, passes-last}
 use Rattle.pass.specs.laws.Passes.{Passed}
 use Rattle.pass.specs.laws.Prepare.{passState, one-down, prepare-passed}
@@ -22,7 +22,7 @@ use Rattle.answers.specs.declared.Answer.{Answer}
 use Rattle.calls.specs.Refuse.{nodeRefusal, storeShort}
 use Rattle.calls.specs.Insert.{blossomRefusal, prepareStep}
 use Rattle.calls.specs.Each.{maxUpdateLength, signedFor, toward}
-use Rattle.calls.specs.inner.Keeps.{prepareKeeps, lengthKeeps, towardKeeps, growKeeps, followKeeps, movesKeeps, advanceKeeps, circleKeeps, blossomKeeps}
+use Rattle.calls.specs.Keeps.{prepareKeeps, lengthKeeps, towardKeeps, growKeeps, followKeeps, movesKeeps, advanceKeeps, circleKeeps, blossomKeeps}
 use Rattle.calls.specs.laws.Accepted.{NodeAccepted, node-accepted, BlossomAccepted, blossom-accepted}
 use Rattle.calls.specs.laws.Keeps.{refused-or-of, answer-cases}
 use Rattle.reachable.specs.Cluster.{stacked}

@@ -1,7 +1,7 @@
 use mathlib.Core.Path.{refl}
 use native.Mathlib.Omega.{arith}
 use Rattle.c_api.specs.laws.Words.{told-all}
-use Rattle.c_api_calls.specs.Listed.{listClear}
+use Rattle.c_api_calls.specs.ListCall.{listClear}
 use Rattle.c_api_calls.specs.Told.{ListedTold}
 use Rattle.c_api_calls.specs.Tests.{keeps}
 use Rattle.c_api_calls.specs.laws.Done.{call-done}

@@ -5,7 +5,7 @@ use mir.Val.{toZ, ofZ}
 use mir.Syntax.{w64}
 use native.Mathlib.Omega.{arith}
 use Rattle.c_api.specs.laws.Words.{told-all}
-use Rattle.c_api_calls.specs.Listed.{listGrow}
+use Rattle.c_api_calls.specs.ListCall.{listGrow}
 use Rattle.c_api_calls.specs.Told.{ListedTold}
 use Rattle.c_api_calls.specs.Tests.{keeps}
 use Rattle.c_api_calls.specs.laws.Done.{call-done}

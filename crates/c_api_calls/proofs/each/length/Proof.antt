@@ -1,7 +1,7 @@
 use native.Mathlib.Omega.{arith}
 use borrow.Author.Tests.{le-leb, lt-leb}
 use Rattle.c_api.specs.laws.Words.{told-all}
-use Rattle.c_api_calls.specs.Listed.{lengthCall, listLength}
+use Rattle.c_api_calls.specs.ListCall.{lengthCall, listLength}
 use Rattle.c_api_calls.specs.Told.{ListedTold}
 use Rattle.c_api_calls.specs.Tests.{keeps}
 use Rattle.c_api_calls.specs.laws.Done.{call-done, other-done}

@@ -15,7 +15,7 @@ use Rattle.answers.specs.Answer.{says}
 use Rattle.answers.proofs.Answer as Kinds
 use Rattle.answers.proofs.MaxUpdateLength as LengthKinds
 use Rattle.calls.specs.Calls.{maxUpdateLength, toward, follow}
-use Rattle.calls.specs.inner.Keeps.{followKeeps}
+use Rattle.calls.specs.Keeps.{followKeeps}
 use Rattle.calls.specs.laws.Advance.{length-below, advance-other, advance-free}
 use Rattle.calls.specs.laws.Keeps.{asked-as, asked-both, moves-handed, moves-followed}
 use borrow.Author.Needs.{needs, sfits-of}

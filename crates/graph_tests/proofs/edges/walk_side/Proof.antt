@@ -14,6 +14,7 @@ use native.Mathlib.Omega.{arith}
 use borrow.Author.Needs.{needs}
 use Rattle.graph_tests.proofs.edges.walk_side.Statement.{statement}
 use Rattle.graph_tests.proofs.edges.walk_side.Tie as tie
+use Rattle.graph.specs.Rows.{atRow}
 
 number-requires : tie.Need-number-requires
 unfolding Laid stateOf stateFrom
@@ -41,7 +42,7 @@ add-place c = let s = c .before .before .before .before .before .before in
     let p = c .before .before .wide .result in
     let b = s .args .b .now in
     let h = ltb-true p (sideCount (stateOf b))
-    (and-left (ltb p (sideCount (stateOf b))) (eqb (getD (row (rowsOf b) 9) p 0) (s .args .s)) (sym (c .before .placed-at .ensures) ∙ c .if1 .taken)) in
+    (and-left (ltb p (sideCount (stateOf b))) (eqb (getD (row (rowsOf b) atRow) p 0) (s .args .s)) (sym (c .before .placed-at .ensures) ∙ c .if1 .taken)) in
     omega (arith, h)
 
 place-requires : tie.Need-place-requires
@@ -50,7 +51,7 @@ place-requires c κs = let s = c .before .before .before .before .before .before
     let p = c .before .before .wide .result in
     let b = s .args .b .now in
     let h = ltb-true p (sideCount (stateOf b))
-    (and-left (ltb p (sideCount (stateOf b))) (eqb (getD (row (rowsOf b) 9) p 0) (s .args .s)) (sym (c .before .placed-at .ensures) ∙ c .if1 .taken)) in
+    (and-left (ltb p (sideCount (stateOf b))) (eqb (getD (row (rowsOf b) atRow) p 0) (s .args .s)) (sym (c .before .placed-at .ensures) ∙ c .if1 .taken)) in
     omega (arith, h)
 
 mul-next : tie.Need-mul-next

@@ -8,6 +8,7 @@ use Rattle.graph_tests.specs.laws.Range.{two-flags}
 use borrow.Author.Needs.{needs}
 use Rattle.graph_tests.proofs.vertices.vertex_numbers.Statement.{statement}
 use Rattle.graph_tests.proofs.vertices.vertex_numbers.Tie as tie
+use Rattle.graph.specs.Rows.{flagsRow}
 
 node-count-requires : tie.Need-node-count-requires
 node-count-requires c κs = search needs
@@ -26,7 +27,7 @@ unfolding vertexNumbers nodeOrNone stateOf stateFrom
 returns c = let s = c .before .before .before .before in
     let v = s .args .v in
     let r = s .pre .2 in
-    let l = row (rowsOf (s .args .b .now)) 1 in
+    let l = row (rowsOf (s .args .b .now)) flagsRow in
     rw (
       List·getD-map (λ x. x % 2) l v 0,
       List·getD-map (λ x. x / 2) l v 0,

@@ -10,6 +10,7 @@ use mathlib.Core.Path.{_≡_, sym, _∙_}
 use borrow.Author.Needs.{needs}
 use Rattle.memory_tests.proofs.sound.listed_sound.Statement.{statement}
 use Rattle.memory_tests.proofs.sound.listed_sound.Tie as tie
+use Rattle.graph.specs.Rows.{firstRow}
 
 graph-sound-requires : tie.Need-graph-sound-requires
 graph-sound-requires c κs = search needs
@@ -17,7 +18,7 @@ graph-sound-requires c κs = search needs
 whole-sound-requires : tie.Need-whole-sound-requires
 whole-sound-requires c κs = let s = c .before .before in
     let b = s .args .b .now in
-    let r = risingTo (row (rowsOf b) 4) (2 * eOf b) in
+    let r = risingTo (row (rowsOf b) firstRow) (2 * eOf b) in
     let e = allBelow (edgeSound (stateOf b)) (edgeCount (stateOf b)) in
     let v = allBelow (vertexSound (stateOf b)) (vertexCount (stateOf b)) in
     let h : r && (e && v) ≡ true = sym (c .before .graph-sound .ensures) ∙ c .if1 .taken in
@@ -26,7 +27,7 @@ whole-sound-requires c κs = let s = c .before .before in
 
 returns : tie.Need-returns
 returns c = let b = c .before .before .before .args .b .now in
-    let r = risingTo (row (rowsOf b) 4) (2 * eOf b) in
+    let r = risingTo (row (rowsOf b) firstRow) (2 * eOf b) in
     let g = allBelow (edgeSound (stateOf b)) (edgeCount (stateOf b)) && allBelow (vertexSound (stateOf b)) (vertexCount (stateOf b)) in
     let h : r ≡ true = and-left r g (sym (c .before .before .graph-sound .ensures) ∙ c .before .if1 .taken) in
     rw h (c .whole-sound .ensures)

@@ -1,5 +1,5 @@
 use borrow.Author.Needs.{needs}
-use Rattle.pass.specs.inner.KeepsSound.{holdsLists}
+use Rattle.pass.specs.KeepsSound.{holdsLists}
 use Rattle.prepare_tested.specs.laws.Cases.{and-same}
 use Rattle.prepare_tested.proofs.held.holds_lists.Statement.{statement}
 use Rattle.prepare_tested.proofs.held.holds_lists.Tie as tie

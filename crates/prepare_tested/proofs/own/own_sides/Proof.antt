@@ -6,7 +6,7 @@ use mathlib.Core.Bool.{true}
 use lib.ListN.{take}
 use Rattle.graph.specs.Basic.{all}
 use Rattle.graph.specs.State.{sidesAt}
-use Rattle.pass.specs.inner.KeepsSound.{ownSide}
+use Rattle.pass.specs.KeepsSound.{ownSide}
 use Rattle.graph.specs.Layout.{stateOf}
 use Rattle.graph.specs.laws.Scan.{list-more, list-fails, list-done}
 use Rattle.prepare_tested.proofs.own.own_sides.Statement.{statement}

@@ -1,5 +1,5 @@
 use borrow.Author.Needs.{needs}
-use Rattle.pass.specs.inner.KeepsSound.{passOwn}
+use Rattle.pass.specs.KeepsSound.{passOwn}
 use Rattle.prepare_tested.specs.laws.Cases.{and-same}
 use Rattle.prepare_tested.proofs.own.pass_own.Statement.{statement}
 use Rattle.prepare_tested.proofs.own.pass_own.Tie as tie

@@ -6,7 +6,7 @@ use mathlib.Core.Bool.{true}
 use lib.ListN.{take}
 use Rattle.graph.specs.Basic.{all}
 use Rattle.graph.specs.State.{boundaryOf}
-use Rattle.pass.specs.inner.KeepsSound.{sideMayGo}
+use Rattle.pass.specs.KeepsSound.{sideMayGo}
 use Rattle.graph.specs.Layout.{stateOf}
 use Rattle.graph.specs.laws.Scan.{list-more, list-fails, list-done}
 use Rattle.prepare_tested.proofs.own.sides_may_go.Statement.{statement}

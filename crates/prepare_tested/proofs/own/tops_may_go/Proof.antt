@@ -7,7 +7,7 @@ use lib.ListN.{take}
 use Rattle.graph.specs.Basic.{all}
 use Rattle.graph.specs.State.{vertexCount, overgrownOf}
 use Rattle.pass.specs.Shrink.{emptyTops}
-use Rattle.pass.specs.inner.KeepsSound.{mayGo}
+use Rattle.pass.specs.KeepsSound.{mayGo}
 use Rattle.shrink_pass.specs.laws.Top.{tops-le, top-at, stack-vertex}
 use Rattle.graph.specs.Layout.{stateOf, overgrownFrom}
 use Rattle.graph.specs.laws.Scan.{list-more, list-fails, list-done}

@@ -9,31 +9,31 @@ use Rattle.graph.specs.Basic.{if_then_else_, below}
 use Rattle.graph.specs.Word.{wordAt}
 
 -- a call of a list
-pub data Listed : Type 0 where
-  listDefect : ℕ → ℕ → Listed  -- vertex, state
-  listBlossom : ℕ → List ℤ → Listed  -- state, circle
-  listState : ℕ → ℕ → Listed  -- node, state
-  listPrepare : ℕ → ℕ → Listed  -- node, direction
-  listLength : ℕ → ℕ → Bool → Listed  -- node, direction, preparing first
-  listGrow : ℕ → ℤ → Listed  -- node, length
-  listAdvance : ℕ → Listed  -- node
-  listClear : Listed
-  listVertex : ℕ → Listed  -- node: its representative vertex
-  listNode : ℕ → Listed  -- node: what is stored of it
-  listGap : ℕ → Listed  -- edge
-  listOther : Listed  -- no call
+pub data ListCall : Type 0 where
+  listDefect : ℕ → ℕ → ListCall  -- vertex, state
+  listBlossom : ℕ → List ℤ → ListCall  -- state, circle
+  listState : ℕ → ℕ → ListCall  -- node, state
+  listPrepare : ℕ → ℕ → ListCall  -- node, direction
+  listLength : ℕ → ℕ → Bool → ListCall  -- node, direction, preparing first
+  listGrow : ℕ → ℤ → ListCall  -- node, length
+  listAdvance : ℕ → ListCall  -- node
+  listClear : ListCall
+  listVertex : ℕ → ListCall  -- node: its representative vertex
+  listNode : ℕ → ListCall  -- node: what is stored of it
+  listGap : ℕ → ListCall  -- edge
+  listOther : ListCall  -- no call
 
 -- a circle of z nodes that stand from place y on among those that are lent
-unfoldable pub circleCall : List ℤ → ℕ → ℕ → ℕ → Listed
+unfoldable pub circleCall : List ℤ → ℕ → ℕ → ℕ → ListCall
 circleCall circles x y z = if leb (y + z) (length circles) then listBlossom x (take z (drop y circles)) else listOther
 
 -- preparing first is 1 or 0
-unfoldable pub lengthCall : ℕ → ℕ → ℕ → Listed
+unfoldable pub lengthCall : ℕ → ℕ → ℕ → ListCall
 lengthCall x y z = if leb z 1 then listLength x y (eqb z 1) else listOther
 
 -- the call of four words: kinds are those of records (SPECIFICATION 10.2), and 14 to 16 for what is read
-unfoldable pub callOf : List ℤ → List ℤ → Listed
-callOf circles w =
+unfoldable pub listCallOf : List ℤ → List ℤ → ListCall
+listCallOf circles w =
     if eqb (wordAt w 0) 4 then listDefect (wordAt w 1) (wordAt w 2)
     else if eqb (wordAt w 0) 5 then circleCall circles (wordAt w 1) (wordAt w 2) (wordAt w 3)
     else if eqb (wordAt w 0) 6 then listState (wordAt w 1) (wordAt w 2)
@@ -48,9 +48,9 @@ callOf circles w =
     else listOther
 
 -- call number i of the words
-unfoldable pub callAt : List ℤ → List ℤ → ℕ → Listed
-callAt circles words i = callOf circles (take 4 (drop (4 * i) words))
+unfoldable pub listCallAt : List ℤ → List ℤ → ℕ → ListCall
+listCallAt circles words i = listCallOf circles (take 4 (drop (4 * i) words))
 
 -- the first n calls
-unfoldable pub callsIn : List ℤ → List ℤ → ℕ → List Listed
-callsIn circles words n = map (callAt circles words) (below n)
+unfoldable pub listCalls : List ℤ → List ℤ → ℕ → List ListCall
+listCalls circles words n = map (listCallAt circles words) (below n)
