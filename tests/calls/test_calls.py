@@ -60,18 +60,18 @@ class Random(Lists):
 class Tests(Random):
     def test_call_lists(self):
         SEEN.clear()
-        self.lists(120, 1)
+        self.lists(300, 1)
         self.assertGreater(min(SEEN[case] for case in CASES), 2, SEEN)
         self.assertGreater(min(SEEN[f'refused {k}'] for k in (3, 5, 6, 7, 8, 9, 10, 11)), 2, SEEN)
 
     def test_blocks_that_no_calls_reach(self):
         SEEN.clear()
-        self.states(400, 2)
+        self.states(1500, 2)
         self.assertGreater(min(SEEN[k] for k in ('2 tests', 'refused 2', 'over')), 2, SEEN)
 
     def test_damaged_blocks(self):
         SEEN.clear()
-        self.damaged(200, 3)
+        self.damaged(600, 3)
         self.assertGreater(min(SEEN[f'damaged, answers 11 {k}'] for k in (1, 2)), 5, SEEN)
 
     def test_soundness_is_lost_in_the_middle(self):
@@ -148,10 +148,10 @@ class Lent(Lists):
 
     def test_as_many_as_have_room(self):
         words, circles = self.list_of(*[(9, 0, 1, 0)] * 4)
-        for room in range(25):
+        for room in range(30):
             m, st = module_of(self.st), self.st.copy()
             self.assertEqual(self.listed(m, st, self.rng, words, circles, room), int(room >= 5))
-            self.assertEqual(st.nodes[0].dual, min(room // 5, 2))  # the third growth would pass the weight
+            self.assertEqual(st.nodes[0].dual, min(room // 5, 4))
         self.assertEqual(self.told(*self.list_of(), 5)[1], [20, 0, 0, 77, 77])
 
     def test_what_is_no_call_is_refused_3(self):

@@ -113,7 +113,7 @@ class Made(unittest.TestCase):
         calls.gap(3)
         made = cg.DualModule(4, TRIANGLE, virtual=[3]).calls(calls)
         want = [0, 1, 2, None, 1, cg.Free(2), 3, cg.Moved(20), cg.TouchingVirtual(3, 2, 3), 1]
-        want += [cg.Node(3, None, 1, 1, None, 20), cg.Node(1, 1, None, 0, 3, 0), cg.Free(20), None, cg.Left(4), None]
+        want += [cg.Node(3, None, 1, 1, None, 20), cg.Node(1, 1, None, 0, 3, 0), cg.Free(20), None, cg.Inner(), None]
         self.assertEqual((made.answers, made.tests), (want + [cg.Left(20)], 1))
 
     def test_each_gives_what_its_method_returns(self):
