@@ -1,14 +1,15 @@
 #!/usr/bin/env python3
 """Times programs on one long stream of records, as whole processes.
 
-    bench/program.py PROGRAM [PROGRAM ..]
+    bench/program.py COMMAND [COMMAND ..]
 
-The stream has decoding runs of accepted calls on a strip of V 58, E 85, again and again: about 480,000 records, from a
-file, with the lines to /dev/null. Runs alternate; each number is the best of 9, and the ratio is that to the first
-program. All must write the same lines.
+A command is a program and its words, as 'target/bin/cardrun' or 'differential lines'. The stream has decoding runs of accepted calls on a strip of V 58, E 85, again and again: about 480,000 records, from a
+file, with the lines to /dev/null. Runs alternate; each number is the best of 9, and the ratio is that to the last
+command. All must write the same lines. Prints a row of a table for each.
 """
 import os
 import random
+import shlex
 import struct
 import subprocess
 import sys
@@ -53,21 +54,24 @@ def stream():
 
 def main():
     programs = sys.argv[1:]
+    if not programs:
+        sys.exit(__doc__)
     data, count = stream()
     with tempfile.NamedTemporaryFile() as f:
         f.write(data)
         f.flush()
-        told = [subprocess.run([p], stdin=open(f.name), stdout=subprocess.PIPE).stdout for p in programs]
+        told = [subprocess.run(shlex.split(p), stdin=open(f.name), stdout=subprocess.PIPE).stdout for p in programs]
         assert len(set(told)) == 1, "other lines"
         best = dict.fromkeys(programs, 1e9)
         for _ in range(RUNS):
             for p in programs:
                 start = time.perf_counter()
-                subprocess.run([p], stdin=open(f.name), stdout=subprocess.DEVNULL, check=True)
+                subprocess.run(shlex.split(p), stdin=open(f.name), stdout=subprocess.DEVNULL, check=True)
                 best[p] = min(best[p], time.perf_counter() - start)
-    print(f"{count} calls, {len(data)} bytes")
+    print(f"{count} calls, {len(data)} bytes\n\n| program | seconds | ns a call | ratio |\n|---|---|---|---|")
     for p in programs:
-        print(f"{p}: {best[p]:.3f} s, {best[p] / count * 1e9:.0f} ns a call, {best[p] / best[programs[0]]:.2f}")
+        name = " ".join([os.path.basename(shlex.split(p)[0])] + shlex.split(p)[1:])
+        print(f"| `{name}` | {best[p]:.3f} | {best[p] / count * 1e9:.0f} | {best[p] / best[programs[-1]]:.2f} |")
 
 
 if __name__ == "__main__":

@@ -25,8 +25,10 @@ macro_rules! rust_time {
     }};
 }
 
+pub(crate) use rust_time;
+
 /// Seconds for all calls, the cases of the answers, and the block that they leave.
-fn port_time(records: &[Record], calls: &[(u16, Vec<i32>, Vec<i64>)]) -> (f64, Vec<usize>, Vec<i64>) {
+pub fn port_time(records: &[Record], calls: &[(u16, Vec<i32>, Vec<i64>)]) -> (f64, Vec<usize>, Vec<i64>) {
     let mut lent = Lent::open(records);
     let mut codes = vec![0; calls.len()];
     let t = Instant::now();

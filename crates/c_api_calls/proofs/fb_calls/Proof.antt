@@ -1,3 +1,5 @@
+use mathlib.Core.Path.{refl}
+use Rattle.c_api.specs.laws.Words.{told-short, told-all}
 use borrow.Author.Needs.{needs}
 use Rattle.c_api_calls.proofs.fb_calls.Statement.{statement}
 use Rattle.c_api_calls.proofs.fb_calls.Tie as tie
@@ -9,7 +11,7 @@ same-length : tie.Need-same-length
 same-length c = search needs
 
 returns : tie.Need-returns
-returns c = ?
+returns c = told-short (c .before .before .before .before .if1 .taken) (c .before .before .refuse-short .ensures) ((refl, refl), refl)
 
 make-calls-requires : tie.Need-make-calls-requires
 make-calls-requires c κs = search needs
@@ -30,7 +32,7 @@ same-length-5 : tie.Need-same-length-5
 same-length-5 c = search needs
 
 returns-2 : tie.Need-returns-2
-returns-2 c = ?
+returns-2 c = told-all (search needs) _ (c .before .before .before .before .before .before .before .before .make-calls .ensures) (c .before .before .tell-calls .ensures)
 
 pub fb-calls-spec : {M : Type 1} → statement M
 fb-calls-spec =

@@ -1,3 +1,4 @@
+use Prim.Native.Nat.{_+_}
 use native.Mathlib.Omega.{arith}
 use mathlib.Core.Path.{sym, ap, _∙_}
 use Rattle.c_api_calls.specs.laws.Left.{made-steps, refused-steps}
@@ -34,7 +35,9 @@ returns c =
 
 make-requires : tie.Need-make-requires
 make-requires c κs =
-    let s = c .before .before .before .before .before .before .before .before .before in ?
+    let s = c .before .before .before .before .before .before .before .before .before in
+    let t = c .before .before .before .before .before .test .ensures in
+    (record { accepted = t .0 .sounds (c .before .before .before .if1 .left); cleared = λ h. s .pre .0 .cleared (sym (t .2) ∙ h) }, s .pre .3, s .pre .4)
 
 add-t24 : tie.Need-add-t24
 add-t24 c = search needs

@@ -1,3 +1,7 @@
+use mathlib.Core.Path.{sym, ap}
+use Rattle.answers.specs.Numbers.{answerNumbers}
+use Rattle.answers.specs.laws.Numbers.{tells-as}
+use Rattle.c_api_calls.specs.Told.{callsNumbers}
 use borrow.Author.Needs.{needs}
 use Rattle.c_api_calls.proofs.tell_calls.Statement.{statement}
 use Rattle.c_api_calls.proofs.tell_calls.Tie as tie
@@ -24,13 +28,15 @@ same-length : tie.Need-same-length
 same-length c = search needs
 
 returns : tie.Need-returns
-returns c = ?
+unfolding callsNumbers
+returns c = tells-as (c .before .before .front .ensures) (ap callsNumbers (sym (c .before .before .before .before .before .before .a .given .1)))
 
 same-length-2 : tie.Need-same-length-2
 same-length-2 c = search needs
 
 returns-2 : tie.Need-returns-2
-returns-2 c = ?
+unfolding callsNumbers answerNumbers
+returns-2 c = tells-as (c .before .before .front2 .ensures) (ap callsNumbers (sym (c .before .before .before .before .before .before .a2 .given .1)))
 
 pub tell-calls-spec : {M : Type 1} → statement M
 tell-calls-spec =

@@ -1,5 +1,5 @@
 -- The calls of a list, one after another.
-use Prim.Native.Nat.{ℕ, zero, suc, _+_, _*_, _≤_, _<_, _%_, min}
+use Prim.Native.Nat.{ℕ, zero, suc, _+_, _-_, _*_, _≤_, _<_, _%_, min}
 use native.Mathlib.Omega.{arith}
 use native.Mathlib.Numerals.{add-one}
 use mathlib.Core.Path.{_≡_, refl, sym, ap, subst, _∙_}
@@ -7,8 +7,8 @@ use mathlib.Core.Logic.{_≢_}
 use mathlib.Core.Bool.{Bool, true, false}
 use mathlib.Core.List.{List, [], _∷_, _++_, map}
 use lib.IntN.{ℤ}
-use lib.ListN.{length, take, drop, getD, length-map, length-take, drop-of-length-le}
-use lib.Seq.{take-suc, drop-cons, take-all}
+use lib.ListN.{length, take, drop, getD, length-map, length-take, length-drop, drop-of-length-le}
+use lib.Seq.{take-suc, drop-cons, drop-drop, take-all}
 use Rattle.graph.specs.Basic.{if_then_else_, below}
 use lib.Dec.{eqb}
 use Rattle.graph.specs.laws.State.{if-both}
@@ -41,13 +41,22 @@ module _ (circles words : List ℤ) (n : ℕ) where
 
 -- ---- one of them
 
+-- a part of a list that ends within it
+pub part-length : {A : Type 0} (l : List A) (n k : ℕ) → n + k ≤ length l → length (take (n + k - n) (drop n l)) ≡ k
+part-length l n k h = omega (arith, length-take (n + k - n) (drop n l), length-drop n l, h)
+
 -- call number i by its own words
 pub stepped-at : {b t b' t' : List ℤ} {answers part : List ℕ} {tests refusal tests' refusal' : ℕ} {known known' zero' : Bool} (words circles : List ℤ) (i : ℕ)
     → length part ≡ 5
-    → CallStepped b t (listCallOf circles (take 4 (drop (4 * i) words))) b' t' (take 5 (drop (5 * i) answers)) part tests refusal known tests' refusal' known' zero'
-    → CallSteppedAt b t (listCallAt circles words i) b' t' i answers (withPart answers (5 * i) part) tests refusal known tests' refusal' known' zero'
+    → CallStepped b t (listCallOf circles (take (4 * i + 4 - 4 * i) (drop (4 * i) words))) b' t' (take (5 * i + 5 - 5 * i) (drop (5 * i) answers)) part
+    tests refusal known tests' refusal' known' zero'
+    → CallSteppedAt b t (listCallAt circles words i) b' t' i answers (take (5 * i) answers ++ (part ++ drop (5 * i + 5 - 5 * i) (drop (5 * i) answers)))
+    tests refusal known tests' refusal' known' zero'
 unfolding listCallAt
-stepped-at {part = part} words circles i h p = record { part = part; five = h; answers-are = refl; stepped = p }
+stepped-at {answers = answers} {part = part} words circles i h p =
+    let e : 4 * i + 4 - 4 * i ≡ 4 = omega arith in
+    let f : 5 * i + 5 - 5 * i ≡ 5 = omega arith in
+    record { part = part; five = h; answers-are = rw (f, drop-drop 5 (5 * i) answers) refl; stepped = rw (e, f) at p }
 
 -- a call that is made is there, and has room for its answer
 pub count-below : (words : List ℤ) (answers : List ℕ) {m i : ℕ} → m ≡ callCount words answers → i < m → (4 * i + 4 ≤ length words) × (5 * i + 5 ≤ length answers)
