@@ -33,16 +33,16 @@ class Random(Lists):
                     self.call(m, st, rng, *compare.call(rng, st))
 
     def states(self, count, seed):
-        """On blocks that no calls reach, sound or not."""
+        """On blocks that no calls reach, sound or not, and on damaged ones."""
         rng = random.Random(seed)
+        self.damaged(count // 3, rng)
         for _ in range(count):
             st = compare.unreached(rng) if rng.random() < 0.8 else compare.changed(rng)
             if sum(len(n.boundary) + len(n.overgrown) for n in st.nodes) <= st.L:  # else the store has no room for them
                 self.random_list(module_of(st), st, rng, shrinks=0.6)
 
-    def damaged(self, count, seed):
-        """On blocks with words changed, against single calls alone."""
-        rng = random.Random(seed)
+    def damaged(self, count, rng):
+        """Blocks with words changed, against single calls alone."""
         for _ in range(count):
             st = compare.unreached(rng)
             m = module_of(st)
@@ -68,10 +68,6 @@ class Tests(Random):
         SEEN.clear()
         self.states(1500, 2)
         self.assertGreater(min(SEEN[k] for k in ('2 tests', 'refused 2', 'over')), 2, SEEN)
-
-    def test_damaged_blocks(self):
-        SEEN.clear()
-        self.damaged(600, 3)
         self.assertGreater(min(SEEN[f'damaged, answers 11 {k}'] for k in (1, 2)), 5, SEEN)
 
     def test_soundness_is_lost_in_the_middle(self):
