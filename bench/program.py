@@ -3,9 +3,10 @@
 
     bench/program.py COMMAND [COMMAND ..]
 
-A command is a program and its words, as 'target/bin/cardrun' or 'differential lines'. The stream has decoding runs of accepted calls on a strip of V 58, E 85, again and again: about 480,000 records, from a
-file, with the lines to /dev/null. Runs alternate; each number is the best of 9, and the ratio is that to the last
-command. All must write the same lines. Prints a row of a table for each.
+A command is a program and its words, as 'target/bin/cardrun' or 'differential lines'. The stream has decoding runs of
+accepted calls on a strip of V 58, E 85, again and again: about 480,000 records, from a file, with the lines to
+/dev/null. Runs alternate; each number is the best of 9, and the ratio is that to the last command. All must write the
+same lines. Prints a row of a table for each.
 """
 import os
 import random

@@ -5,7 +5,7 @@ use crate::library_speed::{port_time, rust_time};
 use crate::random::Random;
 use crate::records::{fields, kind, Record};
 use crate::streams;
-use crate::timed::ROUNDS;
+use crate::timed::{ROUNDS, SIZES};
 use std::time::Instant;
 
 /// Calls to a list.
@@ -65,8 +65,7 @@ pub fn table() {
     );
     let mut tests = vec![];
     let r = &mut Random::new(8);
-    let sizes = [(7, 1, 32, 2_000), (11, 1, 64, 4_000), (15, 1, 64, 8_000), (7, 7, 64, 8_000), (11, 11, 128, 40_000), (15, 8, 128, 50_000)];
-    for (d, rounds, n, l) in sizes {
+    for (d, rounds, n, l) in SIZES {
         let g = graphs::large(r, d, rounds, false, Weights::Even);
         let name = format!("distance {d}, {rounds} round{}: V {}, E {}", if rounds > 1 { "s" } else { "" }, g.v, g.edges.len());
         tests.push(row(&name, &streams::decoding(d as u64, &g, 2_000, n, l)));
