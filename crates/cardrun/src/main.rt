@@ -15,9 +15,9 @@ use libc::STDIN_FILENO;
 use libc::STDOUT_FILENO;
 use lines_export::stream;
 use lines_export::stream::Step;
-use record_step::one_record;
-use record_step::one_record::After;
-use record_step::one_record::Run;
+use record_run::run;
+use record_run::run::After;
+use record_run::run::Run;
 use records::lines::Out;
 
 // ---- input
@@ -184,7 +184,7 @@ fn tell_cut(lines: &mut [u8], r: Run) -> After
         ⌜ (take (x .out .at) (now (lines .exit)) ≡ joinedLines (ends (r .record + 1) 3 .lines))
         × (x .out .at ≤ length (now (lines .exit))) × (x .run .stage ≡ 3) × (x .run .record ≡ r .record + 1) ⌝ }
 {
-    one_record::cut(lines, r, Out { at: 0, full: false })
+    run::cut(lines, r, Out { at: 0, full: false })
 }
 
 // The input ends with n bytes at hand, which are no whole record.
@@ -240,7 +240,7 @@ fn take_input(
 )
     requires { ⌜ (length (now input) ≡ 131072) × (16384 ≤ length (now lines)) × MemorySuffices (now block) (now scratch) (now edges) (now virtuals) ⌝ }
 {
-    let mut r = one_record::fresh();
+    let mut r = run::fresh();
     let mut n = 0;
     let mut count = 0;
     while (r.stage < 3) & (count < 9223372036854775807) {

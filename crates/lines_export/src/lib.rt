@@ -10,8 +10,8 @@ ghost use Rattle.records.specs.Write.{LinesPut};
 pub mod stream;
 
 use crate::stream::Step;
-use record_step::one_record;
-use record_step::one_record::Run;
+use record_run::run;
+use record_run::run::Run;
 use records::lines::Out;
 
 // Input that ends inside a record.
@@ -22,7 +22,7 @@ fn cut(records: &[u8], i: usize, r: Run, o: Out, lines: &mut [u8]) -> Step
         (ends (r .record + 1) 3 .lines)
         × (x .run .stage ≡ 3) × (x .run .record ≡ r .record + 1) × (x .at ≡ length (now (records .entry))) ⌝ }
 {
-    let t = one_record::cut(lines, r, o);
+    let t = run::cut(lines, r, o);
     let p = t.run;
     let q = t.out;
     Step {
@@ -72,7 +72,7 @@ fn write_lines(
     requires { ⌜ MemorySuffices (now block) (now scratch) (now edges) (now virtuals) ⌝ }
     ensures { λ r. ⌜ LinesCalled (now (records .entry)) (now (lines .entry)) (now (lines .exit)) r ⌝ }
 {
-    let mut r = one_record::fresh();
+    let mut r = run::fresh();
     let mut o = Out { at: 0, full: false };
     let mut i = 0;
     while (i < records.len()) & (r.stage < 3) & !o.full {

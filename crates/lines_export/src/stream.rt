@@ -7,8 +7,8 @@ ghost use lib.ListN.{length, take, drop};
 ghost use Rattle.records.specs.Record.{pairAt, decoded};
 ghost use Rattle.record_step.specs.Standing.{memory, Standing, MemorySuffices, RecordStepped};
 ghost use Rattle.lines_export.specs.Whole.{wholeAt};
+use record_run::run::Run;
 use record_step::one_record;
-use record_step::one_record::Run;
 use records::bytes;
 use records::lines::Out;
 

@@ -4,9 +4,9 @@ use lib.ListN.{length}
 use mir.Facts.{toZ-ofZ}
 use borrow.Author.Needs.{sfits-of, needs}
 use Rattle.records.specs.Record.{fieldCounts, signed}
-use Rattle.record_step.specs.laws.Asking.{fields-of, opened-usable, last-kind, answers-defect, answers-state, answers-prepare, answers-length, answers-grow, answers-advance, answers-clear}
-use Rattle.record_step.proofs.one_record.call.Statement.{statement}
-use Rattle.record_step.proofs.one_record.call.Tie as tie
+use Rattle.record_call.specs.laws.Asking.{fields-of, opened-usable, last-kind, answers-defect, answers-state, answers-prepare, answers-length, answers-grow, answers-advance, answers-clear}
+use Rattle.record_call.proofs.one_call.call.Statement.{statement}
+use Rattle.record_call.proofs.one_call.call.Tie as tie
 
 field-requires : tie.Need-field-requires
 unfolding fieldCounts

@@ -1,9 +1,9 @@
 use native.Mathlib.Omega.{arith}
 use mathlib.Core.Path.{refl}
-use Rattle.record_step.specs.laws.Asking.{circle-length, circle-part, opened-usable, answers-blossom}
+use Rattle.record_call.specs.laws.Asking.{circle-length, circle-part, opened-usable, answers-blossom}
 use borrow.Author.Needs.{needs}
-use Rattle.record_step.proofs.one_record.blossom_in.Statement.{statement}
-use Rattle.record_step.proofs.one_record.blossom_in.Tie as tie
+use Rattle.record_call.proofs.one_call.blossom_in.Statement.{statement}
+use Rattle.record_call.proofs.one_call.blossom_in.Tie as tie
 
 circle-into-requires : tie.Need-circle-into-requires
 circle-into-requires c κs = search needs

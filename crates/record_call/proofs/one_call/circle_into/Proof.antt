@@ -6,9 +6,9 @@ use mathlib.Core.List.{_++_, map}
 use lib.ListN.{length, take}
 use Rattle.graph.specs.Word.{toNat}
 use Rattle.records.specs.Record.{fields}
-use Rattle.record_step.specs.laws.Asking.{circle-length, circle-none, circle-more, circle-all}
-use Rattle.record_step.proofs.one_record.circle_into.Statement.{statement}
-use Rattle.record_step.proofs.one_record.circle_into.Tie as tie
+use Rattle.record_call.specs.laws.Asking.{circle-length, circle-none, circle-more, circle-all}
+use Rattle.record_call.proofs.one_call.circle_into.Statement.{statement}
+use Rattle.record_call.proofs.one_call.circle_into.Tie as tie
 
 abbrev Inv-loop : tie.InvT-loop
 Inv-loop c₀ body k i₀ c i = (i ≤ k) × (map toNat (take i c) ++ fields (k - i) body (i + 1) ≡ fields k body 1) × (length c ≡ length c₀)

@@ -1,9 +1,9 @@
 use mathlib.Core.Path.{refl}
 use Rattle.records.specs.laws.Write.{told-lines}
-use Rattle.record_step.specs.laws.Standing.{ends-line}
+use Rattle.record_run.specs.laws.Ends.{ends-line}
 use borrow.Author.Needs.{needs}
-use Rattle.record_step.proofs.one_record.stop.Statement.{statement}
-use Rattle.record_step.proofs.one_record.stop.Tie as tie
+use Rattle.record_run.proofs.run.stop.Statement.{statement}
+use Rattle.record_run.proofs.run.stop.Tie as tie
 
 answer-requires : tie.Need-answer-requires
 answer-requires c κs = search needs
