@@ -1,7 +1,7 @@
 use mathlib.Core.Path.{refl}
-use Rattle.tablecheck.specs.File.{fileSizes}
-use Rattle.tablecheck.proofs.sizes_fit.Statement.{statement}
-use Rattle.tablecheck.proofs.sizes_fit.Tie as tie
+use Rattle.table_file.specs.File.{fileSizes}
+use Rattle.table_file.proofs.sizes_fit.Statement.{statement}
+use Rattle.table_file.proofs.sizes_fit.Tie as tie
 
 returns : tie.Need-returns
 unfolding fileSizes

@@ -2,10 +2,10 @@ use native.Mathlib.Omega.{arith}
 use mathlib.Core.Path.{refl}
 use native.Mathlib.Nat.{mul-le-mul}
 use Prim.Native.Nat.{_*_, _≤_}
-use Rattle.tablecheck.specs.File.{fileWords}
+use Rattle.table_file.specs.File.{fileWords}
 use borrow.Author.Needs.{needs}
-use Rattle.tablecheck.proofs.words_of.Statement.{statement}
-use Rattle.tablecheck.proofs.words_of.Tie as tie
+use Rattle.table_file.proofs.words_of.Statement.{statement}
+use Rattle.table_file.proofs.words_of.Tie as tie
 
 mul-result : tie.Need-mul-result
 mul-result c = search needs

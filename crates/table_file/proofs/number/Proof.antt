@@ -1,8 +1,8 @@
 use mathlib.Core.Path.{sym, ap}
-use Rattle.tablecheck.specs.File.{verdictNumber}
+use Rattle.table_file.specs.File.{verdictNumber}
 use borrow.Author.Needs.{needs}
-use Rattle.tablecheck.proofs.number.Statement.{statement}
-use Rattle.tablecheck.proofs.number.Tie as tie
+use Rattle.table_file.proofs.number.Statement.{statement}
+use Rattle.table_file.proofs.number.Tie as tie
 
 enum-told : tie.Need-enum-told
 enum-told c = search needs
