@@ -100,7 +100,7 @@ class Lists(unittest.TestCase):
         for given, at in ((GROWN, '6'), (text.parse(GROWN.encode()).records(), ' record 9')):
             with mock.patch.object(DualModule, 'calls', changed):
                 status, said, wrong = card('run', '-', '--batch', '3', given=given)
-            words = 'by fb_calls the call answers refused 6 (in a list); the run has done'
+            words = 'made again by fb_calls, the call answers refused 6; the run has done'
             self.assertEqual((status, wrong), (1, f'standard input:{at}: {words}\n'))
             self.assertNotIn('the same', said)
 
@@ -110,7 +110,9 @@ class Lists(unittest.TestCase):
         with mock.patch.object(batches.Batches, 'make', lambda self: None), self.assertRaises(made.NoAnswer) as caught:
             batches.Batches(run, 3)
         self.assertEqual(caught.exception.line, 8)
-        self.assertIn('(alone); the run has edge 0 0 2, edge 1 2 2, edge 2 2 0', str(caught.exception))
+        said = 'made again alone, the call answers edge 0 0 0, edge 1 0 0, edge 2 0 0; '
+        said += 'the run has edge 0 0 2, edge 1 2 2, edge 2 2 0'
+        self.assertEqual(str(caught.exception), said)
 
 
 class Ends(unittest.TestCase):

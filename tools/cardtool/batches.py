@@ -39,7 +39,7 @@ class Batches:
             return
         said = self.module.calls(self.listed)
         for item, answer in zip(self.waiting, said.answers):
-            self.compare(item, [str(answer)], 'in a list')
+            self.compare(item, [str(answer)], 'by fb_calls')
         self.calls, self.lists, self.tests = self.calls + len(self.waiting), self.lists + 1, self.tests + said.tests
         self.listed, self.waiting = CallList(), []
 
@@ -48,7 +48,7 @@ class Batches:
         want = self.run.answers.get(item.number, [])
         if said != want:
             lines = [', '.join(x) or 'nothing' for x in (said, want)]
-            raise NoAnswer(f'by fb_calls the call answers {lines[0]} ({how}); the run has {lines[1]}', where(item))
+            raise NoAnswer(f'made again {how}, the call answers {lines[0]}; the run has {lines[1]}', where(item))
 
     def line(self):
         """What came of it, in words."""
