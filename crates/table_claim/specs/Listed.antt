@@ -30,7 +30,7 @@ pub data Exchanges : List ListCall → List ℕ → List ℕ → List HostExchan
       → exported t c ≡ (k ∷ []) → length part ≡ 5 → length part' ≡ 5 → Exchanges cs rest rest' xs
       → Exchanges (c ∷ cs) (part ++ rest) (part' ++ rest')
       (record { call = k; list = part; got = record { told = part'; count = count; words = [] } } ∷ xs)
-  no-call-next : {cs : List ListCall} {part part' rest rest' : List ℕ} {xs : List HostExchange}
+  no-call-next : {cs : List ListCall} (part part' : List ℕ) {rest rest' : List ℕ} {xs : List HostExchange}
       → length part ≡ 5 → length part' ≡ 5 → Exchanges cs rest rest' xs
       → Exchanges (listOther ∷ cs) (part ++ rest) (part' ++ rest') xs
 

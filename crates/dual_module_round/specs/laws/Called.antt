@@ -33,7 +33,8 @@ use Rattle.calls.specs.Refuse.{unless}
 use Rattle.calls.specs.inner.Reply.{Replies, Usable}
 use Rattle.calls.specs.Round.{refusalOf, tried, preparedAll, prepareAll, round, renewActiveList, GroupReply, answersOf, groupOf, isRefused, groupRefusal, groupLength}
 use Rattle.calls.specs.laws.Grouped.{of-answered}
-use Rattle.round_trial.specs.inner.Step.{wholeTrial, TriedTo}
+use Rattle.round_trial.specs.Trial.{wholeTrial}
+use Rattle.round_trial.specs.inner.Step.{TriedTo}
 use Rattle.round_list.specs.Asked.{listedFrom}
 use Rattle.round.specs.inner.Group.{GroupTried}
 use Rattle.round_trial.specs.laws.InTurn.{turned-none, turned-some}

@@ -29,7 +29,8 @@ use Rattle.calls.specs.inner.Reply.{Usable}
 use Rattle.calls.specs.Round.{Tried, begun, tryAll, noneOf, soundAgain, inTurn, preparedAll, movedAll}
 use Rattle.calls.specs.laws.Phase.{renewed-phase}
 use Rattle.calls.specs.laws.Trial.{try-keeps}
-use Rattle.round_trial.specs.inner.Step.{nodeCall, grownFrom, wholeTrial, TriedTo, CallsPossible, Shrunk}
+use Rattle.round_trial.specs.Trial.{nodeCall, wholeTrial}
+use Rattle.round_trial.specs.inner.Step.{grownFrom, TriedTo, CallsPossible, Shrunk}
 use Rattle.round_trial.specs.laws.Step.{SameActive, turn-same}
 use Rattle.round_trial.specs.laws.Trying.{try-refused}
 

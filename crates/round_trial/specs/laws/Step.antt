@@ -32,7 +32,8 @@ use Rattle.calls.specs.laws.Phase.{phase-prepare, phase-toward, StillSound, sti
 use Rattle.calls.specs.inner.Phase.{Phase}
 use Rattle.calls.specs.laws.Replies.{usable-steady}
 use Rattle.calls.specs.laws.Sounds.{apply-applied, apply-states}
-use Rattle.round_trial.specs.inner.Step.{nodeCall, nodeCallAt, TriedTo, CallsPossible}
+use Rattle.round_trial.specs.Trial.{nodeCall}
+use Rattle.round_trial.specs.inner.Step.{nodeCallAt, TriedTo, CallsPossible}
 
 -- ---- what a call leaves alone
 

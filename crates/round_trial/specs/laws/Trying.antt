@@ -23,7 +23,8 @@ use Rattle.graph.specs.laws.Scan.{list-at}
 use Rattle.answers.specs.Answer.{Reply}
 use Rattle.calls.specs.Calls.{toward}
 use Rattle.calls.specs.Round.{Tried, begun, triedBy, tryStep, tryAll, noneOf}
-use Rattle.round_trial.specs.inner.Step.{nodeCall, nodeCallAt, TriedTo, CallsPossible}
+use Rattle.round_trial.specs.Trial.{nodeCall}
+use Rattle.round_trial.specs.inner.Step.{nodeCallAt, TriedTo, CallsPossible}
 use Rattle.round_trial.specs.laws.Step.{SameActive, at-same, going-on}
 
 -- a trial that was refused stays as it is

@@ -36,16 +36,17 @@ one-hosted b t b' t' part part' count listOther p = rw (p .1 .0) not-hosted
 
 -- ---- all of them
 
-one-joined : {b t b₁ b₂ : List ℤ} {c : ListCall} {cs : List ListCall} {part part' rest rest' : List ℕ} {count : ℕ}
+one-joined : {b t b₁ b₂ : List ℤ} {c : ListCall} {cs : List ListCall} (part part' : List ℕ) {rest rest' : List ℕ} {count : ℕ}
     → length part ≡ 5 → length part' ≡ 5 → OneHosted b t c b₁ part part' count → HostCalls b₁ cs rest rest' b₂
     → HostCalls b (c ∷ cs) (part ++ rest) (part' ++ rest') b₂
-one-joined l l' (hosted k e s) q = record { exchanges = _; are = call-next _ e l l' (q .are); steps = one-more s (q .steps) }
-one-joined l l' not-hosted q = record { exchanges = q .exchanges; are = no-call-next l l' (q .are); steps = q .steps }
+one-joined part part' l l' (hosted k e s) q = record { exchanges = _; are = call-next _ e l l' (q .are); steps = one-more s (q .steps) }
+one-joined part part' l l' not-hosted q = record { exchanges = q .exchanges; are = no-call-next part part' l l' (q .are); steps = q .steps }
 
 pub listed-steps : {b t b' t' : List ℤ} {cs : List ListCall} {answers answers' : List ℕ} → ListedSteps b t cs answers b' t' answers'
     → HostCalls b cs answers answers' b'
 listed-steps no-call = record { exchanges = []; are = none-left; steps = no-more }
-listed-steps (next-call {c = c} l l' p rest) = one-joined l l' (one-hosted _ _ _ _ _ _ (p .count) c (p .promise)) (listed-steps rest)
+listed-steps (next-call {c = c} {part = part} {part' = part'} l l' p rest) =
+    one-joined part part' l l' (one-hosted _ _ _ _ _ _ (p .count) c (p .promise)) (listed-steps rest)
 
 -- steps behind steps
 pub steps-join : {b b₁ b₂ : List ℤ} {xs ys : List HostExchange} → HostSteps b xs b₁ → HostSteps b₁ ys b₂ → HostSteps b (xs ++ ys) b₂
