@@ -12,7 +12,7 @@ cp -r "$root/crates" "$root/crates.txt" "$work"
 git init -q "$work"
 cp -r "$here/cores" "$work/crates/cores"
 find "$work/crates/cores" -name '*.txt' | while read -r f; do mv "$f" "${f%.txt}"; done
-echo "cores: graph open_graph pass answers update_length growth calls blossom reachable records record_step" >> "$work/crates.txt"
+echo "cores: graph open_graph pass answers update_length growth calls blossom reachable records record_call record_step" >> "$work/crates.txt"
 (cd "$work" && rt staticlib cores > build.log 2>&1) || { tail "$work/build.log"; exit 1; }
 mkdir -p "$root/target/staticlib"
 cp "$work/target/staticlib/libcores.a" "$root/target/staticlib/libcores.a"

@@ -1,26 +1,21 @@
 #!/bin/sh
-# Builds an archive with the soundness test exported for C, and times it (soundness.c). Needs the Rattle toolchain and
-# gcc.
+# Times the soundness test alone by block size, with two archives of the library in turn (soundness.c).
+#
+#   bench/soundness.sh BEFORE [AFTER]     each a libfusion_blossom.a as tools/build-library.sh writes it; without AFTER
+#                                         that of this tree, which is built first
+#
+# Needs gcc; to build the library also the Rattle toolchain.
 set -e
 here=$(cd "$(dirname "$0")" && pwd)
+[ $# -eq 1 ] || [ $# -eq 2 ] || { sed -n '2,7p' "$0"; exit 2; }
 work=$(mktemp -d)
 trap 'rm -rf "$work"' EXIT
-cp -r "$here/../crates" "$here/../crates.txt" "$work"
-[ -d "$here/../target" ] && cp -r "$here/../target" "$work"
-git init -q "$work"
-mkdir -p "$work/crates/exported/src"
-echo "exported: graph memory_tests" >> "$work/crates.txt"
-cat > "$work/crates/exported/src/lib.rt" <<'RT'
-// The soundness test for C.
-ghost use mathlib.Core.Path.{_≡_};
-ghost use Rattle.graph.specs.Layout.{memoryRefusal};
-#[no_mangle]
-pub extern "C" fn memory_refusal(b: &[i64], t: &[i64]) -> usize
-    ensures { λ r. ⌜ r ≡ memoryRefusal (now (b .entry)) (now (t .entry)) ⌝ }
-{
-    memory_tests::refuse::refusal(b, t)
-}
-RT
-(cd "$work" && rt staticlib exported > build.log 2>&1) || { tail "$work/build.log"; exit 1; }
-gcc -O2 -o "$work/soundness" "$here/soundness.c" "$work/target/staticlib/libexported.a"
-"$work/soundness"
+after=$2
+if [ -z "$after" ]; then
+    "$here/../tools/build-library.sh" > /dev/null
+    after=$here/../target/lib/libfusion_blossom.a
+fi
+gcc -shared -o "$work/before.so" -Wl,--whole-archive "$1" -Wl,--no-whole-archive
+gcc -shared -o "$work/after.so" -Wl,--whole-archive "$after" -Wl,--no-whole-archive
+gcc -O2 -Wall -o "$work/soundness" "$here/soundness.c" -ldl
+"$work/soundness" "$work/before.so" "$work/after.so"

@@ -22,6 +22,17 @@ T
     model=$(sed -n 's/^model name[^:]*: //p' /proc/cpuinfo | head -1)
     echo "Machine: $(uname -m), \`nproc\` $(nproc), $model. $(rustc --version | cut -d' ' -f1,2)."
     "$bench" speed
+    cat <<'T'
+
+## The program, whole processes
+
+`bench/program.py`: `cardrun`, which reads and writes in blocks, and the Rust behind the same records, which reads all
+of its input first; one file, lines to /dev/null, the best of 9 runs each, in turn. The lines are the same, which is
+checked.
+
+T
+    (cd "$root" && rt check cardrun > target/differential.log 2>&1) || { tail "$root/target/differential.log" >&2; exit 1; }
+    python3 "$root/bench/program.py" "$root/target/bin/cardrun" "$bench lines unlocked" "$bench lines"
 } > "$out.new"
 mv "$out.new" "$out"
 sed -n '/^## /,$p' "$out"

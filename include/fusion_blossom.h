@@ -60,6 +60,22 @@ enum { FB_STAY = 0, FB_GROW = 1, FB_SHRINK = 2 }; /* grow states */
 enum { FB_DOWN = 0, FB_UP = 1 };                  /* directions: to shrink, to grow */
 enum { FB_ANSWER = 5 };                           /* numbers that a list for an answer needs */
 enum { FB_ENTRY = 5 };                            /* numbers of an entry of fb_group_max_update_length */
+enum { FB_CALL = 4 };                             /* words of a call of fb_calls: its kind and three more */
+
+/* Kinds of a call of fb_calls, with the words behind them; those that a kind has no use for may hold anything. */
+enum {
+    FB_CALL_DEFECT = 4,   /* vertex, grow state */
+    FB_CALL_BLOSSOM = 5,  /* grow state, place, count: so many words from that place on in the list of circles */
+    FB_CALL_STATE = 6,    /* node, grow state */
+    FB_CALL_PREPARE = 7,  /* node, direction */
+    FB_CALL_LENGTH = 8,   /* node, direction, 1 to prepare first or else 0 */
+    FB_CALL_GROW = 9,     /* node, length */
+    FB_CALL_ADVANCE = 11, /* node */
+    FB_CALL_CLEAR = 13,   /* none */
+    FB_CALL_VERTEX = 14,  /* node: its representative vertex */
+    FB_CALL_NODE = 15,    /* node: fb_read_node */
+    FB_CALL_GAP = 16,     /* edge */
+};
 
 /* Cases of an answer, with the values behind them.
 
@@ -87,6 +103,7 @@ enum {
     FB_INNER = 17,    /* fb_gap: one node holds both sides of the edge */
     FB_OVER = 18,     /* fb_gap: by how much the growths of the edge exceed its weight */
     FB_GAP = 19,      /* fb_gap: the weight of the edge less its growths */
+    FB_CALLS = 20,    /* fb_calls: how many calls were made, and how often memory was tested */
 };
 
 /* What a refusal's number means. */
@@ -247,6 +264,18 @@ size_t fb_group_max_update_length(int64_t *block, size_t block_length, int64_t *
    for a length below 1; of a node 6, 9, 10, 11, 12, 2. */
 size_t fb_grow_all(int64_t *block, size_t block_length, int64_t *second, size_t second_length, int64_t *scratch,
                    size_t scratch_length, int64_t length, size_t *answer, size_t answer_length);
+
+/* Many calls, one after another, with one test of memory: FB_CALLS. `calls` has FB_CALL words each; a word below 0 is
+   a length or names nothing. The answer of each stands in the next FB_ANSWER numbers of `answers`, as the call of that
+   name tells it, the rest of them kept. As many are made as have room for their answer. Block, scratch and answers end
+   as by the single calls, whatever is lent; a call that is refused is one of the list, and the others go on. An
+   unknown kind, a circle that does not lie in the list of circles, and a word to prepare first above 1 are refused 3,
+   after 1 and 2. Memory is tested before the first call, and again only where it is not certain that a call kept the
+   block sound: on a block that calls have made, never. A number of words that is no multiple of FB_CALL is refused 1,
+   and nothing is called. */
+size_t fb_calls(int64_t *block, size_t block_length, int64_t *scratch, size_t scratch_length, const int64_t *calls,
+                size_t calls_length, const int64_t *circles, size_t circles_length, size_t *answers,
+                size_t answers_length, size_t *answer, size_t answer_length);
 
 /* Records in, lines out, as the program cardrun has them (target/lib/libcardrun_lines.a; at most V 64, E 128, N 32, L
    2,000): the lines of the records go to the front of `lines`, up to the first that does not fit; the bytes behind them

@@ -4,7 +4,7 @@
 # and ar.
 set -e
 # the crates that export fb_open and the other calls
-calls='c_api c_api_sheet c_api_check c_api_round c_api_remove c_api_node c_api_gap c_api_modifier'
+calls='c_api c_api_sheet c_api_check c_api_round c_api_remove c_api_node c_api_gap c_api_modifier c_api_calls'
 lines=lines_export       # the crate that exports cardrun_lines
 cd "$(dirname "$0")/.."
 mkdir -p target/lib

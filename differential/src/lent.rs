@@ -39,6 +39,10 @@ pub mod c {
         pub fn fb_contacts(
             b: *const i64, bl: usize, t: *const i64, tl: usize, list: *mut i64, ll: usize, a: *mut usize, al: usize,
         ) -> usize;
+        pub fn fb_calls(
+            b: *mut i64, bl: usize, t: *mut i64, tl: usize, calls: *const i64, cl: usize, circles: *const i64, rl: usize,
+            answers: *mut usize, sl: usize, a: *mut usize, al: usize,
+        ) -> usize;
         /// bench/cores: opens a graph and makes the calls of records, without a test of the memory before each; how
         /// many were not refused
         #[cfg(cores)]
@@ -102,6 +106,20 @@ impl Lent {
         self.answer[0]
     }
 
+    /// A list of calls by fb_calls, five numbers of `answers` for each; how many were made, and how often memory was
+    /// tested.
+    pub fn ask_list(&mut self, calls: &[i64], circles: &[i64], answers: &mut [usize]) -> (usize, usize) {
+        let (b, bl, t, tl) = (self.block.as_mut_ptr(), self.block.len(), self.scratch.as_mut_ptr(), self.scratch.len());
+        unsafe {
+            c::fb_calls(
+                b, bl, t, tl, calls.as_ptr(), calls.len(), circles.as_ptr(), circles.len(), answers.as_mut_ptr(),
+                answers.len(), self.answer.as_mut_ptr(), 5,
+            )
+        };
+        assert_eq!(self.answer[0], 20, "the list is refused");
+        (self.answer[1], self.answer[2])
+    }
+
     /// The words of the line that records would give.
     pub fn line(&self) -> String {
         Self::words(&self.answer)
@@ -159,6 +177,16 @@ impl Lent {
 
 pub fn circle(kind: u16, a: &[i32]) -> Vec<i64> {
     if kind == 5 { a[1..].iter().map(|&n| n as i64).collect() } else { vec![] }
+}
+
+/// A call behind the others of a list for fb_calls, its circle behind the other circles.
+pub fn list_call(kind: u16, a: &[i32], circle: &[i64], calls: &mut Vec<i64>, circles: &mut Vec<i64>) {
+    let x = |i: usize| a.get(i).map_or(0, |&f| f as i64);
+    match kind {
+        5 => calls.extend([5, x(0), circles.len() as i64, circle.len() as i64]),
+        k => calls.extend([k as i64, x(0), x(1), x(2)]),
+    }
+    circles.extend(circle);
 }
 
 /// The rows of a block (docs/LAYOUT.md).

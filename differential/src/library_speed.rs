@@ -6,7 +6,7 @@ use crate::lent::{circle, given, memory, Lent};
 use crate::random::Random;
 use crate::records::{fields, kind, record, Record};
 use crate::streams;
-use crate::timed::{path, pulse, take_and_release, ROUNDS};
+use crate::timed::{path, pulse, take_and_release, ROUNDS, SIZES};
 use std::time::Instant;
 
 macro_rules! rust_time {
@@ -25,8 +25,10 @@ macro_rules! rust_time {
     }};
 }
 
+pub(crate) use rust_time;
+
 /// Seconds for all calls, the cases of the answers, and the block that they leave.
-fn port_time(records: &[Record], calls: &[(u16, Vec<i32>, Vec<i64>)]) -> (f64, Vec<usize>, Vec<i64>) {
+pub fn port_time(records: &[Record], calls: &[(u16, Vec<i32>, Vec<i64>)]) -> (f64, Vec<usize>, Vec<i64>) {
     let mut lent = Lent::open(records);
     let mut codes = vec![0; calls.len()];
     let t = Instant::now();
@@ -87,11 +89,7 @@ pub fn table() {
     println!("\n{LIBRARY_CALLS}");
     heading("graph");
     let r = &mut Random::new(8);
-    let sizes = [
-        (7, 1, 32, 2_000), (11, 1, 64, 4_000), (15, 1, 64, 8_000), (7, 7, 64, 8_000), (11, 11, 128, 40_000),
-        (15, 8, 128, 50_000),
-    ];
-    for (d, rounds, n, l) in sizes {
+    for (d, rounds, n, l) in SIZES {
         let g = graphs::large(r, d, rounds, false, Weights::Even);
         let name = format!("distance {d}, {rounds} round{}: V {}, E {}", if rounds > 1 { "s" } else { "" }, g.v, g.edges.len());
         row(&name, &streams::decoding(d as u64, &g, 2_000, n, l));

@@ -1,4 +1,6 @@
 //! Compares the port with the Rust on random record streams, and measures both. See README.md.
+#[cfg(library)]
+mod calls_speed;
 mod compare;
 mod count;
 #[cfg(library)]
@@ -109,11 +111,21 @@ fn main() {
             rounds_speed::table();
             true
         }
+        #[cfg(library)]
+        Some("calls-speed") => {
+            calls_speed::table();
+            true
+        }
+        Some("lines") => {
+            speed::program(a.get(2).is_some_and(|x| x == "unlocked"));
+            true
+        }
         Some("speed") => {
             speed::table();
             #[cfg(library)]
             {
                 library_speed::table();
+                calls_speed::table();
                 rounds_speed::table();
             }
             true
@@ -122,7 +134,7 @@ fn main() {
             eprintln!(
                 "differential compare [RUNS] [SEED] | one SEED | sample FILE [SEED] | replay FILE | patches FILE \
                  | speed | library [RUNS] [SEED] | rounds [RUNS] [SEED] | openings [RUNS] [SEED] \
-                 | gaps [RUNS] [SEED] | erasures [RUNS] [SEED] | rounds-speed"
+                 | gaps [RUNS] [SEED] | erasures [RUNS] [SEED] | rounds-speed | calls-speed | lines [unlocked]"
             );
             false
         }

@@ -7,6 +7,7 @@ use crate::random::Random;
 use crate::records::{kind, Record};
 use crate::streams;
 use crate::timed::{path, pulse, star, take_and_release, ROUNDS};
+use std::io::{Read, Write};
 use std::time::Instant;
 
 macro_rules! rust_side {
@@ -25,6 +26,15 @@ macro_rules! rust_side {
 }
 rust_side!(with_locks, release);
 rust_side!(without_locks, unlocked);
+
+/// The Rust as a program: records from standard input, lines to standard output, all at once.
+pub fn program(unlocked: bool) {
+    let mut records = vec![];
+    std::io::stdin().lock().read_to_end(&mut records).expect("standard input");
+    let run = if unlocked { without_locks } else { with_locks };
+    let lines = run(&records, Vec::with_capacity(2 * records.len()));
+    std::io::stdout().lock().write_all(&lines).expect("standard output");
+}
 
 /// Nanoseconds a call: port, Rust, Rust without locks.
 fn measure(records: &[Record]) -> (usize, [f64; 3]) {

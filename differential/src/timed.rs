@@ -5,6 +5,12 @@ use crate::records::{record, Record};
 /// Each time is the best of so many runs.
 pub const ROUNDS: usize = 60;
 
+/// Patches that library calls are timed on: distance, rounds, N, L.
+pub const SIZES: [(i32, i32, i32, i32); 6] = [
+    (7, 1, 32, 2_000), (11, 1, 64, 4_000), (15, 1, 64, 8_000), (7, 7, 64, 8_000), (11, 11, 128, 40_000),
+    (15, 8, 128, 50_000),
+];
+
 /// One defect that is grown by 1, asked, shrunk by 1 and asked again.
 pub fn pulse(g: &Graph, at: i32, l: i32, times: usize) -> Vec<Record> {
     let mut out = vec![record(1, &[g.v, g.edges.len() as i32, 32, l])];

@@ -12,6 +12,7 @@
 """
 from .answers import (
     Answer,
+    CallsMade,
     Conflict,
     Conflicts,
     Contact,
@@ -38,17 +39,21 @@ from .answers import (
     Vertex,
 )
 from .block import Block, Node
-from .dual_module import Direction, DualModule, Growth, GrowState, Table
+from .call_list import CallList, Listed
+from .dual_module import DualModule, Growth, Table
 from .library import Library, NoLibrary
 from .matching import Matching, match
 from .refusals import Refused, sentence
 from .sheet import decimal, ten_thousandths
 from .sizes import block_words, circle_store, enough_store, scratch_words
+from .values import Direction, GrowState
 from .verdict import check_table
 
 __all__ = [
     'Answer',
     'Block',
+    'CallList',
+    'CallsMade',
     'Conflict',
     'Conflicts',
     'Contact',
@@ -64,6 +69,7 @@ __all__ = [
     'Left',
     'Length',
     'Library',
+    'Listed',
     'Matching',
     'Moved',
     'NeedExpand',

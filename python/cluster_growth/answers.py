@@ -2,7 +2,7 @@
 from __future__ import annotations
 
 from dataclasses import dataclass
-from typing import Callable, Dict, Optional, Sequence, Tuple, Union
+from typing import Callable, Dict, List, Optional, Sequence, Tuple, Union
 
 
 @dataclass(frozen=True)
@@ -214,6 +214,17 @@ class Left:
 
 
 @dataclass(frozen=True)
+class CallsMade:
+    """How many calls of a list were made, and how often memory was tested."""
+
+    calls: int
+    tests: int
+
+    def __str__(self) -> str:
+        return f'calls {self.calls} {self.tests}'
+
+
+@dataclass(frozen=True)
 class Contact:
     """A full edge that joins something: the outermost node at its left and at its right end, -1 for a virtual vertex."""
 
@@ -237,7 +248,7 @@ class Moved:
 
 Length = Union[Free, Unlimited, Conflict, TouchingVirtual, NeedExpand, ShrinkStop, ShrinkStopPeer]
 Gap = Union[Inner, Over, Left]
-Answer = Union[Length, Done, NewNode, Prepared, Vertex, Refusal, Opened, Verdict, Group, NodeRead, Gap]
+Answer = Union[Length, Done, NewNode, Prepared, Vertex, Refusal, Opened, Verdict, Group, NodeRead, Gap, CallsMade]
 
 
 @dataclass(frozen=True)
@@ -278,10 +289,12 @@ CASES: Dict[int, Callable[..., Answer]] = {
     17: Inner,
     18: Over,
     19: Left,
+    20: CallsMade,
 }
 
-ENTRY = 5  # numbers of an entry: a case and four values, 0 where there is none
-VALUES = {2: 4, 3: 3, 4: 1, 5: 1, 6: 3}  # values of each case that an entry may have
+ROW = 5  # numbers of an entry, and of an answer in the list of fb_calls: a case, its values and what is left
+# how many values each case has that may stand in a row
+VALUES = {0: 3, 1: 1, 2: 4, 3: 3, 4: 1, 5: 1, 6: 3, 7: 0, 8: 1, 9: 1, 10: 1, 11: 1, 15: 4, 16: 4, 17: 0, 18: 1, 19: 1}
 
 
 def read(numbers: Sequence[int]) -> Answer:
@@ -289,8 +302,13 @@ def read(numbers: Sequence[int]) -> Answer:
     return CASES[numbers[0]](*numbers[1:])
 
 
+def read_rows(numbers: Sequence[int], count: int) -> List[Answer]:
+    """The answers of the first rows."""
+    rows = (numbers[ROW * k : ROW * (k + 1)] for k in range(count))
+    return [read(row[: 1 + VALUES[row[0]]]) for row in rows]
+
+
 def read_entries(numbers: Sequence[int], group: Group) -> Conflicts:
     """What the list of entries tells."""
-    rows = [numbers[ENTRY * k : ENTRY * (k + 1)] for k in range(group.conflicts + group.stops)]
-    told: list = [read(row[: 1 + VALUES[row[0]]]) for row in rows]
+    told: list = read_rows(numbers, group.conflicts + group.stops)
     return Conflicts(tuple(told[: group.conflicts]), tuple(told[group.conflicts :]))

@@ -4,6 +4,8 @@ from __future__ import annotations
 from dataclasses import dataclass
 from typing import List, Optional
 
+from .answers import NodeRead
+
 HEADER = 16
 REMOVED = 1024  # V + it is the class word of an opened blossom
 # rows behind the header, in order, and their lengths in V, E, N
@@ -50,6 +52,11 @@ class Node:
     def removed(self) -> bool:
         """Whether it is a blossom that was opened."""
         return self.vertex is None and self.first_member is None
+
+
+def node_of(number: int, told: NodeRead) -> Node:
+    """The node that an answer tells of."""
+    return Node(number, told.vertex, told.first_member, told.state, told.parent, told.dual)
 
 
 class Block:

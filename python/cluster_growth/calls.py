@@ -53,4 +53,5 @@ CALLS: Dict[str, Call] = {
     'prepare_all': Call('fb_prepare_all', (), TRIAL),
     'group_max_update_length': Call('fb_group_max_update_length', (WORDS,), TRIAL),
     'grow_all': Call('fb_grow_all', (SIGNED,), TRIAL),
+    'calls': Call('fb_calls', (WORDS, WORDS, WORDS)),  # calls, circles, answers
 }

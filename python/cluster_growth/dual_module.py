@@ -3,32 +3,18 @@ from __future__ import annotations
 
 import ctypes
 from array import array
-from enum import IntEnum
 from typing import Any, Iterable, List, NamedTuple, Optional, Sequence, Tuple, Union
 
 from . import answers, library, sizes
-from .answers import Answer, Conflicts, Contact, Free, Gap, Group, Length, Moved, Refusal, Unlimited
-from .block import Block, Node
+from .answers import Answer, Conflicts, Contact, Free, Gap, Group, Length, Moved, Unlimited
+from .block import Block, Node, node_of
+from .call_list import CallList, Listed
 from .calls import CALLS, SIGNED, WORDS
-from .refusals import Refused
+from .refusals import accepted
+from .values import Direction, GrowState, plain, signed, size, stretch
 
 ROOM = 16  # numbers that an answer may have
 WORD = 8  # bytes
-
-
-class GrowState(IntEnum):
-    """What a node does in a round."""
-
-    STAY = 0
-    GROW = 1
-    SHRINK = 2
-
-
-class Direction(IntEnum):
-    """Which way a node is prepared or asked to move."""
-
-    SHRINK = 0
-    GROW = 1
 
 
 class Growth(NamedTuple):
@@ -68,11 +54,6 @@ class Table(Sequence[Growth]):
         return numpy.array(self.growths, dtype=numpy.int64).reshape(-1, 2)
 
 
-def plain(values):
-    """A list of what may be an array of numpy."""
-    return values.tolist() if hasattr(values, 'tolist') else list(values)
-
-
 class DualModule:
     """A decoding graph, opened in memory of its own, and the clusters that grow on it.
 
@@ -110,12 +91,11 @@ class DualModule:
         given = [*stretch(ends), size(vertices), size(count), size(nodes), size(store)]
         if sheet is None:
             told = self.library.open(*self._lent, *stretch(flat), *given, *self._told)
-            self._accept('open', answers.read(self._answer[:told]))
+            accepted('open', answers.read(self._answer[:told]))
         else:
             values = array('q', [signed(t) for t in plain(sheet)])
             told = self.library.open_sheet(*self._lent, *stretch(flat), *stretch(values), *given, *self._told)
-            opened: Any = self._accept('open_sheet', answers.read(self._answer[:told]))
-            self.vanished = opened.vanished
+            self.vanished = accepted('open_sheet', answers.read(self._answer[:told])).vanished
             self.edges = [(a, b, flat[3 * e + 2]) for e, (a, b, _) in enumerate(self.edges)]
         self.words = memoryview(self._block).cast('B').cast('q')
         self.block = Block(self.words)
@@ -145,14 +125,9 @@ class DualModule:
         count = self.library.calls[name](*lent, *given, *self._told)
         return answers.read(self._answer[:count])
 
-    def _accept(self, name: str, answer: Answer) -> Answer:
-        if isinstance(answer, Refusal):
-            raise Refused(answer.number, name)
-        return answer
-
     def _made(self, name: str, *values) -> Any:
         """An accepted answer, of the case that the call has."""
-        return self._accept(name, self.call(name, *values))
+        return accepted(name, self.call(name, *values))
 
     def insert_defect(self, vertex: int, state: int = GrowState.GROW) -> int:
         """The next node is a defect at a vertex. Its number."""
@@ -263,24 +238,16 @@ class DualModule:
 
     def read_node(self, node: int) -> Node:
         """A node with its grow state, its parent and its dual variable. One that was opened is refused 3."""
-        told = self._made('read_node', node)
-        return Node(node, told.vertex, told.first_member, told.state, told.parent, told.dual)
+        return node_of(node, self._made('read_node', node))
+
+    def calls(self, calls: CallList) -> Listed:
+        """Makes the calls of a list, one after another. Memory is tested once for all of them on a block that calls
+        have made, where each method tests it by itself.
+        """
+        room = calls.room()
+        tests = self._made('calls', calls.words, calls.circles, room).tests
+        return Listed(calls.read(room), tests)
 
     def node_count(self) -> int:
         """How many nodes there are, blossoms and their members among them, opened ones too."""
         return self.block.count()
-
-
-def stretch(words: array) -> Tuple[int, int]:
-    """The address and the length of words that are lent."""
-    return words.buffer_info()
-
-
-def size(x: int) -> int:
-    """A number without sign: any number that is none names nothing, as the greatest does."""
-    return x if 0 <= x < 2**64 else 2**64 - 1
-
-
-def signed(x: int) -> int:
-    """A length of 64 bits; a greater one is as far out of every range."""
-    return max(min(x, 2**63 - 1), -(2**63))

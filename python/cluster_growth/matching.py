@@ -13,7 +13,8 @@ from dataclasses import dataclass, field
 from typing import Any, Callable, Dict, List, Optional, Tuple
 
 from .answers import Conflict, Free, NodeRead, TouchingVirtual
-from .dual_module import DualModule, GrowState
+from .dual_module import DualModule
+from .values import GrowState
 
 
 class Unmatched(Exception):

@@ -1,6 +1,10 @@
 """The numbers that a call is refused with."""
 from __future__ import annotations
 
+from typing import Any
+
+from .answers import Answer, Refusal
+
 SENTENCES = {
     1: 'lent memory has a wrong length, or a stored size is out of range',
     2: 'the block is not sound',
@@ -39,3 +43,10 @@ class Refused(Exception):
         self.sentence = sentence(number)
         self.call = call
         super().__init__(f"{call + ': ' if call else ''}refused {number}: {self.sentence}")
+
+
+def accepted(call: str, answer: Answer) -> Any:
+    """An answer of the call, raised if it is a refusal."""
+    if isinstance(answer, Refusal):
+        raise Refused(answer.number, call)
+    return answer

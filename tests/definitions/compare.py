@@ -168,8 +168,8 @@ def opened(rng):
     return st, f'opened {V} {N} {L} {ends} {nats(virtuals)}'
 
 
-def unreached(rng):
-    """A sound state with fields changed at random, so that no call list reaches it (but by chance)."""
+def changed(rng):
+    """A state with fields changed at random, so that no call list reaches it (but by chance)."""
     while True:
         st, _ = opened(rng)
         seen = SEEN.copy()
@@ -195,7 +195,14 @@ def unreached(rng):
             if nd.parent == M.NONE and rng.random() < .8:
                 for s in nd.boundary: st.holder[s], st.grandson[s] = i, rng.choice(defects)
                 for u, _ in nd.overgrown: st.vholder[u] = i
-        if not M.sound(st): return st
+        return st
+
+
+def unreached(rng):
+    """Such a state that is sound."""
+    st = changed(rng)
+    while M.sound(st): st = changed(rng)
+    return st
 
 # ---------------------------------------------------------------- the crate of tests
 

@@ -14,7 +14,7 @@ import unittest
 TOP = os.path.dirname(os.path.dirname(os.path.dirname(os.path.abspath(__file__))))
 sys.dont_write_bytecode = True
 sys.path.insert(0, os.path.join(TOP, 'python'))
-from cluster_growth import answers, calls, refusals, sizes  # noqa: E402
+from cluster_growth import answers, call_list, calls, refusals, sizes  # noqa: E402
 
 LIB = os.path.join(TOP, 'target', 'lib')
 built = unittest.skipUnless(
@@ -79,6 +79,10 @@ class Header(unittest.TestCase):
         self.assertEqual(set(declared), set(rows))
         for symbol, row in rows.items():
             self.assertEqual(len(row.types()), declared[symbol].count(',') + 1, symbol)
+        kinds = [int(kind) for kind in re.findall(r'FB_CALL_\w+ = (\d+)', header())]
+        self.assertEqual(kinds, list(call_list.KINDS.values()))
+        rows_of = re.findall(r'(?:FB_ANSWER|FB_ENTRY|FB_CALL) = (\d+)', header())
+        self.assertEqual([int(x) for x in rows_of], [answers.ROW, answers.ROW, call_list.CALL])
 
     @built
     def test_it_links_from_cpp(self):

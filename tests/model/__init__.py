@@ -4,6 +4,7 @@ memory. It knows nothing of the code.
 A state is a State; a call takes it, changes it and answers a tuple: ('free', length, empty, unlimited), ('conflict',
 ..), ('refused', k), ..
 """
+from .call_lists import call_of, listed
 from .calls import (
     advance,
     clear,
@@ -23,6 +24,7 @@ from .calls import (
     table,
 )
 from .erasures import load_edge_modifier, modifier_refusal
+from .keeps import keeps
 from .program import Run, lines
 from .remove import members, remove_blossom, remove_refusal, stops_opening
 from .rounds import group_length, grow_all, prepare_all, renew_active_list
@@ -42,6 +44,7 @@ __all__ = [
     'State',
     'WEIGHT_MAX',
     'advance',
+    'call_of',
     'clear',
     'contacts',
     'frames',
@@ -53,8 +56,10 @@ __all__ = [
     'inner',
     'insert_blossom',
     'insert_defect',
+    'keeps',
     'length',
     'lines',
+    'listed',
     'load_edge_modifier',
     'members',
     'modifier_refusal',

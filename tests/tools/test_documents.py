@@ -7,8 +7,8 @@ import unittest
 
 from common import BUILT, TOP, InFolder, content, needs_library
 from cardtool.text import DIRECTIVES
-from cardtool.words import CALLS, WORDS
-from cluster_growth import calls, refusals
+from cardtool.words import CALLS, KINDS, WORDS
+from cluster_growth import call_list, calls, refusals
 
 
 def steps(page):
@@ -66,7 +66,13 @@ class Words(unittest.TestCase):
             self.assertIn(f'| {number} | {sentence} |', page)
 
     def test_every_call_of_the_package_has_a_word(self):
-        self.assertEqual({w.call for w in CALLS.values()}, set(calls.CALLS))
+        """A list of calls is no word: `run --batch` makes lists of words, under the kinds that their records have."""
+        words = {w.call: w.kind for w in CALLS.values()}
+        self.assertEqual(set(words) | {'calls'}, set(calls.CALLS))
+        self.assertNotIn('calls', words)
+        records = {name: kind for name, kind in call_list.KINDS.items() if kind in KINDS}
+        self.assertEqual(records, {name: kind for name, kind in words.items() if kind and name in call_list.KINDS})
+        self.assertLessEqual(set(call_list.KINDS), set(words))
 
 
 if __name__ == '__main__':

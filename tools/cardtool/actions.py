@@ -2,7 +2,7 @@
 import json
 import sys
 
-from . import check, dem, dem_graph, json_form, match, page, picture, records, shots, show, table_file, tables
+from . import batches, check, dem, dem_graph, json_form, match, page, picture, records, shots, show, table_file, tables
 from .faults import BadInput, NoAnswer
 from .files import judge, placed, read, script_in, write, write_bytes, write_script
 from .plain import complain, say
@@ -49,7 +49,11 @@ def do_run(args, name):
     else:
         for line in show.show(run):
             say(line)
-    return judge(name, run)
+    status = judge(name, run)
+    if args.batch:
+        tell = complain if args.json and args.out in (None, '-') else say
+        tell(batches.report(run, args.batch))
+    return status
 
 
 def do_table(args, name):

@@ -10,12 +10,23 @@ input; 3 a run that the check does not cover. The forms stand in docs/FORMS.md.
 """
 import argparse
 import os
+import re
 import sys
 
 from . import actions, made
 from .faults import Fault
 from .files import placed
-from .plain import complain, plain
+from .plain import complain, plain, short
+
+MOST_TO_A_LIST = 1_000_000
+
+
+def batch(word):
+    """How many calls to a list."""
+    if not (re.fullmatch('[0-9]{1,7}', word) and 1 <= int(word) <= MOST_TO_A_LIST):
+        raise argparse.ArgumentTypeError(f"calls to a list are 1 to {MOST_TO_A_LIST}, not '{short(word)}'")
+    return int(word)
+
 
 OUT = {'-o': dict(dest='out', metavar='OUT', help='the file that is written')}
 JSON = {'--json': dict(action='store_true', help='as JSON')}
@@ -27,7 +38,17 @@ ELSEWHERE = {
     ),
 }
 COMMANDS = {
-    'run': (actions.do_run, 'every call with its answer', {**JSON, **OUT}),
+    'run': (
+        actions.do_run,
+        'every call with its answer',
+        {
+            '--batch': dict(
+                type=batch, metavar='N', help='once more by fb_calls, N calls to a list: the answers must be the same'
+            ),
+            **JSON,
+            **OUT,
+        },
+    ),
     'table': (actions.do_table, 'the growth table after the last call, as CSV', {**JSON, **OUT}),
     'check': (
         actions.do_check,

@@ -36,14 +36,6 @@ def contacts(module, fields):
     return [str(c) for c in module.contacts()]
 
 
-def blossom(module, fields):
-    return [str(module.call('insert_blossom', array('q', fields[1:]), fields[0]))]
-
-
-def erase(module, fields):
-    return [str(module.call('load_edge_modifier', array('q', fields)))]
-
-
 def group(module, fields):
     """The answer, and a line for each conflict and each stop."""
     try:
@@ -54,15 +46,22 @@ def group(module, fields):
     return [str(said)] + [str(a) for a in listed]
 
 
+# calls that answer with a list
+OWN = {'table': table, 'contacts': contacts, 'group': group}
 # calls whose values are not plain numbers
-OWN = {'table': table, 'contacts': contacts, 'blossom': blossom, 'erase': erase, 'group': group}
+VALUES = {'blossom': lambda fields: [array('q', fields[1:]), fields[0]], 'erase': lambda fields: [array('q', fields)]}
+
+
+def named(item):
+    """A call by its name in the package, with its values."""
+    return CALLS[item.word].call, *VALUES.get(item.word, list)(item.fields)
 
 
 def answer(module, item):
     """The lines that a call answers, as cardrun writes them."""
     if item.word in OWN:
         return OWN[item.word](module, item.fields)
-    return [str(module.call(CALLS[item.word].call, *item.fields))]
+    return [str(module.call(*named(item)))]
 
 
 def opened(graph, kind=DualModule):

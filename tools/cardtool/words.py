@@ -1,7 +1,8 @@
 """The words of the text form, a row each.
 
 A call that the library gains is a row here (and a row and a method in the package cluster_growth). One whose values
-are not plain numbers has a function in made.py, one that moves dual variables a case in book.py.
+are not plain numbers, or whose answer is a list, has a function in made.py, one that moves dual variables a case in
+book.py.
 """
 from typing import NamedTuple, Optional, Tuple
 

@@ -2,7 +2,7 @@
 
 ghost use mathlib.Core.Path.{_≡_};
 ghost use mathlib.Core.Logic.{_≢_};
-ghost use mathlib.Core.Bool.{not, true, false};
+ghost use mathlib.Core.Bool.{not, true, false, _&&_};
 ghost use mathlib.Core.List.{map};
 ghost use Prim.Native.Nat.{_+_, _<_};
 ghost use lib.Dec.{ltb};
@@ -18,16 +18,18 @@ ghost use Rattle.pass.specs.Scratch.{scratchOf};
 ghost use Rattle.calls.specs.Refuse.{badNode, inBlossom, entriesBut, storeShort};
 ghost use Rattle.calls.specs.Insert.{noCircle, blossomRefusal, prepareStep, joinSide, joinStep, joinCircle, insertBlossom};
 ghost use Rattle.blossom.specs.inner.Circle.{Joinable, JoinedIn, joinedIn};
+ghost use Rattle.calls.specs.Keeps.{circleKeeps};
 ghost use Rattle.calls.specs.inner.Reply.{RepliesInsert, Usable};
 use answers::Answer;
 use calls::refuse;
+use graph::dual_node::DOWN;
 use graph::lists;
 use graph::node;
 use graph::rows;
 use graph::side;
 use graph::words;
-use pass::scratch;
-use store::insert;
+
+pub mod tested; // the insertion, and whether it keeps the block sound
 
 // ---- what refuses it
 
@@ -143,20 +145,24 @@ pub fn blossom_refusal(b: &[i64], x: usize, circle: &[i64]) -> usize
 
 // ---- the members
 
-// Each member of the circle is prepared for shrinking.
-fn prepare_members(b: &mut [i64], t: &mut [i64], circle: &[i64])
+// Each member of the circle is prepared for shrinking; where it is asked for, whether a sound state was certainly left sound.
+fn prepare_members(b: &mut [i64], t: &mut [i64], circle: &[i64], ask: bool) -> bool
     requires { ⌜ Formed (now b) × (now t ≡ scratchOf (stateOf (now b))) × Joinable (stateOf (now b)) (map toNat (now circle)) ⌝ }
     ensures { λ r.
         ⌜ Becomes (now (b .entry)) (now (b .exit))
         (fold prepareStep (stateOf (now (b .entry))) (map toNat (now (circle .entry))))
-        × (now (t .exit) ≡ now (t .entry)) × Joinable (stateOf (now (b .exit))) (map toNat (now (circle .entry))) ⌝ }
+        × (now (t .exit) ≡ now (t .entry)) × Joinable (stateOf (now (b .exit))) (map toNat (now (circle .entry)))
+        × (r ≡ (ask && circleKeeps (stateOf (now (b .entry))) (map toNat (now (circle .entry))))) ⌝ }
 {
     let mut i = 0;
+    let mut kept = true;
     while i < circle.len() {
         let m = words::word(circle, i);
-        prepare::prepare_dual_node_growth(b, t, m, 0);
+        let p = prepare_tested::prepare_asked(b, t, m, DOWN, ask);
+        kept = kept & p.kept;
         i += 1;
     }
+    ask & kept
 }
 
 // The sides that member m holds join the boundary of blossom n, behind the k that stand at the front of t; how many they are then.
@@ -215,17 +221,28 @@ fn join_members(b: &mut [i64], t: &mut [i64], circle: &[i64], n: usize) -> usize
     k
 }
 
+// How many sides a circle has joined, and whether the preparation of its members certainly left a sound state sound.
+pub struct CircleSides {
+    pub count: usize,
+    pub kept: bool,
+}
+
 // The members of the circle are prepared, then joined to the next node n.
-fn join_circle(b: &mut [i64], t: &mut [i64], circle: &[i64], n: usize) -> usize
+pub fn join_circle(b: &mut [i64], t: &mut [i64], circle: &[i64], n: usize, ask: bool) -> CircleSides
     requires { ⌜ Formed (now b) × (now t ≡ scratchOf (stateOf (now b)))
         × Joinable (stateOf (now b)) (map toNat (now circle)) × (n ≡ nodeCount (stateOf (now b))) ⌝ }
     ensures { λ r.
-        ⌜ JoinedIn (now (b .entry)) (now (b .exit)) (now (t .exit)) n r
+        ⌜ JoinedIn (now (b .entry)) (now (b .exit)) (now (t .exit)) n (r .count)
         (joinCircle (stateOf (now (b .entry))) (map toNat (now (circle .entry))))
-        × Joinable (stateOf (now (b .exit))) (map toNat (now (circle .entry))) ⌝ }
+        × Joinable (stateOf (now (b .exit))) (map toNat (now (circle .entry)))
+        × (r .kept ≡ (ask && circleKeeps (stateOf (now (b .entry))) (map toNat (now (circle .entry))))) ⌝ }
 {
-    prepare_members(b, t, circle);
-    join_members(b, t, circle, n)
+    let kept = prepare_members(b, t, circle, ask);
+    let count = join_members(b, t, circle, n);
+    CircleSides {
+        count: count,
+        kept: kept,
+    }
 }
 
 // ---- the blossom
@@ -238,15 +255,5 @@ pub fn insert_blossom(b: &mut [i64], t: &mut [i64], x: usize, circle: &[i64]) ->
         (insertBlossom (stateOf (now (b .entry))) x (map toNat (now (circle .entry))))
         × (now (t .exit) ≡ now (t .entry)) ⌝ }
 {
-    let k = blossom_refusal(b, x, circle);
-    if k != 0 {
-        return Answer::Refused(k);
-    }
-    let n = rows::node_count(b);
-    let l = join_circle(b, t, circle, n);
-    let class = rows::vertex_count(b) + words::word(circle, 0);
-    insert::push_node(b, class, x, t, l);
-    active_list::join(b, n);
-    scratch::wipe(t, 0, l);
-    Answer::Node(n)
+    tested::insert_blossom(b, t, x, circle, false).answer
 }

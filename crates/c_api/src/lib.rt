@@ -222,7 +222,7 @@ pub extern "C" fn fb_read_table(
     answers::tell(answer, a)
 }
 
-// The full edges are written to the front of a list of one word for each edge; when done, the answer has their count behind its case.
+// The contacts are written to the front of a list of three words for each edge; when done, the answer has their count behind its case.
 #[no_mangle]
 pub extern "C" fn fb_contacts(
     block: &[i64],

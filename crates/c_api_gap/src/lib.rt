@@ -1,4 +1,4 @@
-// The gap of an edge, exported for C as the calls of `host` are: what is told stands at the front of the answer list, in
+// The gap of an edge, exported for C as the calls of `c_api` are: what is told stands at the front of the answer list, in
 // numbers.
 
 ghost use Prim.Native.Nat.{_≤_};
@@ -21,7 +21,7 @@ fn tell_found(list: &mut [usize], g: Gap) -> usize
 }
 
 // The same of an answer.
-fn tell_gap(list: &mut [usize], a: GapAnswer) -> usize
+pub fn tell_gap(list: &mut [usize], a: GapAnswer) -> usize
     requires { ⌜ 5 ≤ length (now list) ⌝ }
     ensures { λ r. ⌜ Tells (gapNumbers a) (now (list .entry)) (now (list .exit)) r ⌝ }
 {

@@ -1,4 +1,4 @@
-// Reading a node, exported for C as the calls of `host` are: what is told stands at the front of the answer list, in
+// Reading a node, exported for C as the calls of `c_api` are: what is told stands at the front of the answer list, in
 // numbers. Its class is the case of the answer, so that five numbers tell all of it.
 
 ghost use Prim.Native.Nat.{_≤_};
@@ -8,7 +8,7 @@ ghost use Rattle.c_api_node.specs.Told.{readNodeNumbers, ReadNodeTold};
 use dual_module_node::NodeRead;
 
 // The numbers of a node are written over the front of the list; how many they are.
-fn tell_node(list: &mut [usize], a: NodeRead) -> usize
+pub fn tell_node(list: &mut [usize], a: NodeRead) -> usize
     requires { ⌜ 5 ≤ length (now list) ⌝ }
     ensures { λ r. ⌜ Tells (readNodeNumbers a) (now (list .entry)) (now (list .exit)) r ⌝ }
 {

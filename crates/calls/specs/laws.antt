@@ -16,6 +16,7 @@ pub mod Shapes
 pub mod Sounds
 pub mod Trial
 pub mod Grouped
+pub mod Keeps
 pub mod Listed
 pub mod Occupied
 pub mod Phase

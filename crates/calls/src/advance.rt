@@ -1,18 +1,17 @@
 // Advance: a node grows by all of its own length answer.
 
 ghost use mathlib.Core.Path.{_≡_};
-ghost use mathlib.Core.Bool.{true, not};
+ghost use mathlib.Core.Bool.{not};
 ghost use Prim.Native.Nat.{_≤_};
 ghost use lib.Dec.{eqb};
 ghost use Rattle.graph.specs.State.{stay, growStateOf};
 ghost use Rattle.graph.specs.Layout.{stateOf};
 ghost use Rattle.graph.specs.Form.{Formed};
 ghost use Rattle.calls.specs.inner.Reply.{Replies, Usable};
-ghost use Rattle.calls.specs.Calls.{maxUpdateLength, toward, advanceBy, advance};
-use crate::core;
+ghost use Rattle.calls.specs.Calls.{toward, advance};
 use crate::refuse;
+use crate::tested;
 use answers::Answer;
-use answers::MaxUpdateLength;
 use graph::dual_node::DOWN;
 use graph::dual_node::UP;
 use graph::node;
@@ -23,25 +22,6 @@ pub fn direction(x: usize) -> usize
     ensures { λ r. ⌜ (r ≡ toward x) × (r ≤ 1) ⌝ }
 {
     if x == node::GROW { UP } else { DOWN }
-}
-
-// A node n in grow state x, which is not Stay, grows on a free answer with a limit; any other answer is handed back.
-fn advance_by(b: &mut [i64], t: &mut [i64], n: usize, x: usize) -> Answer
-    requires { ⌜ Usable (now b) (now t) ⌝ }
-    ensures { λ r.
-        ⌜ Replies (now (b .entry)) (now (b .exit)) r
-        (advanceBy n x (maxUpdateLength (stateOf (now (b .entry))) n (toward x) true))
-        × (now (t .exit) ≡ now (t .entry)) ⌝ }
-{
-    let d = direction(x);
-    let answer = core::length_prepared(b, t, n, d);
-    let Answer::Length(found) = answer else {
-        return answer;
-    };
-    let MaxUpdateLength::NonZeroGrow(length, _) = found else {
-        return answer;
-    };
-    core::grow_along(b, t, n, d, length)
 }
 
 // Node n does not grow: it is no outermost node, or Stay.
@@ -73,13 +53,5 @@ pub fn advance(b: &mut [i64], t: &mut [i64], n: usize) -> Answer
     requires { ⌜ Usable (now b) (now t) ⌝ }
     ensures { λ r. ⌜ Replies (now (b .entry)) (now (b .exit)) r (advance (stateOf (now (b .entry))) n) × (now (t .exit) ≡ now (t .entry)) ⌝ }
 {
-    let k = refuse::node_refusal(b, n, false, false);
-    if k != 0 {
-        return Answer::Refused(k);
-    }
-    let x = node::grow_state(b, n);
-    if x == node::STAY {
-        return Answer::Done;
-    }
-    advance_by(b, t, n, x)
+    tested::advance(b, t, n, false).answer
 }

@@ -14,10 +14,10 @@ ghost use Rattle.growth.specs.inner.Moving.{PreparedToMove};
 ghost use Rattle.calls.specs.Calls.{setGrowState, prepareDualNodeGrowth, maxUpdateLength, growPrepared, growToward, growDualNode, clear};
 ghost use Rattle.graph.specs.Word.{wordLimit};
 use crate::refuse;
+use crate::tested;
 use answers::Answer;
 use graph::dual_node::UP;
 use graph::node;
-use graph::words;
 use store::clear;
 use update_length::scan;
 
@@ -40,12 +40,7 @@ pub fn prepare_toward(b: &mut [i64], t: &mut [i64], n: usize, d: usize) -> Answe
     requires { ⌜ MemoryPreparable (now b) (now t) n d ⌝ }
     ensures { λ r. ⌜ Replies (now (b .entry)) (now (b .exit)) r (prepareDualNodeGrowth (stateOf (now (b .entry))) n d) × (now (t .exit) ≡ now (t .entry)) ⌝ }
 {
-    let k = refuse::node_refusal(b, n, UP < d, true);
-    if k != 0 {
-        return Answer::Refused(k);
-    }
-    let p = prepare::prepare_dual_node_growth(b, t, n, d);
-    Answer::Prepared(p)
+    tested::prepare_toward(b, t, n, d, false).answer
 }
 
 // Node n is prepared to grow in direction d.
@@ -75,12 +70,7 @@ pub fn length_prepared(b: &mut [i64], t: &mut [i64], n: usize, d: usize) -> Answ
         ⌜ Replies (now (b .entry)) (now (b .exit)) r (maxUpdateLength (stateOf (now (b .entry))) n d true)
         × (now (t .exit) ≡ now (t .entry)) × MemoryPreparable (now (b .exit)) (now (t .exit)) n d ⌝ }
 {
-    let k = refuse::node_refusal(b, n, UP < d, true);
-    if k != 0 {
-        return Answer::Refused(k);
-    }
-    prepare::prepare_dual_node_growth(b, t, n, d);
-    scan::scan(b, n, d)
+    tested::length_prepared(b, t, n, d, false).answer
 }
 
 // How far node n may grow in direction d; `first` says whether it is prepared first.
@@ -94,14 +84,11 @@ pub fn compute_maximum_update_length_dual_node(
     requires { ⌜ Usable (now b) (now t) ⌝ }
     ensures { λ r. ⌜ Replies (now (b .entry)) (now (b .exit)) r (maxUpdateLength (stateOf (now (b .entry))) n d first) × (now (t .exit) ≡ now (t .entry)) ⌝ }
 {
-    if first {
-        return length_prepared(b, t, n, d);
-    }
-    length_unprepared(b, n, d)
+    tested::compute_maximum_update_length_dual_node(b, t, n, d, first, false).answer
 }
 
 // A prepared node n grows by l in direction d, or is refused.
-fn grow_prepared(b: &mut [i64], n: usize, d: usize, l: usize) -> Answer
+pub fn grow_prepared(b: &mut [i64], n: usize, d: usize, l: usize) -> Answer
     requires { ⌜ Formed (now b) × PreparedToMove (stateOf (now b)) n × (l ≤ wordLimit) ⌝ }
     ensures { λ r. ⌜ Replies (now (b .entry)) (now (b .exit)) r (growPrepared (stateOf (now (b .entry))) n d l) ⌝ }
 {
@@ -118,12 +105,7 @@ pub fn grow_toward(b: &mut [i64], t: &mut [i64], n: usize, d: usize, l: usize) -
     requires { ⌜ MemoryPreparable (now b) (now t) n d × (l ≤ wordLimit) ⌝ }
     ensures { λ r. ⌜ Replies (now (b .entry)) (now (b .exit)) r (growToward (stateOf (now (b .entry))) n d l) × (now (t .exit) ≡ now (t .entry)) ⌝ }
 {
-    let k = refuse::node_refusal(b, n, false, true);
-    if k != 0 {
-        return Answer::Refused(k);
-    }
-    prepare::prepare_dual_node_growth(b, t, n, d);
-    grow_prepared(b, n, d, l)
+    tested::grow_toward(b, t, n, d, l, false).answer
 }
 
 // Node n grows by 0, in whatever direction: nothing changes.
@@ -145,14 +127,7 @@ pub fn grow_along(b: &mut [i64], t: &mut [i64], n: usize, d: usize, length: i64)
         ⌜ Replies (now (b .entry)) (now (b .exit)) r (growDualNode (stateOf (now (b .entry))) n (along d length))
         × (now (t .exit) ≡ now (t .entry)) ⌝ }
 {
-    let l = words::magnitude(length);
-    if l == 0 {
-        return grow_none(b, n, d, length);
-    }
-    if words::non_negative(length) {
-        return grow_toward(b, t, n, d, l);
-    }
-    grow_toward(b, t, n, 0, l)
+    tested::grow_along(b, t, n, d, length, false).answer
 }
 
 // Node n grows by a length: below 0 it shrinks.

@@ -1,18 +1,14 @@
-// The calls on memory that a host lends. Block and scratch are tested first (refusals 1 and 2), then what refuses the call
-// itself (3 to 9); before that nothing is written. A call that prepares or inserts sets the scratch to zero and runs its core.
+// The calls on memory that a host lends. Block and scratch are tested first (refusals 1 and 2), and nothing is written before that; the
+// call itself is in module `sound`.
 
 ghost use mathlib.Core.Path.{_≡_};
 ghost use lib.ListN.{length};
 ghost use Rattle.pass.specs.Scratch.{zeroScratch};
 ghost use Rattle.dual_module.specs.Called.{StateCalled, PrepareCalled, LengthCalled, GrowCalled, AdvanceCalled, ClearCalled};
 use answers::Answer;
-use calls::advance;
-use calls::core;
-use calls::refuse;
-use graph::dual_node::UP;
-use graph::node;
-use graph::words;
 use pass::scratch;
+
+pub mod sound; // the calls behind these tests
 
 // Every word of the scratch is set to zero.
 pub fn clear_scratch(t: &mut [i64])
@@ -30,11 +26,7 @@ pub fn set_grow_state(b: &mut [i64], t: &[i64], n: usize, x: usize) -> Answer
     if k != 0 {
         return Answer::Refused(k);
     }
-    let j = refuse::node_refusal(b, n, node::SHRINK < x, false);
-    if j != 0 {
-        return Answer::Refused(j);
-    }
-    core::set_grow_state(b, n, x)
+    sound::set_grow_state(b, t, n, x)
 }
 
 // Node n is prepared to grow in direction d.
@@ -45,12 +37,7 @@ pub fn prepare_dual_node_growth(b: &mut [i64], t: &mut [i64], n: usize, d: usize
     if k != 0 {
         return Answer::Refused(k);
     }
-    let j = refuse::node_refusal(b, n, UP < d, true);
-    if j != 0 {
-        return Answer::Refused(j);
-    }
-    clear_scratch(t);
-    core::prepare_dual_node_growth(b, t, n, d)
+    sound::prepare_dual_node_growth(b, t, n, d, false, false).answer
 }
 
 // How far node n may grow in direction d; `first` says whether it is prepared first.
@@ -67,15 +54,7 @@ pub fn compute_maximum_update_length_dual_node(
     if k != 0 {
         return Answer::Refused(k);
     }
-    if first {
-        let j = refuse::node_refusal(b, n, UP < d, true);
-        if j != 0 {
-            return Answer::Refused(j);
-        }
-        clear_scratch(t);
-        return core::length_prepared(b, t, n, d);
-    }
-    core::length_unprepared(b, n, d)
+    sound::compute_maximum_update_length_dual_node(b, t, n, d, first, false, false).answer
 }
 
 // Node n grows by a length: below 0 it shrinks.
@@ -86,15 +65,7 @@ pub fn grow_dual_node(b: &mut [i64], t: &mut [i64], n: usize, length: i64) -> An
     if k != 0 {
         return Answer::Refused(k);
     }
-    if words::magnitude(length) == 0 {
-        return core::grow_none(b, n, 1, length);
-    }
-    let j = refuse::node_refusal(b, n, false, true);
-    if j != 0 {
-        return Answer::Refused(j);
-    }
-    clear_scratch(t);
-    core::grow_dual_node(b, t, n, length)
+    sound::grow_dual_node(b, t, n, length, false, false).answer
 }
 
 // Node n grows by all of its own length answer.
@@ -105,15 +76,7 @@ pub fn advance(b: &mut [i64], t: &mut [i64], n: usize) -> Answer
     if k != 0 {
         return Answer::Refused(k);
     }
-    if advance::moves(b, n) {
-        let j = refuse::node_refusal(b, n, false, true);
-        if j != 0 {
-            return Answer::Refused(j);
-        }
-        clear_scratch(t);
-        return advance::advance(b, t, n);
-    }
-    advance::advance_none(b, n)
+    sound::advance(b, t, n, false, false).answer
 }
 
 // Everything but the graph is emptied.
@@ -124,5 +87,5 @@ pub fn clear(b: &mut [i64], t: &[i64]) -> Answer
     if k != 0 {
         return Answer::Refused(k);
     }
-    core::clear_all(b)
+    sound::clear(b, t)
 }

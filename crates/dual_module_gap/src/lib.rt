@@ -1,9 +1,10 @@
-// The gap of an edge on memory that a host lends. Block and scratch are tested first (refusals 1 and 2), then the edge's
-// number (3). Nothing is written.
+// The gap of an edge on memory that a host lends. Block and scratch are tested first (refusals 1 and 2); the call itself is in module
+// `sound`. Nothing is written.
 
 ghost use Rattle.dual_module_gap.specs.GapRead.{GapRead};
 use gap::Gap;
-use graph::rows;
+
+pub mod sound; // the call behind the tests
 
 // What is told of an edge.
 pub enum GapAnswer {
@@ -19,8 +20,5 @@ pub fn edge_gap(b: &[i64], t: &[i64], e: usize) -> GapAnswer
     if k != 0 {
         return GapAnswer::Refused(k);
     }
-    if rows::edge_count(b) <= e {
-        return GapAnswer::Refused(3);
-    }
-    GapAnswer::Found(gap::edge_gap(b, e))
+    sound::edge_gap(b, t, e)
 }

@@ -1,9 +1,10 @@
-// The calls that insert a node, on memory that a host lends. Block and scratch are tested first (refusals 1 and 2), then what
-// refuses the call itself (3 to 9); only then the scratch is set to zero and the core runs.
+// The calls that insert a node, on memory that a host lends. Block and scratch are tested first (refusals 1 and 2), and nothing is written
+// before that; the call itself is in module `sound`.
 
 ghost use Rattle.dual_module.specs.Called.{DefectCalled, BlossomCalled};
 use answers::Answer;
-use calls::defect;
+
+pub mod sound; // the calls behind these tests
 
 // The next node is a defect at vertex v, in grow state x.
 pub fn insert_defect(b: &mut [i64], t: &mut [i64], v: usize, x: usize) -> Answer
@@ -13,12 +14,7 @@ pub fn insert_defect(b: &mut [i64], t: &mut [i64], v: usize, x: usize) -> Answer
     if k != 0 {
         return Answer::Refused(k);
     }
-    let j = defect::defect_refusal(b, v, x);
-    if j != 0 {
-        return Answer::Refused(j);
-    }
-    dual_module::clear_scratch(t);
-    defect::insert_defect(b, t, v, x)
+    sound::insert_defect(b, t, v, x, false).answer
 }
 
 // The next node is a blossom of the circle's nodes, in grow state x.
@@ -29,10 +25,5 @@ pub fn insert_blossom(b: &mut [i64], t: &mut [i64], x: usize, circle: &[i64]) ->
     if k != 0 {
         return Answer::Refused(k);
     }
-    let j = blossom::blossom_refusal(b, x, circle);
-    if j != 0 {
-        return Answer::Refused(j);
-    }
-    dual_module::clear_scratch(t);
-    blossom::insert_blossom(b, t, x, circle)
+    sound::insert_blossom(b, t, x, circle, false, false).answer
 }

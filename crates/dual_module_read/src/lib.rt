@@ -1,10 +1,11 @@
 // The calls that only read block and scratch, on memory that a host lends. Both are tested first (refusals 1 and 2), with the
-// length of a lent list.
+// length of a lent list; the call without a list is in module `sound`.
 
 ghost use Rattle.dual_module_read.specs.Read.{VertexRead, TableRead, ContactsRead, ContactsCounted};
 use answers::Answer;
 use calls::read;
-use calls::refuse;
+
+pub mod sound; // the call behind the tests
 
 // An answer, and how many numbers were written.
 pub struct Counted {
@@ -20,10 +21,7 @@ pub fn get_representative_vertex(b: &[i64], t: &[i64], n: usize) -> Answer
     if k != 0 {
         return Answer::Refused(k);
     }
-    if calls::refuse::bad_node(b, n) {
-        return Answer::Refused(3);
-    }
-    Answer::Vertex(read::get_representative_vertex(b, n))
+    sound::get_representative_vertex(b, t, n)
 }
 
 // The growth of every side is written to a list of two words for each edge.

@@ -21,8 +21,8 @@ use Rattle.calls.specs.declared.group.GroupMaxUpdateLength.the-variants.{Refuse
 use Rattle.answers.specs.declared.Answer.the-variants.{Done, Refused as RefusedCall}
 use Rattle.calls.specs.Refuse.{unless}
 use Rattle.calls.specs.Round.{refusalOf, tried, renewActiveList, prepareAll, round, GroupReply, isRefused, groupLength}
-use Rattle.round.specs.inner.Step.{wholeTrial}
-use Rattle.round.specs.Asked.{listedFrom}
+use Rattle.round_trial.specs.Trial.{wholeTrial}
+use Rattle.round_list.specs.Asked.{listedFrom}
 use Rattle.dual_module.specs.Called.{Called}
 
 -- ---- what refuses a trial before it starts

@@ -140,7 +140,7 @@ fn trial(b: &mut [i64], s: &mut [i64], t: &mut [i64], l: usize) -> Answer
         (trialReply l (stateOf (now (b .entry)))) ⌝ }
 {
     begin(b, s, t);
-    let r = round::trial::in_turn(s, t, l);
+    let r = round_trial::trial::in_turn(s, t, l);
     end(b, s, r != 0);
     trial_answer(r)
 }

@@ -26,4 +26,3 @@ pub mod Table
 pub mod Top
 pub mod Used
 pub mod Walk
-pub mod Wiring

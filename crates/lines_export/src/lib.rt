@@ -6,17 +6,13 @@ ghost use lib.ListN.{length};
 ghost use Rattle.records.specs.Run.{ends, LinesCalled};
 ghost use Rattle.record_step.specs.Standing.{memory, Standing, MemorySuffices, Stepped};
 ghost use Rattle.records.specs.Write.{LinesPut};
-use record_step::one_record;
-use record_step::one_record::Run;
-use records::bytes;
-use records::lines::Out;
 
-// Where a run stands after a record, how far its lines go, and where the next record begins.
-struct Step {
-    run: Run,
-    out: Out,
-    at: usize,
-}
+pub mod stream;
+
+use crate::stream::Step;
+use record_run::run;
+use record_run::run::Run;
+use records::lines::Out;
 
 // Input that ends inside a record.
 fn cut(records: &[u8], i: usize, r: Run, o: Out, lines: &mut [u8]) -> Step
@@ -26,7 +22,7 @@ fn cut(records: &[u8], i: usize, r: Run, o: Out, lines: &mut [u8]) -> Step
         (ends (r .record + 1) 3 .lines)
         × (x .run .stage ≡ 3) × (x .run .record ≡ r .record + 1) × (x .at ≡ length (now (records .entry))) ⌝ }
 {
-    let t = one_record::cut(lines, r, o);
+    let t = run::cut(lines, r, o);
     let p = t.run;
     let q = t.out;
     Step {
@@ -58,32 +54,10 @@ fn step_on(
         (now (lines .entry)) (o .at) (o .full) (now (lines .exit)) (x .out .at) (x .out .full)
         × (x .run .record ≡ r .record + 1) × (now (scratch .exit) ≡ now (scratch .entry)) ⌝ }
 {
-    let n = records.len() - i;
-    if n < 2 {
-        return cut(records, i, r, o, lines);
+    if stream::whole(records, i) {
+        return stream::step_whole(records, i, r, o, lines, block, scratch, edges, virtuals);
     }
-    let k = bytes::pair(records, i);
-    if n - 2 < k {
-        return cut(records, i, r, o, lines);
-    }
-    let e = i + 2 + k;
-    let t = one_record::step_record(
-        lines,
-        r,
-        o,
-        &records[i + 2..e],
-        block,
-        scratch,
-        edges,
-        virtuals,
-    );
-    let p = t.run;
-    let q = t.out;
-    Step {
-        run: p,
-        out: q,
-        at: e,
-    }
+    cut(records, i, r, o, lines)
 }
 
 // The lines of the records are written over the front of `lines`, up to the first that does not fit; how many bytes they are. The words are lent.
@@ -98,7 +72,7 @@ fn write_lines(
     requires { ⌜ MemorySuffices (now block) (now scratch) (now edges) (now virtuals) ⌝ }
     ensures { λ r. ⌜ LinesCalled (now (records .entry)) (now (lines .entry)) (now (lines .exit)) r ⌝ }
 {
-    let mut r = one_record::fresh();
+    let mut r = run::fresh();
     let mut o = Out { at: 0, full: false };
     let mut i = 0;
     while (i < records.len()) & (r.stage < 3) & !o.full {

@@ -1,2 +1,2 @@
--- Laws for the functions of `memory_tests`; the definitions that their contracts cite are in crate `graph`.
+-- Laws behind the tests of lent memory; what the tests find out is defined in `graph`.
 pub mod laws

@@ -8,7 +8,8 @@ use Rattle.graph.specs.Word
 use Rattle.graph.specs.Opening
 use Rattle.distance.specs.Opens as Distance
 use Rattle.opened_graph.specs.OpenedGraph
-use Rattle.table_check.specs.Handed
+use Rattle.table_words.specs.Handed
+use Rattle.table_refuse.specs.Refuse
 use Rattle.table_check.specs.Verdict
 use Rattle.table_check.specs.Verdict.{tableVerdict}
 use Rattle.table_check.specs.declared.Verdict.{Verdict as Answer}
@@ -19,8 +20,8 @@ unfoldable pub everything : ℕ
 unfolding
     Graph.everything Word.toNat Opening.givenAt Opening.edgeAt Opening.edgesFrom Opening.virtualsFrom Distance.everything
     OpenedGraph.openedGraph Handed.distanceOf Handed.distanceIn Handed.handed Verdict.givenDualOf Verdict.dualsByVertex Verdict.positive
-    Verdict.inReach Verdict.shortest Verdict.pairsFeasible Verdict.virtualsFeasible Verdict.tableAfresh Verdict.right Verdict.sizesRight
-    Verdict.lengthsRight Verdict.graphInRange Verdict.defectsInRange Verdict.distancesInRange Verdict.numbersRight Verdict.tableRefusal
+    Verdict.inReach Verdict.shortest Verdict.pairsFeasible Verdict.virtualsFeasible Verdict.tableAfresh Verdict.right Refuse.sizesRight
+    Refuse.lengthsRight Refuse.graphInRange Refuse.defectsInRange Refuse.distancesInRange Refuse.numbersRight Refuse.tableRefusal
     Verdict.verdictBy Verdict.tableVerdict
 everything = 0
 

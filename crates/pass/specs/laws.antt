@@ -12,3 +12,4 @@ pub mod Idle
 pub mod Noted
 pub mod Once
 pub mod Leaves
+pub mod KeepsSound

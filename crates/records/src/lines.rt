@@ -32,35 +32,42 @@ fn put_line(lines: &mut [u8], o: Out, l: &[u8]) -> Out
     Out { at: n, full: false }
 }
 
-// The number of a record and a word, at the start of t.
-fn start_line(t: &mut [u8], k: usize, w: &[u8]) -> usize
-    requires { ⌜ 21 + length (now w) ≤ length (now t) ⌝ }
-    ensures { λ r. ⌜ Written (now (t .entry)) 0 (now (t .exit)) r (decimal k ++ (32 ∷ now (w .entry))) × (r ≤ 21 + length (now (w .entry))) ⌝ }
+// The number of a record and a word, from place n on.
+fn start_line(t: &mut [u8], n: usize, k: usize, w: &[u8]) -> usize
+    requires { ⌜ n + 21 + length (now w) ≤ length (now t) ⌝ }
+    ensures { λ r.
+        ⌜ Written (now (t .entry)) n (now (t .exit)) r (decimal k ++ (32 ∷ now (w .entry)))
+        × (r ≤ n + 21 + length (now (w .entry))) ⌝ }
 {
-    let a = text::decimal(t, 0, k);
+    let a = text::decimal(t, n, k);
     let b = text::byte(t, a, 32);
     text::word(t, b, w)
 }
 
-// The line of record k with a word and numbers, at the start of t.
-fn write_line(t: &mut [u8], k: usize, w: &[u8], ns: &[usize]) -> usize
-    requires { ⌜ (128 ≤ length (now t)) × (length (now w) + length (spaced (now ns)) ≤ 106) ⌝ }
-    ensures { λ r. ⌜ Written (now (t .entry)) 0 (now (t .exit)) r (line k (now (w .entry) ++ spaced (now (ns .entry)))) × (r ≤ 128) ⌝ }
+// The line of record k with a word and numbers, from place n on.
+fn write_line(t: &mut [u8], n: usize, k: usize, w: &[u8], ns: &[usize]) -> usize
+    requires { ⌜ (n + 128 ≤ length (now t)) × (length (now w) + length (spaced (now ns)) ≤ 106) ⌝ }
+    ensures { λ r.
+        ⌜ Written (now (t .entry)) n (now (t .exit)) r (line k (now (w .entry) ++ spaced (now (ns .entry)))) × (r ≤ n + 128) ⌝ }
 {
-    let a = start_line(t, k, w);
+    let a = start_line(t, n, k, w);
     let b = text::numbers(t, a, ns);
     text::byte(t, b, 10)
 }
 
-// The line of record k with a word and numbers goes behind the others.
+// The line of record k with a word and numbers goes behind the others: in its place where any line fits.
 pub fn tell(lines: &mut [u8], o: Out, k: usize, w: &[u8], ns: &[usize]) -> Out
     requires { ⌜ (o .at ≤ length (now lines)) × (length (now w) + length (spaced (now ns)) ≤ 106) ⌝ }
     ensures { λ r.
         ⌜ LinesPut (now (lines .entry)) (o .at) (o .full) (now (lines .exit)) (r .at) (r .full)
         (line k (now (w .entry) ++ spaced (now (ns .entry))) ∷ []) ⌝ }
 {
+    if !o.full & (128 <= lines.len() - o.at) {
+        let e = write_line(lines, o.at, k, w, ns);
+        return Out { at: e, full: false };
+    }
     let mut t = [0u8; 128];
-    let n = write_line(&mut t, k, w, ns);
+    let n = write_line(&mut t, 0, k, w, ns);
     put_line(lines, o, &t[0..n])
 }
 

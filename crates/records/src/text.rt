@@ -2,7 +2,7 @@
 
 ghost use mathlib.Core.Path.{_≡_};
 ghost use mathlib.Core.List.{[], _∷_};
-ghost use Prim.Native.Nat.{_+_, _<_, _≤_};
+ghost use Prim.Native.Nat.{_+_, _/_, _%_, _<_, _≤_};
 ghost use lib.ListN.{length};
 ghost use Rattle.records.specs.Text.{decimal, spaced};
 ghost use Rattle.records.specs.Write.{Written};
@@ -38,16 +38,27 @@ fn digit(x: usize) -> u8
     48 + x as u8
 }
 
-// A number in decimal.
+// Two digits.
+fn two(t: &mut [u8], n: usize, x: usize) -> usize
+    requires { ⌜ (n + 2 ≤ length (now t)) × (x < 100) ⌝ }
+    ensures { λ r. ⌜ Written (now (t .entry)) n (now (t .exit)) r ((48 + x / 10) ∷ (48 + x % 10) ∷ []) ⌝ }
+{
+    let m = byte(t, n, digit(x / 10));
+    byte(t, m, digit(x % 10))
+}
+
+// A number in decimal, two digits at a time.
 pub fn decimal(t: &mut [u8], n: usize, x: usize) -> usize
     requires { ⌜ n + length (decimal x) ≤ length (now t) ⌝ }
     ensures { λ r. ⌜ Written (now (t .entry)) n (now (t .exit)) r (decimal x) ⌝ }
 {
     if x < 10 {
         byte(t, n, digit(x))
+    } else if x < 100 {
+        two(t, n, x)
     } else {
-        let m = decimal(t, n, x / 10);
-        byte(t, m, digit(x % 10))
+        let m = decimal(t, n, x / 100);
+        two(t, m, x % 100)
     }
 }
 

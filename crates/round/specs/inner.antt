@@ -1,4 +1,2 @@
 -- What only contracts inside the code cite, in `round` and above it.
 pub mod Group
-pub mod Step
-pub mod Asked

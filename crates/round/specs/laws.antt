@@ -1,9 +1,3 @@
--- Laws of the trial and of the group.
-pub mod Step
-pub mod Trying
-pub mod InTurn
-pub mod Answers
-pub mod Stops
-pub mod Listing
+-- Laws of the group.
 pub mod Askable
 pub mod Group

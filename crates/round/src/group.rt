@@ -6,12 +6,12 @@ ghost use lib.ListN.{length};
 ghost use Rattle.graph.specs.Layout.{stateOf};
 ghost use Rattle.calls.specs.inner.Reply.{Usable};
 ghost use Rattle.calls.specs.Round.{answersOf};
-ghost use Rattle.round.specs.inner.Asked.{Askable};
+ghost use Rattle.round_answers.specs.inner.Asked.{Askable};
 ghost use Rattle.round.specs.inner.Group.{ListedGroup, AskedGroup, GroupTried};
-use crate::listed;
-use crate::node_answers;
-use crate::trial;
 use calls::group::GroupMaxUpdateLength;
+use round_answers::node_answers;
+use round_list::listed;
+use round_trial::trial;
 
 // Conflicts and stops are listed.
 fn list_group(b: &[i64], list: &mut [usize]) -> GroupMaxUpdateLength

@@ -26,7 +26,7 @@ use graph::words;
 use store::replace;
 
 // Whether side s has growth 0 and stands at no defect.
-fn emptied(b: &[i64], s: usize) -> bool
+pub fn emptied(b: &[i64], s: usize) -> bool
     requires { ⌜ Formed (now b) × (s < sideCount (stateOf (now b))) ⌝ }
     ensures { λ r. ⌜ r ≡ vertexLeft (stateOf (now (b .entry))) s ⌝ }
 {

@@ -1,16 +1,15 @@
 -- The same row by row, so that the distances of one defect at a time need memory. `row-by-row` says that it is the verdict on the whole.
 use Prim.Native.Nat.{ℕ, zero, suc, _*_}
 use mathlib.Core.Bool.{Bool, _&&_}
-use mathlib.Core.List.{List, map}
+use mathlib.Core.List.{List}
 use lib.IntN.{ℤ}
-use lib.Dec.{leb}
 use lib.ListN.{replicate}
-use Rattle.graph.specs.Basic.{if_then_else_, all, allBelow}
-use Rattle.graph.specs.Word.{toNat, wordAt}
-use Rattle.graph.specs.Open.{dualLimit, growthLimit}
-use Rattle.table_check.specs.Handed.{distanceIn, rowOf}
-use Rattle.table_check.specs.Verdict.{graphInRange, defectsInRange, distancesInRange}
-use Rattle.table_check.specs.Tests.{positiveIn, allMarked, rowRight, coverMarks, freeAt}
+use Rattle.graph.specs.Basic.{if_then_else_, allBelow}
+use Rattle.graph.specs.Word.{wordAt}
+use Rattle.table_words.specs.Handed.{distanceIn, rowOf}
+use Rattle.table_refuse.specs.Refuse.{distancesInRange, headInRange}
+use Rattle.table_check.specs.Tests.{positiveIn, allMarked}
+use Rattle.table_rows.specs.Row.{rowRight, coverMarks, freeAt}
 use Rattle.table_check.specs.declared.Verdict.{Verdict}
 use Rattle.table_check.specs.declared.Verdict.the-variants.{Yes, No, Refused}
 
@@ -19,13 +18,6 @@ pub record Known : Type 0 where
   pub inRange : Bool
   pub passed : Bool
   pub marks : List ℕ
-
--- all that is handed over but the rows is in range
-unfoldable pub headInRange : ℕ → (edges virtuals defects duals growths : List ℤ) → Bool
-headInRange v edges virtuals defects duals growths =
-    graphInRange v edges virtuals
-    && (defectsInRange v defects
-    && (all (λ x. leb x dualLimit) (map toNat duals) && all (λ x. leb x growthLimit) (map toNat growths)))
 
 module _ (v e : ℕ) (edges virtuals defects duals growths : List ℤ) where
   -- before the first row

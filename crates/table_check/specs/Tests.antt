@@ -1,44 +1,14 @@
--- What the code tests: a certificate for the distances of one defect, marks on vertices, and the table row by row.
-use Prim.Native.Nat.{ℕ, zero, suc, _+_, _-_, _*_, _/_, _%_}
-use mathlib.Core.Bool.{Bool, true, false, _&&_, _||_, not}
+-- What the code tests: marks on the vertices that reach a virtual one, and the table row by row.
+use Prim.Native.Nat.{ℕ, zero, suc, _*_}
+use mathlib.Core.Bool.{Bool, true, false, _&&_, not}
 use mathlib.Core.List.{List}
 use lib.IntN.{ℤ}
-use lib.Dec.{leb, ltb, eqb}
-use lib.ListN.{length, getD, set, replicate}
+use lib.Dec.{ltb}
+use lib.ListN.{length, replicate}
 use Rattle.graph.specs.Basic.{if_then_else_, allBelow}
 use Rattle.graph.specs.Word.{wordAt}
-use Rattle.graph.specs.Opening.{givenAt}
-use Rattle.distance.specs.Distance.{unreachable}
-use Rattle.distance.specs.Table.{share}
-
--- ---- sides, in the words of the edges
-
--- the vertex of side s
-unfoldable pub nearIn : List ℤ → ℕ → ℕ
-nearIn edges s = givenAt edges (3 * (s / 2) + s % 2)
-
--- the vertex across
-unfoldable pub acrossIn : List ℤ → ℕ → ℕ
-acrossIn edges s = givenAt edges (3 * (s / 2) + (1 - s % 2))
-
--- the weight
-unfoldable pub weightIn : List ℤ → ℕ → ℕ
-weightIn edges s = givenAt edges (3 * (s / 2) + 2)
-
--- ---- marks
-
--- vertex u has a mark
-abbrev pub marked : List ℕ → ℕ → Bool
-marked m u = ltb 0 (getD m u 0)
-
--- vertex u gets a mark where t says so
-unfoldable pub markIf : Bool → List ℕ → ℕ → List ℕ
-markIf t m u = if t then set m u 1 else m
-
--- of the numbers below k, those that pass the test p mark the vertex `at` names
-unfoldable pub marksBy : (ℕ → Bool) → (ℕ → ℕ) → List ℕ → ℕ → List ℕ
-marksBy p at m zero = m
-marksBy p at m (suc k) = markIf (p k) (marksBy p at m k) (at k)
+use Rattle.table_words.specs.Sides.{nearIn, acrossIn, weightIn, marked, markIf, marksBy}
+use Rattle.table_rows.specs.Row.{rowRight, coverMarks, freeAt}
 
 -- ---- marks of vertices that reach a virtual one
 
@@ -72,65 +42,6 @@ virtualMarks virtuals m = marksBy (λ k. true) (wordAt virtuals) m (length virtu
 -- in the end every vertex has one
 unfoldable pub allMarked : ℕ → ℕ → (edges virtuals : List ℤ) → List ℕ → Bool
 allMarked v e edges virtuals m = allBelow (marked (spreadUntil e edges v (virtualMarks virtuals m))) v
-
--- ---- the certificate: D is the row of the defect at vertex a
-
--- D rises along side s by at most its weight
-unfoldable pub relaxedAt : List ℤ → (ℕ → ℕ) → ℕ → Bool
-relaxedAt edges D s = leb (D (acrossIn edges s)) (D (nearIn edges s) + weightIn edges s)
-
--- the vertex across precedes that of side s: D rises by the whole weight
-unfoldable pub precedesAt : List ℤ → (ℕ → ℕ) → ℕ → Bool
-precedesAt edges D s = eqb (D (nearIn edges s)) (D (acrossIn edges s) + weightIn edges s)
-
--- the vertices that have a predecessor
-unfoldable pub precededMarks : ℕ → List ℤ → (ℕ → ℕ) → List ℕ
-precededMarks e edges D = marksBy (precedesAt edges D) (nearIn edges) (replicate 1024 0) (2 * e)
-
--- u is a, or out of reach, or has a predecessor
-unfoldable pub settledAt : List ℕ → (ℕ → ℕ) → ℕ → ℕ → Bool
-settledAt m D a u = eqb u a || (leb unreachable (D u) || marked m u)
-
-unfoldable pub certified : ℕ → ℕ → List ℤ → ℕ → (ℕ → ℕ) → Bool
-certified v e edges a D =
-    eqb (D a) 0 && (allBelow (relaxedAt edges D) (2 * e) && allBelow (settledAt (precededMarks e edges D) D a) v)
-
--- ---- one row: the distances D of defect i
-
--- with defect j
-unfoldable pub defectPairAt : (defects duals : List ℤ) → (ℕ → ℕ) → ℕ → ℕ → Bool
-defectPairAt defects duals D i j = eqb i j || leb (wordAt duals i + wordAt duals j) (D (wordAt defects j))
-
--- with the virtual vertex at place k
-unfoldable pub virtualPairAt : List ℤ → (ℕ → ℕ) → ℕ → ℕ → Bool
-virtualPairAt virtuals D y k = leb y (D (wordAt virtuals k))
-
--- where it covers the vertex of side s, the growth there is its share
-unfoldable pub sideAt : (edges growths : List ℤ) → (ℕ → ℕ) → ℕ → ℕ → Bool
-sideAt edges growths D y s =
-    leb y (D (nearIn edges s)) || eqb (wordAt growths s) (share y (D (nearIn edges s)) (D (acrossIn edges s)) (weightIn edges s))
-
--- the row of defect i is right
-unfoldable pub rowRight : (v e : ℕ) (edges virtuals defects duals growths : List ℤ) → (ℕ → ℕ) → ℕ → Bool
-rowRight v e edges virtuals defects duals growths D i =
-    certified v e edges (wordAt defects i) D
-    && (allBelow (defectPairAt defects duals D i) (length defects)
-    && (allBelow (virtualPairAt virtuals D (wordAt duals i)) (length virtuals)
-    && allBelow (sideAt edges growths D (wordAt duals i)) (2 * e)))
-
--- it covers vertex u
-abbrev pub coversAt : (ℕ → ℕ) → ℕ → ℕ → Bool
-coversAt D y u = ltb (D u) y
-
--- the vertices that it covers get marks
-unfoldable pub coverMarks : ℕ → (ℕ → ℕ) → ℕ → List ℕ → List ℕ
-coverMarks v D y m = marksBy (coversAt D y) (λ u. u) m v
-
--- ---- sides that no defect covers
-
--- no growth where the vertex of side s has no mark
-unfoldable pub freeAt : (edges growths : List ℤ) → List ℕ → ℕ → Bool
-freeAt edges growths m s = marked m (nearIn edges s) || eqb (wordAt growths s) 0
 
 -- ---- all rows
 

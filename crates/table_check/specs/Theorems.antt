@@ -6,8 +6,9 @@ use mathlib.Core.Bool.{true}
 use mathlib.Core.List.{List}
 use lib.ListN.{length}
 use lib.IntN.{ℤ}
-use Rattle.table_check.specs.Handed.{handed}
-use Rattle.table_check.specs.Verdict.{Right, sizesRight, lengthsRight, tableRefusal, tableVerdict}
+use Rattle.table_words.specs.Handed.{handed}
+use Rattle.table_check.specs.Verdict.{Right, tableVerdict}
+use Rattle.table_refuse.specs.Refuse.{sizesRight, lengthsRight, tableRefusal}
 use Rattle.table_check.specs.declared.Verdict.the-variants.{Yes, No, Refused}
 use Rattle.table_check.specs.Streamed.{afterRows, ended}
 use Rattle.table_check.specs.laws.Streamed.{streamed-verdict}

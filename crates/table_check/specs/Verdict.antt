@@ -1,21 +1,19 @@
--- The verdict on a table from another decoder: what refuses it, and when the answer is yes.
-use Prim.Native.Nat.{ℕ, _+_, _*_, _≤_, _<_}
+-- The verdict on a table from another decoder: when the answer is yes.
+use Prim.Native.Nat.{ℕ, _+_, _≤_, _<_}
 use mathlib.Core.Path.{_≡_}
 use mathlib.Core.Logic.{_≢_}
-use mathlib.Core.Bool.{Bool, _&&_, _||_, not}
+use mathlib.Core.Bool.{Bool, _&&_, _||_}
 use mathlib.Core.List.{List, [], _∷_, map}
 use lib.IntN.{ℤ}
 use lib.Dec.{leb, ltb, eqb}
 use lib.ListN.{length, getD}
-use Rattle.graph.specs.Basic.{if_then_else_, all, below, allBelow, same, distinct}
-use Rattle.graph.specs.Word.{toNat}
-use Rattle.graph.specs.Open.{dualLimit, growthLimit, sizesOk, edgeOk}
-use Rattle.graph.specs.Opening.{edgesIn, edgesFrom, virtualsFrom}
+use Rattle.graph.specs.Basic.{if_then_else_, below, allBelow, same}
 use Rattle.distance.specs.Graph.{WeightedGraph, Positive, sides, weight}
 use Rattle.distance.specs.Distance.{unreachable, dist}
 use Rattle.distance.specs.Nearest.{VirtualInReach, nearestVirtual}
 use Rattle.distance.specs.Table.{tableFromDistances}
-use Rattle.table_check.specs.Handed.{distanceOf, Handed, handed}
+use Rattle.table_words.specs.Handed.{Handed, handed}
+use Rattle.table_refuse.specs.Refuse.{tableRefusal}
 use Rattle.table_check.specs.declared.Verdict.{Verdict}
 use Rattle.table_check.specs.declared.Verdict.the-variants.{Yes, No, Refused}
 
@@ -87,46 +85,6 @@ pub record Right (h : Handed) : Type 0 where
       → givenDualAt h i + givenDualAt h j ≤ dist (h .graph) (givenDefectAt h i) (givenDefectAt h j)
   pub virtuals : (i : ℕ) → i < defectCount h → givenDualAt h i ≤ nearestVirtual (h .graph) (givenDefectAt h i)
   pub table : h .growths ≡ tableFromDistances (h .graph) (dualsByVertex h)
-
--- ---- refusals
-
--- V, E and the number of edges are in range
-unfoldable pub sizesRight : ℕ → ℕ → List ℤ → Bool
-sizesRight v e edges = sizesOk v e 1 0 && eqb (edgesIn edges) e
-
--- a dual variable for each defect, two growths for each edge, V distances for each defect
-unfoldable pub lengthsRight : ℕ → ℕ → (defects duals growths distances : List ℤ) → Bool
-lengthsRight v e defects duals growths distances =
-    eqb (length duals) (length defects) && (eqb (length growths) (2 * e) && eqb (length distances) (length defects * v))
-
--- the graph is in range
-unfoldable pub graphInRange : ℕ → (edges virtuals : List ℤ) → Bool
-graphInRange v edges virtuals = all (edgeOk v) (edgesFrom edges) && all (λ x. ltb x v) (virtualsFrom virtuals)
-
--- every defect is a vertex, and none is listed twice
-unfoldable pub defectsInRange : ℕ → List ℤ → Bool
-defectsInRange v defects = all (λ x. ltb x v) (map toNat defects) && distinct (map toNat defects)
-
--- every word gives a distance
-unfoldable pub distancesInRange : List ℤ → Bool
-distancesInRange distances = all (λ x. leb (distanceOf x) unreachable) distances
-
--- every number is in range
-unfoldable pub numbersRight : ℕ → (edges virtuals defects duals growths distances : List ℤ) → Bool
-numbersRight v edges virtuals defects duals growths distances =
-    graphInRange v edges virtuals
-    && (defectsInRange v defects
-    && (all (λ x. leb x dualLimit) (map toNat duals)
-    && (all (λ x. leb x growthLimit) (map toNat growths)
-    && distancesInRange distances)))
-
--- 0, or the number of the refusal
-unfoldable pub tableRefusal : (v e : ℕ) (edges virtuals defects duals growths distances : List ℤ) → ℕ
-tableRefusal v e edges virtuals defects duals growths distances =
-    if not (sizesRight v e edges) then 4
-    else if not (lengthsRight v e defects duals growths distances) then 1
-    else if not (numbersRight v edges virtuals defects duals growths distances) then 4
-    else 0
 
 -- ---- the verdict
 

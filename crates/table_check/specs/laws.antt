@@ -1,8 +1,5 @@
 -- The laws from which the theorems and the functions' proofs follow.
-pub mod Words
 pub mod Loops
-pub mod Side
-pub mod Distinct
 pub mod Marks
 pub mod Wiring
 pub mod Choice

@@ -4,14 +4,14 @@ ghost use mathlib.Core.Path.{_≡_};
 ghost use Prim.Native.Nat.{_*_, _≤_, _<_};
 ghost use lib.ListN.{length};
 ghost use Rattle.graph.specs.Basic.{allBelow};
-ghost use Rattle.table_check.specs.Handed.{distanceIn, rowOf};
+ghost use Rattle.table_words.specs.Handed.{distanceIn, rowOf};
 ghost use Rattle.table_check.specs.Verdict.{tableVerdict};
 ghost use Rattle.table_check.specs.Tests.{positiveIn, rowsRight, tested};
 use crate::Verdict;
 use crate::reach;
-use crate::refuse;
-use crate::rows;
-use crate::words;
+use table_refuse::refuse;
+use table_rows::rows;
+use table_words::words;
 
 // Whether no edge has weight 0.
 pub fn positive(e: usize, edges: &[i64]) -> bool

@@ -1,12 +1,7 @@
 // A table from another decoder: graph, defects, dual variables, growths, and the distances from each defect to every vertex get yes or no.
 // When it is yes is defined in specs/Verdict.
 
-pub mod words; // reading the words that are handed over
-pub mod marks; // marks on vertices
 pub mod reach; // whether every vertex reaches a virtual one
-pub mod distances; // whether the distances of one defect are the shortest, by a certificate
-pub mod rows; // the row of one defect, and all rows
-pub mod refuse; // what refuses the call
 pub mod check; // the call
 pub mod stream; // the same row by row
 

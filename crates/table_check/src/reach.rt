@@ -4,9 +4,10 @@ ghost use mathlib.Core.Path.{_≡_};
 ghost use Prim.Native.Nat.{_*_, _≤_, _<_};
 ghost use lib.ListN.{replicate};
 ghost use Rattle.graph.specs.Basic.{allBelow};
-ghost use Rattle.table_check.specs.Tests.{marked, spreadsAt, spreadSide, spreadSides, spreadNew, spreadUntil, virtualMarks, allMarked};
-use crate::marks;
-use crate::words;
+ghost use Rattle.table_words.specs.Sides.{marked};
+ghost use Rattle.table_check.specs.Tests.{spreadsAt, spreadSide, spreadSides, spreadNew, spreadUntil, virtualMarks, allMarked};
+use table_words::marks;
+use table_words::words;
 
 // Every virtual vertex gets a mark.
 fn mark_virtuals(m: &mut [usize], virtuals: &[i64])

@@ -3,14 +3,14 @@
 ghost use mathlib.Core.Path.{_≡_};
 ghost use mathlib.Core.Bool.{true};
 ghost use Prim.Native.Nat.{_≤_};
-ghost use Rattle.table_check.specs.Verdict.{sizesRight};
+ghost use Rattle.table_refuse.specs.Refuse.{sizesRight};
 ghost use Rattle.table_check.specs.Streamed.{begun, advanced, ended};
 use crate::Verdict;
 use crate::check;
 use crate::reach;
-use crate::refuse;
-use crate::rows;
-use crate::words;
+use table_refuse::refuse;
+use table_rows::rows;
+use table_words::words;
 
 // What is known after some rows; the vertices that a defect covers are marked in a list.
 pub struct Known {

@@ -6,7 +6,7 @@ use Rattle.graph.specs.Layout
 use Rattle.graph.specs.Opening
 use Rattle.pass.specs.Scratch
 use Rattle.dual_module.specs.Called
-use Rattle.round.specs.Asked
+use Rattle.round_list.specs.Asked
 use Rattle.dual_module_round.specs.Called as Trial
 use Rattle.records.specs.Opens as Records
 use Rattle.table_theorem.specs.Opens as Table

@@ -30,7 +30,7 @@ use Rattle.calls.specs.Remove.{removeBlossom}
 use Rattle.calls.specs.Erasures.{pairsFrom, loadEdgeModifier}
 use Rattle.opened_graph.specs.OpenedGraph.{withWeights}
 use Rattle.calls.specs.Round.{renewActiveList, prepareAll, groupLength, round}
-use Rattle.round.specs.Asked.{listedFrom}
+use Rattle.round_list.specs.Asked.{listedFrom}
 use Rattle.dual_module_node.specs.declared.NodeRead.the-variants.{Refused as nodeRefused}
 use Rattle.dual_module_node.specs.ReadNode.{readNode}
 use Rattle.dual_module_gap.specs.declared.GapAnswer.the-variants.{Refused as gapRefused}

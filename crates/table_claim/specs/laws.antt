@@ -10,6 +10,7 @@ pub mod Tables
 pub mod Carried
 pub mod Lent
 pub mod Hosted
+pub mod Listed
 pub mod Gap
 pub mod FromSheet
 pub mod Program

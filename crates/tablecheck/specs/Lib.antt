@@ -1,3 +1,3 @@
--- The sizes of a table in a file.
+-- What a table in a file gets.
 pub mod File
 pub mod laws

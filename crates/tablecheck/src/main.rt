@@ -6,15 +6,14 @@ ghost use mathlib.Core.Logic.{_≢_};
 ghost use mathlib.Core.Bool.{true};
 ghost use Prim.Native.Nat.{_+_, _*_, _≤_, _<_, min};
 ghost use lib.ListN.{length, replicate};
-ghost use Rattle.table_check.specs.Verdict.{sizesRight};
-ghost use Rattle.tablecheck.specs.File.{fileSizes, fileWords, verdictNumber, RowsRead};
+ghost use Rattle.table_refuse.specs.Refuse.{sizesRight};
+ghost use Rattle.tablecheck.specs.File.{RowsRead};
 ghost use Rattle.graph.specs.Word.{wordLimit};
 use graph::words;
 use libc::STDIN_FILENO;
 use libc::STDOUT_FILENO;
-use table_check::Verdict;
-use table_check::refuse;
 use table_check::stream;
+use table_refuse::refuse;
 
 // ---- words
 
@@ -116,17 +115,6 @@ fn pass_over(bytes: &mut [u8], count: usize) -> bool
 
 // What a table gets is a number: 0 yes, 1 no, 4 refused 4, 2 refused 1; 3 refused 1 where input ends inside it; 5 where there is no table.
 
-// The number of a verdict.
-fn number(a: Verdict) -> usize
-    ensures { λ r. ⌜ r ≡ verdictNumber a ⌝ }
-{
-    match a {
-        Verdict::Yes => 0,
-        Verdict::No => 1,
-        Verdict::Refused(k) => 4,
-    }
-}
-
 // The rows, one at a time, and the verdict behind the last.
 fn rows(
     bytes: &mut [u8],
@@ -156,7 +144,7 @@ fn rows(
             return 3;
         }
     }
-    number(stream::end(k, m, e, edges, growths))
+    table_file::number(stream::end(k, m, e, edges, growths))
 }
 
 // Two lists are read; whether they were there.
@@ -245,21 +233,6 @@ fn lists(
     }
 }
 
-// Whether the four sizes are in range.
-fn sizes_fit(v: usize, e: usize, k: usize, n: usize) -> bool
-    ensures { λ r. ⌜ r ≡ fileSizes v e k n ⌝ }
-{
-    (1 <= v) & ((v <= 1024) & ((1 <= e) & ((e <= 4096) & ((k <= v) & (n <= v)))))
-}
-
-// How many words a table of these sizes has.
-fn words_of(v: usize, e: usize, k: usize, n: usize) -> usize
-    requires { ⌜ (v ≤ 1024) × (e ≤ 4096) × (k ≤ 1024) × (n ≤ 1024) ⌝ }
-    ensures { λ r. ⌜ r ≡ fileWords v e k n ⌝ }
-{
-    4 + 5 * e + k + 2 * n + n * v
-}
-
 // A table that is not read on: its other words are passed over.
 fn refused(bytes: &mut [u8], left: usize, x: usize) -> usize
     requires { ⌜ length (now bytes) ≡ 8192 ⌝ }
@@ -294,10 +267,10 @@ fn sized(bytes: &mut [u8], v: usize, e: usize, k: usize, n: usize) -> usize
 fn counted(bytes: &mut [u8], left: usize, v: usize, e: usize, k: usize, n: usize) -> usize
     requires { ⌜ (length (now bytes) ≡ 8192) × (left < wordLimit) ⌝ }
 {
-    if !sizes_fit(v, e, k, n) {
+    if !table_file::sizes_fit(v, e, k, n) {
         return refused(bytes, left, 4);
     }
-    if 4 + left != words_of(v, e, k, n) {
+    if 4 + left != table_file::words_of(v, e, k, n) {
         return refused(bytes, left, 2);
     }
     sized(bytes, v, e, k, n)

@@ -8,7 +8,7 @@ use lib.IntN.{ℤ}
 use lib.ListN.{length, getD, set, take, length-take}
 use lib.Seq.{getD-set-same, getD-set-other, take-set-le, take-set-lt, take-suc-set, take-take}
 use Rattle.graph.specs.State.{withActive}
-use Rattle.graph.specs.Rows.{rows, offset}
+use Rattle.graph.specs.Rows.{rows, offset, headerRow, activeRow}
 use Rattle.graph.specs.Layout.{rowsOf, row, stateFrom, stateOf}
 use Rattle.graph.specs.Form.{Laid, Listed, Wired, PackedRows, GraphRows, Formed}
 use Rattle.graph.specs.inner.Form.{Rowed, Becomes}
@@ -16,32 +16,32 @@ use Rattle.graph.specs.inner.Recounted.{ActiveRecounted}
 use Rattle.graph.specs.laws.Row.{header-get, rows-length, becomes-row, becomes-then, rowed-row, formed-of}
 
 -- the list stands at the front of its row
-active-count : (b : List ℤ) → Laid b → getD (row (rowsOf b) 0) 5 0 ≡ length (stateOf b .active)
+active-count : (b : List ℤ) → Laid b → getD (row (rowsOf b) headerRow) 5 0 ≡ length (stateOf b .active)
 unfolding Laid
 active-count b q = header-get b 5 (omega arith) ∙ sym (q .counted .actives)
 
-pub active-of : (b : List ℤ) → Laid b → stateOf b .active ≡ take (length (stateOf b .active)) (row (rowsOf b) 19)
+pub active-of : (b : List ℤ) → Laid b → stateOf b .active ≡ take (length (stateOf b .active)) (row (rowsOf b) activeRow)
 unfolding stateOf stateFrom
-active-of b q = ap (λ k. take k (row (rowsOf b) 19)) (active-count b q)
+active-of b q = ap (λ k. take k (row (rowsOf b) activeRow)) (active-count b q)
 
 -- ---- a word of its row
 
-module _ (b b' : List ℤ) (f : Formed b) (i x : ℕ) (r : Rowed 19 b b' (set (row (rowsOf b) 19) i x)) where
-  same-packed : PackedRows (set (rowsOf b) 19 (set (row (rowsOf b) 19) i x))
+module _ (b b' : List ℤ) (f : Formed b) (i x : ℕ) (r : Rowed activeRow b b' (set (row (rowsOf b) activeRow) i x)) where
+  same-packed : PackedRows (set (rowsOf b) activeRow (set (row (rowsOf b) activeRow) i x))
   unfolding Listed rowsOf rows
   same-packed = f .listed
 
-  same-graph : GraphRows (set (rowsOf b) 19 (set (row (rowsOf b) 19) i x))
+  same-graph : GraphRows (set (rowsOf b) activeRow (set (row (rowsOf b) activeRow) i x))
   unfolding Wired rowsOf rows
   same-graph = f .wired
 
   put-state : i < length (stateOf b .active)
-      → stateFrom (set (rowsOf b) 19 (set (row (rowsOf b) 19) i x)) ≡ withActive (stateOf b) (set (stateOf b .active) i x)
+      → stateFrom (set (rowsOf b) activeRow (set (row (rowsOf b) activeRow) i x)) ≡ withActive (stateOf b) (set (stateOf b .active) i x)
   unfolding stateOf stateFrom withActive rowsOf rows
   put-state h =
-      let k : ℕ = getD (row (rowsOf b) 0) 5 0 in
-      let j : i < k = omega (arith, h, length-take k (row (rowsOf b) 19)) in
-      rw (take-set-lt k (row (rowsOf b) 19) i x j) refl
+      let k : ℕ = getD (row (rowsOf b) headerRow) 5 0 in
+      let j : i < k = omega (arith, h, length-take k (row (rowsOf b) activeRow)) in
+      rw (take-set-lt k (row (rowsOf b) activeRow) i x j) refl
 
   pub entry-put : i < length (stateOf b .active) → Becomes b b' (withActive (stateOf b) (set (stateOf b .active) i x))
   entry-put h = becomes-row r same-packed same-graph (put-state h)
@@ -50,25 +50,25 @@ module _ (b b' : List ℤ) (f : Formed b) (i x : ℕ) (r : Rowed 19 b b' (set (r
 
 module _ (b b' : List ℤ) (f : Formed b) (x : ℕ) (r : ActiveRecounted b b' x) where
   header : List ℕ
-  header = set (row (rowsOf b) 0) 5 x
+  header = set (row (rowsOf b) headerRow) 5 x
 
-  header-length : length (row (rowsOf b) 0) ≡ 16
+  header-length : length (row (rowsOf b) headerRow) ≡ 16
   unfolding Laid offset
-  header-length = rows-length b 0 (omega (arith, f .laid .sized))
+  header-length = rows-length b headerRow (omega (arith, f .laid .sized))
 
   header-here : getD header 5 0 ≡ x
   unfolding header
-  header-here = getD-set-same (row (rowsOf b) 0) 5 x 0 (omega (arith, header-length))
+  header-here = getD-set-same (row (rowsOf b) headerRow) 5 x 0 (omega (arith, header-length))
 
-  header-other : (i : ℕ) → i < 5 → getD header i 0 ≡ getD (row (rowsOf b) 0) i 0
+  header-other : (i : ℕ) → i < 5 → getD header i 0 ≡ getD (row (rowsOf b) headerRow) i 0
   unfolding header
-  header-other i h = getD-set-other (row (rowsOf b) 0) 5 i x 0 (λ e. omega arith)
+  header-other i h = getD-set-other (row (rowsOf b) headerRow) 5 i x 0 (λ e. omega arith)
 
-  header-mark : getD header 6 0 ≡ getD (row (rowsOf b) 0) 6 0
+  header-mark : getD header 6 0 ≡ getD (row (rowsOf b) headerRow) 6 0
   unfolding header
-  header-mark = getD-set-other (row (rowsOf b) 0) 5 6 x 0 (λ e. omega arith)
+  header-mark = getD-set-other (row (rowsOf b) headerRow) 5 6 x 0 (λ e. omega arith)
 
-  counted-packed : PackedRows (set (rowsOf b) 0 header)
+  counted-packed : PackedRows (set (rowsOf b) headerRow header)
   unfolding Listed rowsOf rows
   counted-packed =
       let q = f .listed in
@@ -78,7 +78,7 @@ module _ (b b' : List ℤ) (f : Formed b) (x : ℕ) (r : ActiveRecounted b b' x)
         total = rw (header-other 4 (omega arith), header-other 3 (omega arith)) (q .total);
       }
 
-  counted-graph : GraphRows (set (rowsOf b) 0 header)
+  counted-graph : GraphRows (set (rowsOf b) headerRow header)
   unfolding Wired rowsOf rows
   counted-graph =
       let g = f .wired in
@@ -90,17 +90,17 @@ module _ (b b' : List ℤ) (f : Formed b) (x : ℕ) (r : ActiveRecounted b b' x)
         originals = g .originals;
       }
 
-  counted-state : stateFrom (set (rowsOf b) 0 header) ≡ withActive (stateOf b) (take x (row (rowsOf b) 19))
+  counted-state : stateFrom (set (rowsOf b) headerRow header) ≡ withActive (stateOf b) (take x (row (rowsOf b) activeRow))
   unfolding stateOf stateFrom withActive rowsOf rows
   counted-state =
       rw (header-here, header-other 0 (omega arith), header-other 2 (omega arith), header-other 3 (omega arith), header-other 4 (omega arith), header-mark) refl
 
-  rows-are : rowsOf b' ≡ set (rowsOf b) 0 header
+  rows-are : rowsOf b' ≡ set (rowsOf b) headerRow header
   unfolding header
   rows-are = r .rows
 
   -- the list is cut, or goes on behind its end, after x places of its row
-  pub recounted-list : Becomes b b' (withActive (stateOf b) (take x (row (rowsOf b) 19)))
+  pub recounted-list : Becomes b b' (withActive (stateOf b) (take x (row (rowsOf b) activeRow)))
   recounted-list = record {
     formed = formed-of b' (r .laid) (rw rows-are counted-packed) (rw rows-are counted-graph);
     state = unfold stateOf in (rw rows-are counted-state);
@@ -113,8 +113,8 @@ module _ (b b' : List ℤ) (f : Formed b) (x : ℕ) (r : ActiveRecounted b b' x)
 
   pub list-cut : x ≤ length (stateOf b .active) → Becomes b b' (withActive (stateOf b) (take x (stateOf b .active)))
   list-cut h =
-      let e : take x (stateOf b .active) ≡ take x (row (rowsOf b) 19) =
-      ap (take x) (active-of b (f .laid)) ∙ take-front x (length (stateOf b .active)) (row (rowsOf b) 19) h in
+      let e : take x (stateOf b .active) ≡ take x (row (rowsOf b) activeRow) =
+      ap (take x) (active-of b (f .laid)) ∙ take-front x (length (stateOf b .active)) (row (rowsOf b) activeRow) h in
       rw e recounted-list
     where
       take-front : (n m : ℕ) (l : List ℕ) → n ≤ m → take n (take m l) ≡ take n l
@@ -128,26 +128,26 @@ module _
     (k n : ℕ)
     (e : k ≡ length (stateOf b₀ .active))
     (room : k < stateOf b₀ .nodeLimit)
-    (p : Rowed 19 b₀ b₁ (set (row (rowsOf b₀) 19) k n))
+    (p : Rowed activeRow b₀ b₁ (set (row (rowsOf b₀) activeRow) k n))
     (r : ActiveRecounted b₁ b (k + 1))
   where
-    behind-state : stateFrom (set (rowsOf b₀) 19 (set (row (rowsOf b₀) 19) k n)) ≡ stateOf b₀
+    behind-state : stateFrom (set (rowsOf b₀) activeRow (set (row (rowsOf b₀) activeRow) k n)) ≡ stateOf b₀
     unfolding stateOf stateFrom rowsOf rows
     behind-state =
-        let c : getD (row (rowsOf b₀) 0) 5 0 ≤ k = omega (arith, active-count b₀ (f .laid), e) in
-        rw (take-set-le (getD (row (rowsOf b₀) 0) 5 0) (row (rowsOf b₀) 19) k n c) refl
+        let c : getD (row (rowsOf b₀) headerRow) 5 0 ≤ k = omega (arith, active-count b₀ (f .laid), e) in
+        rw (take-set-le (getD (row (rowsOf b₀) headerRow) 5 0) (row (rowsOf b₀) activeRow) k n c) refl
 
     behind-list : Becomes b₀ b₁ (stateOf b₀)
     behind-list = becomes-row p (same-packed b₀ b₁ f k n p) (same-graph b₀ b₁ f k n p) behind-state
 
-    row-room : k < length (row (rowsOf b₀) 19)
+    row-room : k < length (row (rowsOf b₀) activeRow)
     unfolding Laid offset
-    row-room = omega (arith, rows-length b₀ 19 (omega (arith, f .laid .sized)), f .laid .counted .node-limit)
+    row-room = omega (arith, rows-length b₀ activeRow (omega (arith, f .laid .sized)), f .laid .counted .node-limit)
 
     pub list-pushed : Becomes b₀ b (withActive (stateOf b₀) (stateOf b₀ .active ++ (n ∷ [])))
     list-pushed =
         let q = recounted-list b₁ b (behind-list .formed) (k + 1) r in
-        let w : row (rowsOf b₁) 19 ≡ set (row (rowsOf b₀) 19) k n = rowed-row (omega arith) p in
-        let a : stateOf b₀ .active ≡ take k (row (rowsOf b₀) 19) = rw e (active-of b₀ (f .laid)) in
-        let z : take (k + 1) (row (rowsOf b₁) 19) ≡ stateOf b₀ .active ++ (n ∷ []) = rw (w, a, add-one) (take-suc-set (row (rowsOf b₀) 19) k n row-room) in
+        let w : row (rowsOf b₁) activeRow ≡ set (row (rowsOf b₀) activeRow) k n = rowed-row (omega arith) p in
+        let a : stateOf b₀ .active ≡ take k (row (rowsOf b₀) activeRow) = rw e (active-of b₀ (f .laid)) in
+        let z : take (k + 1) (row (rowsOf b₁) activeRow) ≡ stateOf b₀ .active ++ (n ∷ []) = rw (w, a, add-one) (take-suc-set (row (rowsOf b₀) activeRow) k n row-room) in
         becomes-then behind-list (rw (z, behind-list .state) at q)

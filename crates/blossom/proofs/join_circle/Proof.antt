@@ -25,7 +25,7 @@ returns : tie.Need-returns
 returns c = let s = c .before .before .before .before .before .before .before .before .before .before in
     let p = c .before .before .before .before .before .before .before .prepare-members .ensures in
     let r = c .before .before .join-members .ensures in
-    (circle-joined _ (map toNat (s .args .circle .now)) (s .pre .3) (p .0) (r .0), r .1)
+    (circle-joined _ (map toNat (s .args .circle .now)) (s .pre .3) (p .0) (r .0), r .1, p .3)
 
 pub join-circle-spec : {M : Type 1} → statement M
 join-circle-spec =

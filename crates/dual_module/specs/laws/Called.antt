@@ -203,14 +203,14 @@ node-anyway : (c : State) (n : ℕ) (short : Bool) → nodeRefusal c n false fal
 unfolding nodeRefusal
 node-anyway c n short h = refused-anyway (badNode c n) (inBlossom c n) short h
 
-toward-below : (x : ℕ) → ltb up (toward x) ≡ false
+pub toward-below : (x : ℕ) → ltb up (toward x) ≡ false
 unfolding toward
 toward-below x = by-test (eqb x growing) (λ e. rw e) (λ e. rw e)
 
 module _ {b : List ℤ} (f : Formed b) (n k : ℕ)
     (e : k ≡ nodeRefusal (stateOf b) n false (storeShort (stateOf b) (n ∷ []) 1)) (h : k ≢ 0)
     (s : not (eqb (growStateOf (stateOf b) n) stay) ≡ true) where
-  length-short : (x : ℕ) → maxUpdateLength (stateOf b) n (toward x) true ≡ says (Refused k) (stateOf b)
+  pub length-short : (x : ℕ) → maxUpdateLength (stateOf b) n (toward x) true ≡ says (Refused k) (stateOf b)
   unfolding maxUpdateLength unless
   length-short x = rw (toward-below x, ← e, ne-eqb k 0 h)
 

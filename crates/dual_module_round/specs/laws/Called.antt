@@ -33,11 +33,12 @@ use Rattle.calls.specs.Refuse.{unless}
 use Rattle.calls.specs.inner.Reply.{Replies, Usable}
 use Rattle.calls.specs.Round.{refusalOf, tried, preparedAll, prepareAll, round, renewActiveList, GroupReply, answersOf, groupOf, isRefused, groupRefusal, groupLength}
 use Rattle.calls.specs.laws.Grouped.{of-answered}
-use Rattle.round.specs.inner.Step.{wholeTrial, TriedTo}
-use Rattle.round.specs.Asked.{listedFrom}
+use Rattle.round_trial.specs.Trial.{wholeTrial}
+use Rattle.round_trial.specs.inner.Step.{TriedTo}
+use Rattle.round_list.specs.Asked.{listedFrom}
 use Rattle.round.specs.inner.Group.{GroupTried}
-use Rattle.round.specs.laws.InTurn.{turned-none, turned-some}
-use Rattle.round.specs.laws.Listing.{listed-none}
+use Rattle.round_trial.specs.laws.InTurn.{turned-none, turned-some}
+use Rattle.round_list.specs.laws.Listing.{listed-none}
 use Rattle.dual_module.specs.laws.Called.{lendable-usable}
 use Rattle.dual_module_round.specs.Called.{trialRefusal, groupTrialRefusal, belowOne, roundRefusal, OnTrial, trialReply, trialAnswer, GroupOnTrial}
 

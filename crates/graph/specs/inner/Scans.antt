@@ -3,14 +3,12 @@ use Prim.Native.Nat.{ℕ, _+_, _≤_, _<_}
 use mathlib.Core.Path.{_≡_}
 use mathlib.Core.Bool.{Bool, true, _&&_, not}
 use mathlib.Core.List.{List, map}
-use lib.IntN.{ℤ}
-use lib.Dec.{eqb, leb, ltb}
+use lib.Dec.{eqb, leb}
 use lib.ListN.{length, getD, take}
 use Rattle.graph.specs.Basic.{all, member, distinct, same}
-use Rattle.graph.specs.State.{State, Overgrown, vertexCount, sideCount, sidesAt, virtualAt, defectAt, holderAt, vertexHolderAt, vertexGrandsonAt, classOf, growStateOf, dualOf, overgrownOf}
+use Rattle.graph.specs.State.{State, Overgrown, sidesAt, virtualAt, defectAt, holderAt, vertexHolderAt, vertexGrandsonAt, classOf, growStateOf, dualOf, overgrownOf}
 use Rattle.graph.specs.Open.{dualLimit, sidesOf}
 use Rattle.graph.specs.Sound.{nodeOrNone, classSound, parentSound, isRemoved}
-use Rattle.graph.specs.inner.SidesAt.{lastWord, firstWord}
 
 -- the numbers of vertex v
 unfoldable pub vertexNumbers : State → ℕ → Bool
@@ -24,21 +22,9 @@ nodeNumbers c n = classSound c n (classOf c n) && leb (growStateOf c n) 2 && par
 unfoldable pub live : State → ℕ → Bool
 live c n = not (isRemoved (classOf c n))
 
--- the sides at vertex v do not end before they begin
-unfoldable pub risesAt : List ℤ → ℕ → Bool
-risesAt b v = leb (firstWord b v) (lastWord b v)
-
 -- the sides at vertex v are those whose end it is
 unfoldable pub wiredAt : State → ℕ → Bool
 wiredAt c v = same (sidesAt c v) (sidesOf (c .graph .end) v)
-
--- side s is entry i of the sides at vertex v
-unfoldable pub standsAt : State → ℕ → ℕ → ℕ → Bool
-standsAt c v i s = ltb i (length (sidesAt c v)) && eqb (getD (sidesAt c v) i 0) s
-
--- vertex v has as many sides as `next` counted
-unfoldable pub countedAt : State → List ℕ → ℕ → Bool
-countedAt c next v = eqb (getD next v 0) (length (sidesAt c v))
 
 -- side s, and vertex v, are held by node n
 unfoldable pub sideHeld : State → ℕ → ℕ → Bool
@@ -70,10 +56,3 @@ pub record Stamped (k : ℕ) (p : ℕ → Bool) (l : List ℕ) (i : ℕ) (m : Li
   pub marks : Carry k l i m
   pub once : distinct (take i l) ≡ true
   pub pass : all p (take i l) ≡ true
-
--- two arrays of stamps, one over the sides and one over the vertices, with no stamp above n
-pub record Stamps (c : State) (n : ℕ) (sides vertices : List ℕ) : Type 0 where
-  pub sides-room : sideCount c ≤ length sides
-  pub vertices-room : vertexCount c ≤ length vertices
-  pub sides-most : AtMost sides n
-  pub vertices-most : AtMost vertices n

@@ -13,7 +13,7 @@ use Rattle.graph.specs.Basic.{all, below}
 use Rattle.graph.specs.State.{vertexCount, edgeCount, sideCount, nodeCount, sidesAt}
 use Rattle.graph.specs.Open.{sidesOf}
 use Rattle.graph.specs.Word.{wordAt}
-use Rattle.graph.specs.Rows.{offset}
+use Rattle.graph.specs.Rows.{offset, headerRow, flagsRow, vertexHolderRow, vertexGrandsonRow, firstRow, endRow, growthRow, holderRow, grandsonRow, atRow, classRow, parentRow, dualRow, boundaryLengthRow, overgrownLengthRow, storeRow, activeRow, originalRow}
 use Rattle.graph.specs.Layout.{stateOf, stateFrom, rowsOf, row, classFrom, stretches, boundaries, stacks, countOf, nOf}
 use Rattle.graph.specs.Form.{Laid, Wired, Formed}
 use Rattle.graph.specs.laws.Members.{all-from}
@@ -42,35 +42,35 @@ length-stacks (b ∷ bs) (o ∷ os) l zero x y = absurd (omega arith)
 length-stacks (b ∷ bs) (o ∷ os) l (suc k) x y = ap suc (length-stacks bs os (drop (b + o) l) k (omega arith) (omega arith))
 
 -- a row over nodes, cut at the number of nodes
-cut-length : (b : List ℤ) (l : List ℕ) → Laid b → length l ≡ nOf b → length (take (getD (row (rowsOf b) 0) 4 0) l) ≡ nodeCount (stateOf b)
+cut-length : (b : List ℤ) (l : List ℕ) → Laid b → length l ≡ nOf b → length (take (getD (row (rowsOf b) headerRow) 4 0) l) ≡ nodeCount (stateOf b)
 unfolding Laid
 cut-length b l q e =
-    let c : getD (row (rowsOf b) 0) 4 0 ≡ countOf b = header-get b 4 (omega arith) in
-    length-take (getD (row (rowsOf b) 0) 4 0) l ∙ omega (arith, q .counted .nodes, q .counted .count-max)
+    let c : getD (row (rowsOf b) headerRow) 4 0 ≡ countOf b = header-get b 4 (omega arith) in
+    length-take (getD (row (rowsOf b) headerRow) 4 0) l ∙ omega (arith, q .counted .nodes, q .counted .count-max)
 
 pub laid-shape : (b : List ℤ) → Laid b → Shape (stateOf b)
 unfolding Laid stateOf stateFrom offset
 laid-shape b q =
-    let count : ℕ = getD (row (rowsOf b) 0) 4 0 in
+    let count : ℕ = getD (row (rowsOf b) headerRow) 4 0 in
     let k = q .counted in
-    let bs : length (take count (row (rowsOf b) 16)) ≡ nodeCount (stateOf b) = cut-length b (row (rowsOf b) 16) q (rows-length b 16 (omega arith)) in
-    let os : length (take count (row (rowsOf b) 17)) ≡ nodeCount (stateOf b) = cut-length b (row (rowsOf b) 17) q (rows-length b 17 (omega arith)) in
+    let bs : length (take count (row (rowsOf b) boundaryLengthRow)) ≡ nodeCount (stateOf b) = cut-length b (row (rowsOf b) boundaryLengthRow) q (rows-length b boundaryLengthRow (omega arith)) in
+    let os : length (take count (row (rowsOf b) overgrownLengthRow)) ≡ nodeCount (stateOf b) = cut-length b (row (rowsOf b) overgrownLengthRow) q (rows-length b overgrownLengthRow (omega arith)) in
     record {
       end = k .sides ∙ ap (λ e. 2 * e) (sym (k .edges));
-      original = rows-length b 20 (omega arith) ∙ sym (k .edges);
-      at = length-stretches (row (rowsOf b) 4) (row (rowsOf b) 9) ∙ rows-length b 4 (omega arith) ∙ sym (k .vertices);
-      defect = length-map (row (rowsOf b) 1) (λ x. x / 2) ∙ rows-length b 1 (omega arith) ∙ sym (k .vertices);
-      vertexHolder = rows-length b 2 (omega arith) ∙ sym (k .vertices);
-      vertexGrandson = rows-length b 3 (omega arith) ∙ sym (k .vertices);
-      growth = rows-length b 6 (omega arith) ∙ sym (k .sides);
-      holder = rows-length b 7 (omega arith) ∙ sym (k .sides);
-      grandson = rows-length b 8 (omega arith) ∙ sym (k .sides);
-      class = length-map (take count (row (rowsOf b) 11)) (classFrom (getD (row (rowsOf b) 0) 0 0))
-          ∙ cut-length b (row (rowsOf b) 11) q (rows-length b 11 (omega arith));
-      parent = cut-length b (row (rowsOf b) 13) q (rows-length b 13 (omega arith));
-      dual = cut-length b (row (rowsOf b) 14) q (rows-length b 14 (omega arith));
-      boundary = length-boundaries (take count (row (rowsOf b) 16)) (take count (row (rowsOf b) 17)) (row (rowsOf b) 18) (nodeCount (stateOf b)) bs os;
-      overgrown = length-stacks (take count (row (rowsOf b) 16)) (take count (row (rowsOf b) 17)) (row (rowsOf b) 18) (nodeCount (stateOf b)) bs os;
+      original = rows-length b originalRow (omega arith) ∙ sym (k .edges);
+      at = length-stretches (row (rowsOf b) firstRow) (row (rowsOf b) atRow) ∙ rows-length b firstRow (omega arith) ∙ sym (k .vertices);
+      defect = length-map (row (rowsOf b) flagsRow) (λ x. x / 2) ∙ rows-length b flagsRow (omega arith) ∙ sym (k .vertices);
+      vertexHolder = rows-length b vertexHolderRow (omega arith) ∙ sym (k .vertices);
+      vertexGrandson = rows-length b vertexGrandsonRow (omega arith) ∙ sym (k .vertices);
+      growth = rows-length b growthRow (omega arith) ∙ sym (k .sides);
+      holder = rows-length b holderRow (omega arith) ∙ sym (k .sides);
+      grandson = rows-length b grandsonRow (omega arith) ∙ sym (k .sides);
+      class = length-map (take count (row (rowsOf b) classRow)) (classFrom (getD (row (rowsOf b) headerRow) 0 0))
+          ∙ cut-length b (row (rowsOf b) classRow) q (rows-length b classRow (omega arith));
+      parent = cut-length b (row (rowsOf b) parentRow) q (rows-length b parentRow (omega arith));
+      dual = cut-length b (row (rowsOf b) dualRow) q (rows-length b dualRow (omega arith));
+      boundary = length-boundaries (take count (row (rowsOf b) boundaryLengthRow)) (take count (row (rowsOf b) overgrownLengthRow)) (row (rowsOf b) storeRow) (nodeCount (stateOf b)) bs os;
+      overgrown = length-stacks (take count (row (rowsOf b) boundaryLengthRow)) (take count (row (rowsOf b) overgrownLengthRow)) (row (rowsOf b) storeRow) (nodeCount (stateOf b)) bs os;
     }
 
 laid-vertices : (b : List ℤ) → Laid b → 1 ≤ vertexCount (stateOf b)
@@ -96,7 +96,7 @@ formed-growths b f = formed-shape b f .growth ∙ f .pairs
 -- the sides at a vertex are sides
 pub formed-sides : (b : List ℤ) → Formed b → (v : ℕ) → all (λ t. ltb t (sideCount (stateOf b))) (sidesAt (stateOf b) v) ≡ true
 unfolding Wired stateOf stateFrom
-formed-sides b f v = rw (f .wired .sides) (each (row (rowsOf b) 5) (below (getD (row (rowsOf b) 0) 0 0)) v)
+formed-sides b f v = rw (f .wired .sides) (each (row (rowsOf b) endRow) (below (getD (row (rowsOf b) headerRow) 0 0)) v)
   where
     each : (ends vs : List ℕ) (v : ℕ) → all (λ t. ltb t (length ends)) (getD (map (sidesOf ends) vs) v []) ≡ true
     each ends [] v = unfold all in refl
@@ -107,6 +107,6 @@ formed-sides b f v = rw (f .wired .sides) (each (row (rowsOf b) 5) (below (getD 
 pub active-entry : (b : List ℤ) (i p : ℕ) → i < length (stateOf b .active) → InRow b 19 i p → wordAt b p ≡ getD (stateOf b .active) i 0
 unfolding stateOf stateFrom
 active-entry b i p h s =
-    let k : ℕ = getD (row (rowsOf b) 0) 5 0 in
-    let j : i < k = omega (arith, h, length-take k (row (rowsOf b) 19)) in
-    rows-get b 19 i p s ∙ sym (getD-take k (row (rowsOf b) 19) i 0 j)
+    let k : ℕ = getD (row (rowsOf b) headerRow) 5 0 in
+    let j : i < k = omega (arith, h, length-take k (row (rowsOf b) activeRow)) in
+    rows-get b 19 i p s ∙ sym (getD-take k (row (rowsOf b) activeRow) i 0 j)

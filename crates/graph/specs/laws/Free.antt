@@ -15,7 +15,7 @@ use Rattle.graph.specs.Sound.{entries}
 use Rattle.graph.specs.Layout.{countOf, activeCountOf, sizesOf, rowsOf, row, boundaries, stacks, stateFrom, stateOf, sized, packed, blockSound, memoryFits, blockRefusal, memoryRefusal}
 use Rattle.graph.specs.State.{nodeCount}
 use Rattle.graph.specs.Word.{toNat, wordAt}
-use Rattle.graph.specs.Rows.{offset}
+use Rattle.graph.specs.Rows.{offset, headerRow, boundaryLengthRow, overgrownLengthRow, storeRow, activeRow, originalRow}
 use Rattle.graph.specs.Form.{Laid, Formed}
 use Rattle.graph.specs.Free.{freePlace}
 use Rattle.graph.specs.laws.Cut.{total-sum}
@@ -52,15 +52,15 @@ stacks-front (b ∷ bs) (o ∷ os) l i x h =
 
 -- all that the state and the tests of a block read of its rows
 record ReadAlike (r q : List (List ℕ)) : Type 0 where
-  pub header : (i : ℕ) → i < 7 → getD (row q 0) i 0 ≡ getD (row r 0) i 0
+  pub header : (i : ℕ) → i < 7 → getD (row q headerRow) i 0 ≡ getD (row r headerRow) i 0
   pub fixed : (k : ℕ) → 1 ≤ k → k ≤ 10 → row q k ≡ row r k
-  pub nodes : (k : ℕ) → 11 ≤ k → k ≤ 17 → take (getD (row r 0) 4 0) (row q k) ≡ take (getD (row r 0) 4 0) (row r k)
-  pub boundary : (bs os : List ℕ) → bs ≡ take (getD (row r 0) 4 0) (row r 16) → os ≡ take (getD (row r 0) 4 0) (row r 17)
-      → boundaries bs os (row q 18) ≡ boundaries bs os (row r 18)
-  pub overgrown : (bs os : List ℕ) → bs ≡ take (getD (row r 0) 4 0) (row r 16) → os ≡ take (getD (row r 0) 4 0) (row r 17)
-      → stacks bs os (row q 18) ≡ stacks bs os (row r 18)
-  pub active : take (getD (row r 0) 5 0) (row q 19) ≡ take (getD (row r 0) 5 0) (row r 19)
-  pub original : row q 20 ≡ row r 20
+  pub nodes : (k : ℕ) → 11 ≤ k → k ≤ 17 → take (getD (row r headerRow) 4 0) (row q k) ≡ take (getD (row r headerRow) 4 0) (row r k)
+  pub boundary : (bs os : List ℕ) → bs ≡ take (getD (row r headerRow) 4 0) (row r boundaryLengthRow) → os ≡ take (getD (row r headerRow) 4 0) (row r overgrownLengthRow)
+      → boundaries bs os (row q storeRow) ≡ boundaries bs os (row r storeRow)
+  pub overgrown : (bs os : List ℕ) → bs ≡ take (getD (row r headerRow) 4 0) (row r boundaryLengthRow) → os ≡ take (getD (row r headerRow) 4 0) (row r overgrownLengthRow)
+      → stacks bs os (row q storeRow) ≡ stacks bs os (row r storeRow)
+  pub active : take (getD (row r headerRow) 5 0) (row q activeRow) ≡ take (getD (row r headerRow) 5 0) (row r activeRow)
+  pub original : row q originalRow ≡ row r originalRow
 
 state-alike : (r q : List (List ℕ)) → ReadAlike r q → stateFrom q ≡ stateFrom r
 unfolding stateFrom
@@ -112,48 +112,48 @@ module _ (r : List (List ℕ)) (k i x : ℕ) where
 
   header-alike : k ≡ 0 → 7 ≤ i → 0 < length r → ReadAlike r with
   header-alike e h l = record {
-    header = λ j b. ap (λ z. getD z j 0) (row-here 0 (sym e) l) ∙ getD-set-other (row r 0) i j x 0 (λ z. omega arith);
+    header = λ j b. ap (λ z. getD z j 0) (row-here 0 (sym e) l) ∙ getD-set-other (row r headerRow) i j x 0 (λ z. omega arith);
     fixed = λ j b d. row-other j (λ z. omega arith);
-    nodes = λ j b d. ap (take (getD (row r 0) 4 0)) (row-other j (λ z. omega arith));
+    nodes = λ j b d. ap (take (getD (row r headerRow) 4 0)) (row-other j (λ z. omega arith));
     boundary = λ bs os p q. ap (boundaries bs os) (row-other 18 (λ z. omega arith));
     overgrown = λ bs os p q. ap (stacks bs os) (row-other 18 (λ z. omega arith));
-    active = ap (take (getD (row r 0) 5 0)) (row-other 19 (λ z. omega arith));
+    active = ap (take (getD (row r headerRow) 5 0)) (row-other 19 (λ z. omega arith));
     original = row-other 20 (λ z. omega arith);
   }
 
-  nodes-alike : 11 ≤ k → k ≤ 17 → getD (row r 0) 4 0 ≤ i → k < length r → ReadAlike r with
+  nodes-alike : 11 ≤ k → k ≤ 17 → getD (row r headerRow) 4 0 ≤ i → k < length r → ReadAlike r with
   nodes-alike low high h l = record {
     header = λ j b. ap (λ z. getD z j 0) (row-other 0 (λ z. omega arith));
     fixed = λ j b d. row-other j (λ z. omega arith);
     nodes = λ j b d.
         by-cases (decEq j k)
-        (λ e. rw e (ap (take (getD (row r 0) 4 0)) (row-here k refl l) ∙ take-set-le (getD (row r 0) 4 0) (row r k) i x h))
-        (λ e. ap (take (getD (row r 0) 4 0)) (row-other j e));
+        (λ e. rw e (ap (take (getD (row r headerRow) 4 0)) (row-here k refl l) ∙ take-set-le (getD (row r headerRow) 4 0) (row r k) i x h))
+        (λ e. ap (take (getD (row r headerRow) 4 0)) (row-other j e));
     boundary = λ bs os p q. ap (boundaries bs os) (row-other 18 (λ z. omega arith));
     overgrown = λ bs os p q. ap (stacks bs os) (row-other 18 (λ z. omega arith));
-    active = ap (take (getD (row r 0) 5 0)) (row-other 19 (λ z. omega arith));
+    active = ap (take (getD (row r headerRow) 5 0)) (row-other 19 (λ z. omega arith));
     original = row-other 20 (λ z. omega arith);
   }
 
-  store-alike : k ≡ 18 → sumOfLists (take (getD (row r 0) 4 0) (row r 16)) (take (getD (row r 0) 4 0) (row r 17)) ≤ i → k < length r → ReadAlike r with
+  store-alike : k ≡ 18 → sumOfLists (take (getD (row r headerRow) 4 0) (row r boundaryLengthRow)) (take (getD (row r headerRow) 4 0) (row r overgrownLengthRow)) ≤ i → k < length r → ReadAlike r with
   store-alike e h l = record {
     header = λ j b. ap (λ z. getD z j 0) (row-other 0 (λ z. omega arith));
     fixed = λ j b d. row-other j (λ z. omega arith);
-    nodes = λ j b d. ap (take (getD (row r 0) 4 0)) (row-other j (λ z. omega arith));
-    boundary = λ bs os p q. ap (boundaries bs os) (row-here 18 (sym e) (omega arith)) ∙ boundaries-front bs os (row r 18) i x (rw (p, q) h);
-    overgrown = λ bs os p q. ap (stacks bs os) (row-here 18 (sym e) (omega arith)) ∙ stacks-front bs os (row r 18) i x (rw (p, q) h);
-    active = ap (take (getD (row r 0) 5 0)) (row-other 19 (λ z. omega arith));
+    nodes = λ j b d. ap (take (getD (row r headerRow) 4 0)) (row-other j (λ z. omega arith));
+    boundary = λ bs os p q. ap (boundaries bs os) (row-here 18 (sym e) (omega arith)) ∙ boundaries-front bs os (row r storeRow) i x (rw (p, q) h);
+    overgrown = λ bs os p q. ap (stacks bs os) (row-here 18 (sym e) (omega arith)) ∙ stacks-front bs os (row r storeRow) i x (rw (p, q) h);
+    active = ap (take (getD (row r headerRow) 5 0)) (row-other 19 (λ z. omega arith));
     original = row-other 20 (λ z. omega arith);
   }
 
-  active-alike : k ≡ 19 → getD (row r 0) 5 0 ≤ i → k < length r → ReadAlike r with
+  active-alike : k ≡ 19 → getD (row r headerRow) 5 0 ≤ i → k < length r → ReadAlike r with
   active-alike e h l = record {
     header = λ j b. ap (λ z. getD z j 0) (row-other 0 (λ z. omega arith));
     fixed = λ j b d. row-other j (λ z. omega arith);
-    nodes = λ j b d. ap (take (getD (row r 0) 4 0)) (row-other j (λ z. omega arith));
+    nodes = λ j b d. ap (take (getD (row r headerRow) 4 0)) (row-other j (λ z. omega arith));
     boundary = λ bs os p q. ap (boundaries bs os) (row-other 18 (λ z. omega arith));
     overgrown = λ bs os p q. ap (stacks bs os) (row-other 18 (λ z. omega arith));
-    active = ap (take (getD (row r 0) 5 0)) (row-here 19 (sym e) (omega arith)) ∙ take-set-le (getD (row r 0) 5 0) (row r 19) i x h;
+    active = ap (take (getD (row r headerRow) 5 0)) (row-here 19 (sym e) (omega arith)) ∙ take-set-le (getD (row r headerRow) 5 0) (row r activeRow) i x h;
     original = row-other 20 (λ z. omega arith);
   }
 
@@ -161,8 +161,8 @@ free-alike : (b : List ℤ) → Formed b → (k i x : ℕ) → freePlace b k i �
 unfolding freePlace
 free-alike b f k i x h =
     let n : length (rowsOf b) ≡ 21 = rows-count b in
-    let c : getD (row (rowsOf b) 0) 4 0 ≡ countOf b = header-get b 4 (omega arith) in
-    let m : getD (row (rowsOf b) 0) 5 0 ≡ activeCountOf b = header-get b 5 (omega arith) in
+    let c : getD (row (rowsOf b) headerRow) 4 0 ≡ countOf b = header-get b 4 (omega arith) in
+    let m : getD (row (rowsOf b) headerRow) 5 0 ≡ activeCountOf b = header-get b 5 (omega arith) in
     or-cases (eqb k 0 && leb 7 i) _ h
     (λ e.
     let k₀ = eqb-true k 0 (and-left (eqb k 0) _ e) in
@@ -181,7 +181,7 @@ free-alike b f k i x h =
     let le = leb-true (entries (stateOf b)) i (and-right (eqb k 18) _ g) in
     let t = entries-total b (f .laid) (f .listed) (countOf b) (count-nodes b f) in
     store-alike (rowsOf b) k i x k₁
-    (rw c (omega (arith, total-sum 0 (take (countOf b) (row (rowsOf b) 16)) (take (countOf b) (row (rowsOf b) 17))))) (omega arith))
+    (rw c (omega (arith, total-sum 0 (take (countOf b) (row (rowsOf b) boundaryLengthRow)) (take (countOf b) (row (rowsOf b) overgrownLengthRow))))) (omega arith))
     (λ g.
     let k₂ = eqb-true k 19 (and-left (eqb k 19) _ g) in
     active-alike (rowsOf b) k i x k₂ (omega (arith, leb-true (activeCountOf b) i (and-right (eqb k 19) _ g))) (omega arith))))
@@ -222,7 +222,7 @@ module _ (b : List ℤ) (f : Formed b) (k i p : ℕ) (s : InRow b k i p) (free :
   free-word-packed : packed (set b p z) ≡ packed b
   unfolding packed
   free-word-packed =
-      let c : getD (row (rowsOf b) 0) 4 0 ≡ countOf b = header-get b 4 (omega arith) in
+      let c : getD (row (rowsOf b) headerRow) 4 0 ≡ countOf b = header-get b 4 (omega arith) in
       let n : (j : ℕ) → 11 ≤ j → j ≤ 17
       → take (countOf b) (row (rowsOf (set b p z)) j) ≡ take (countOf b) (row (rowsOf b) j) =
       λ j l h. rw c at (alike .nodes j l h) in

@@ -9,7 +9,7 @@ use lib.ListN.{length, set, getD, take, drop, length-set, length-take, length-dr
 use lib.Seq.{getD-take, getD-drop, getD-set-same, getD-set-other, set-set, set-getD, take-set-lt, take-set-le, drop-set-lt, drop-set-add}
 use Rattle.graph.specs.State.{State}
 use Rattle.graph.specs.Word.{toNat, wordAt}
-use Rattle.graph.specs.Rows.{rows, offset}
+use Rattle.graph.specs.Rows.{rows, offset, headerRow, flagsRow, endRow, weightRow, growStateRow, activeRow}
 use Rattle.graph.specs.Layout.{vOf, eOf, nOf, lOf, countOf, activeCountOf, sizesOf, rowsOf, row, stateFrom, stateOf}
 use Rattle.graph.specs.Form.{Sized, Counted, Laid, PackedRows, GraphRows, Listed, Wired, Formed}
 use Rattle.graph.specs.inner.Form.{Rowed, Becomes}
@@ -111,7 +111,7 @@ sized-put b p x z h =
 -- ---- the counts
 
 -- a word of the header
-pub header-get : (b : List ℤ) (i : ℕ) → i < 16 → getD (row (rowsOf b) 0) i 0 ≡ wordAt b i
+pub header-get : (b : List ℤ) (i : ℕ) → i < 16 → getD (row (rowsOf b) headerRow) i 0 ≡ wordAt b i
 unfolding offset
 header-get b i h = sym (rows-get b 0 i i (record { place = omega arith; within = h }))
 
@@ -126,19 +126,19 @@ rows-count b = refl
 pub counted-of : (b : List ℤ) → Sized b → countOf b ≤ nOf b → activeCountOf b ≤ nOf b → Counted b
 unfolding stateOf stateFrom offset
 counted-of b z h a =
-    let c : getD (row (rowsOf b) 0) 4 0 ≡ countOf b = header-get b 4 (omega arith) in
-    let l₁₂ : length (row (rowsOf b) 12) ≡ nOf b = rows-length b 12 (omega arith) in
-    let m : getD (row (rowsOf b) 0) 5 0 ≡ activeCountOf b = header-get b 5 (omega arith) in
-    let l₁₉ : length (row (rowsOf b) 19) ≡ nOf b = rows-length b 19 (omega arith) in
+    let c : getD (row (rowsOf b) headerRow) 4 0 ≡ countOf b = header-get b 4 (omega arith) in
+    let l₁₂ : length (row (rowsOf b) growStateRow) ≡ nOf b = rows-length b growStateRow (omega arith) in
+    let m : getD (row (rowsOf b) headerRow) 5 0 ≡ activeCountOf b = header-get b 5 (omega arith) in
+    let l₁₉ : length (row (rowsOf b) activeRow) ≡ nOf b = rows-length b activeRow (omega arith) in
     record {
-      vertices = length-map (row (rowsOf b) 1) (λ x. x % 2) ∙ rows-length b 1 (omega arith);
-      edges = rows-length b 10 (omega arith);
-      sides = rows-length b 5 (omega arith);
-      nodes = length-take (getD (row (rowsOf b) 0) 4 0) (row (rowsOf b) 12) ∙ omega arith;
+      vertices = length-map (row (rowsOf b) flagsRow) (λ x. x % 2) ∙ rows-length b flagsRow (omega arith);
+      edges = rows-length b weightRow (omega arith);
+      sides = rows-length b endRow (omega arith);
+      nodes = length-take (getD (row (rowsOf b) headerRow) 4 0) (row (rowsOf b) growStateRow) ∙ omega arith;
       node-limit = header-get b 2 (omega arith);
       store-limit = header-get b 3 (omega arith);
       count-max = h;
-      actives = length-take (getD (row (rowsOf b) 0) 5 0) (row (rowsOf b) 19) ∙ omega arith;
+      actives = length-take (getD (row (rowsOf b) headerRow) 5 0) (row (rowsOf b) activeRow) ∙ omega arith;
       active-max = a;
     }
 
@@ -255,7 +255,7 @@ pub rowed-put : (b : List ℤ) (k i p x : ℕ) → Laid b → Found b k i p → 
 rowed-put b k i p x q s = rowed-at b k i p x q (s .stands) (omega (arith, s .behind))
 
 -- the mark of changed weights, word 6 of the header
-pub rowed-mark : (b : List ℤ) (x : ℕ) → Laid b → Rowed 0 b (set b 6 (pos x)) (set (row (rowsOf b) 0) 6 x)
+pub rowed-mark : (b : List ℤ) (x : ℕ) → Laid b → Rowed headerRow b (set b 6 (pos x)) (set (row (rowsOf b) headerRow) 6 x)
 unfolding offset
 rowed-mark b x q = rowed-at b 0 6 6 x q (record { place = omega arith; within = omega arith }) (omega arith)
 

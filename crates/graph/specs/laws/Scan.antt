@@ -25,6 +25,7 @@ use Rattle.graph.specs.Form.{Laid}
 use Rattle.graph.specs.inner.Form.{sidesOk}
 use Rattle.graph.specs.laws.Row.{header-get}
 use Rattle.graph.specs.inner.Scans.{vertexNumbers, nodeNumbers, wiredAt}
+use Rattle.graph.specs.Rows.{headerRow, classRow, parentRow}
 
 pub and-false : (t : Bool) → t && false ≡ false
 and-false true = refl
@@ -115,9 +116,9 @@ ends-of b q h s k =
 
 -- word n of a row over nodes, cut at their number
 pub node-get : (b : List ℤ) (k n : ℕ) → Laid b → n < nodeCount (stateOf b)
-    → getD (take (getD (row (rowsOf b) 0) 4 0) (row (rowsOf b) k)) n 0 ≡ getD (row (rowsOf b) k) n 0
+    → getD (take (getD (row (rowsOf b) headerRow) 4 0) (row (rowsOf b) k)) n 0 ≡ getD (row (rowsOf b) k) n 0
 unfolding Laid
-node-get b k n q h = getD-take (getD (row (rowsOf b) 0) 4 0) (row (rowsOf b) k) n 0 (omega (arith, h, q .counted .nodes, header-get b 4 (omega arith)))
+node-get b k n q h = getD-take (getD (row (rowsOf b) headerRow) 4 0) (row (rowsOf b) k) n 0 (omega (arith, h, q .counted .nodes, header-get b 4 (omega arith)))
 
 class-map : (v : ℕ) (l : List ℕ) (n : ℕ) → 1 ≤ v → getD (map (classFrom v) l) n (defectVertex 0) ≡ classFrom v (getD l n 0)
 unfolding classFrom
@@ -127,11 +128,11 @@ class-map v (x ∷ l) (suc n) h = class-map v l n h
 
 -- the class of node n, as it is stored
 pub class-get : (b : List ℤ) (n : ℕ) → Laid b → n < nodeCount (stateOf b)
-    → classOf (stateOf b) n ≡ classFrom (vertexCount (stateOf b)) (getD (row (rowsOf b) 11) n 0)
+    → classOf (stateOf b) n ≡ classFrom (vertexCount (stateOf b)) (getD (row (rowsOf b) classRow) n 0)
 unfolding Laid stateOf stateFrom
 class-get b n q h =
-    let e : getD (row (rowsOf b) 0) 0 0 ≡ vertexCount (stateOf b) = header-get b 0 (omega arith) ∙ sym (q .counted .vertices) in
-    class-map (getD (row (rowsOf b) 0) 0 0) (take (getD (row (rowsOf b) 0) 4 0) (row (rowsOf b) 11)) n
+    let e : getD (row (rowsOf b) headerRow) 0 0 ≡ vertexCount (stateOf b) = header-get b 0 (omega arith) ∙ sym (q .counted .vertices) in
+    class-map (getD (row (rowsOf b) headerRow) 0 0) (take (getD (row (rowsOf b) headerRow) 4 0) (row (rowsOf b) classRow)) n
     (omega (arith, q .sized .v-min, header-get b 0 (omega arith)))
     ∙ rw (e, node-get b 11 n q h)
 
@@ -146,24 +147,24 @@ is-defect v x = go (ltb x v) (eqb x (v + removedPlace))
 
 -- a node is a removed one where its class word is V + 1024
 pub removed-node : (b : List ℤ) (n : ℕ) → Laid b → n < nodeCount (stateOf b)
-    → isRemoved (classOf (stateOf b) n) ≡ eqb (getD (row (rowsOf b) 11) n 0) (vertexCount (stateOf b) + removedPlace)
-removed-node b n q h = rw (class-get b n q h) (is-removed (vertexCount (stateOf b)) (getD (row (rowsOf b) 11) n 0))
+    → isRemoved (classOf (stateOf b) n) ≡ eqb (getD (row (rowsOf b) classRow) n 0) (vertexCount (stateOf b) + removedPlace)
+removed-node b n q h = rw (class-get b n q h) (is-removed (vertexCount (stateOf b)) (getD (row (rowsOf b) classRow) n 0))
 
 -- a node is a defect node where its class word is a vertex
 pub defect-node : (b : List ℤ) (n : ℕ) → Laid b → n < nodeCount (stateOf b)
-    → isDefect (classOf (stateOf b) n) ≡ ltb (getD (row (rowsOf b) 11) n 0) (vertexCount (stateOf b))
-defect-node b n q h = rw (class-get b n q h) (is-defect (vertexCount (stateOf b)) (getD (row (rowsOf b) 11) n 0))
+    → isDefect (classOf (stateOf b) n) ≡ ltb (getD (row (rowsOf b) classRow) n 0) (vertexCount (stateOf b))
+defect-node b n q h = rw (class-get b n q h) (is-defect (vertexCount (stateOf b)) (getD (row (rowsOf b) classRow) n 0))
 
 -- its class is sound where that word x is a vertex, V + 1024, or V + a node below it
 abbrev pub classTest : ℕ → ℕ → ℕ → Bool
 classTest v n x = if ltb x v then true else if eqb x (v + removedPlace) then true else ltb (x - v) n
 
 pub class-test : (b : List ℤ) (n : ℕ) → Laid b → n < nodeCount (stateOf b)
-    → classSound (stateOf b) n (classOf (stateOf b) n) ≡ classTest (vertexCount (stateOf b)) n (getD (row (rowsOf b) 11) n 0)
+    → classSound (stateOf b) n (classOf (stateOf b) n) ≡ classTest (vertexCount (stateOf b)) n (getD (row (rowsOf b) classRow) n 0)
 unfolding classSound classFrom
 class-test b n q h =
     let v : ℕ = vertexCount (stateOf b) in
-    let x : ℕ = getD (row (rowsOf b) 11) n 0 in
+    let x : ℕ = getD (row (rowsOf b) classRow) n 0 in
     rw (class-get b n q h) (go x (ltb x v) (eqb x (v + removedPlace)) refl)
   where
     go : (x : ℕ) (t r : Bool) → ltb x (vertexCount (stateOf b)) ≡ t
@@ -193,13 +194,7 @@ node-inner c n h p = rw (node-parts c n, h, ne-eqb (parentOf c n) 0 p)
 pub node-outermost : (c : State) (n : ℕ) → nodeRange c n ≡ true → parentOf c n ≡ 0 → ownLists c n ≡ nodeSound c n
 node-outermost c n h p = rw (node-parts c n, h, eq-eqb (parentOf c n) 0 p)
 
-pub range-sides : (c : State) (n : ℕ) → nodeRange c n ≡ true → sidesOk c n ≡ true
-range-sides c n h = and-right (nodeNumbers c n) (sidesOk c n) (and-left (nodeNumbers c n && sidesOk c n) (all (overSound c) (overgrownOf c n)) h)
-
-pub range-overgrown : (c : State) (n : ℕ) → nodeRange c n ≡ true → all (overSound c) (overgrownOf c n) ≡ true
-range-overgrown c n h = and-right (nodeNumbers c n && sidesOk c n) (all (overSound c) (overgrownOf c n)) h
-
 -- the parent of node n, as it is stored
-pub parent-get : (b : List ℤ) (n : ℕ) → Laid b → n < nodeCount (stateOf b) → parentOf (stateOf b) n ≡ getD (row (rowsOf b) 13) n 0
+pub parent-get : (b : List ℤ) (n : ℕ) → Laid b → n < nodeCount (stateOf b) → parentOf (stateOf b) n ≡ getD (row (rowsOf b) parentRow) n 0
 unfolding stateOf stateFrom
 parent-get b n q h = node-get b 13 n q h

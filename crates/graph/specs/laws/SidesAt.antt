@@ -17,7 +17,7 @@ use Rattle.graph.specs.laws.Members.{member-at}
 use Rattle.graph.specs.laws.Shape.{sides-of-out}
 use Rattle.graph.specs.Open.{sidesOf}
 use Rattle.graph.specs.State.{vertexCount, sideCount, sidesAt}
-use Rattle.graph.specs.Rows.{offset}
+use Rattle.graph.specs.Rows.{offset, headerRow, firstRow, atRow}
 use Rattle.graph.specs.Layout.{vOf, eOf, rowsOf, row, stretches, risingTo, stateFrom, stateOf}
 use Rattle.graph.specs.Form.{LaidOut, Laid, Wired}
 use Rattle.graph.specs.laws.Row.{rows-length, header-get}
@@ -52,11 +52,11 @@ getD-any [] i d e h = absurd (omega arith)
 getD-any (x ∷ l) zero d e h = refl
 getD-any (x ∷ l) (suc i) d e h = getD-any l i d e (omega arith)
 
-pub last-is : (b : List ℤ) (v : ℕ) → Laid b → v < vertexCount (stateOf b) → lastWord b v ≡ getD (row (rowsOf b) 4) (suc v) (sideCount (stateOf b))
+pub last-is : (b : List ℤ) (v : ℕ) → Laid b → v < vertexCount (stateOf b) → lastWord b v ≡ getD (row (rowsOf b) firstRow) (suc v) (sideCount (stateOf b))
 unfolding Laid offset lastWord
 last-is b v q h =
-    let fs : List ℕ = row (rowsOf b) 4 in
-    let e : length fs ≡ vOf b = rows-length b 4 (omega arith) in
+    let fs : List ℕ = row (rowsOf b) firstRow in
+    let e : length fs ≡ vOf b = rows-length b firstRow (omega arith) in
     elim (decLt (v + 1) (vertexCount (stateOf b))) [
       | yes k ↦ rw (lt-ltb (v + 1) (vertexCount (stateOf b)) k, add-one)
           (getD-any fs (suc v) 0 (sideCount (stateOf b)) (omega (arith, e, k, q .counted .vertices)))
@@ -68,36 +68,36 @@ laid-out : (b : List ℤ) → Laid b → LaidOut b
 unfolding Laid
 laid-out b q = q
 
-first-length : (b : List ℤ) → Laid b → length (row (rowsOf b) 4) ≡ vOf b
+first-length : (b : List ℤ) → Laid b → length (row (rowsOf b) firstRow) ≡ vOf b
 unfolding Laid offset
-first-length b q = rows-length b 4 (omega arith)
+first-length b q = rows-length b firstRow (omega arith)
 
-at-length : (b : List ℤ) → Laid b → length (row (rowsOf b) 9) ≡ 2 * eOf b
+at-length : (b : List ℤ) → Laid b → length (row (rowsOf b) atRow) ≡ 2 * eOf b
 unfolding Laid offset
-at-length b q = rows-length b 9 (omega arith)
+at-length b q = rows-length b atRow (omega arith)
 
 pub laid-sides : (b : List ℤ) → Laid b → sideCount (stateOf b) ≤ 8192
 unfolding Laid
 laid-sides b q = omega arith
 
-sides-stretch : (b : List ℤ) (v : ℕ) → v < length (row (rowsOf b) 4)
+sides-stretch : (b : List ℤ) (v : ℕ) → v < length (row (rowsOf b) firstRow)
     → sidesAt (stateOf b) v
-    ≡ take (getD (row (rowsOf b) 4) (suc v) (length (row (rowsOf b) 9)) - firstWord b v)
-    (drop (firstWord b v) (row (rowsOf b) 9))
+    ≡ take (getD (row (rowsOf b) firstRow) (suc v) (length (row (rowsOf b) atRow)) - firstWord b v)
+    (drop (firstWord b v) (row (rowsOf b) atRow))
 unfolding stateOf stateFrom
-sides-stretch b v h = stretches-at (row (rowsOf b) 4) (row (rowsOf b) 9) v h
+sides-stretch b v h = stretches-at (row (rowsOf b) firstRow) (row (rowsOf b) atRow) v h
 
 -- the sides at v stand in `at`
 pub record Around (b : List ℤ) (v : ℕ) : Type 0 where
   pub rising : firstWord b v ≤ lastWord b v
   pub within : lastWord b v ≤ sideCount (stateOf b)
-  pub list : sidesAt (stateOf b) v ≡ take (lastWord b v - firstWord b v) (drop (firstWord b v) (row (rowsOf b) 9))
+  pub list : sidesAt (stateOf b) v ≡ take (lastWord b v - firstWord b v) (drop (firstWord b v) (row (rowsOf b) atRow))
   pub size : length (sidesAt (stateOf b) v) ≡ lastWord b v - firstWord b v
 
 pub around-of : (b : List ℤ) (v : ℕ) → Laid b → Rising b → v < vertexCount (stateOf b) → Around b v
 around-of b v q rs h =
-    let fs : List ℕ = row (rowsOf b) 4 in
-    let l : List ℕ = row (rowsOf b) 9 in
+    let fs : List ℕ = row (rowsOf b) firstRow in
+    let l : List ℕ = row (rowsOf b) atRow in
     let z : LaidOut b = laid-out b q in
     let l₄ : length fs ≡ vOf b = first-length b q in
     let l₉ : length l ≡ 2 * eOf b = at-length b q in
@@ -115,12 +115,12 @@ around-of b v q rs h =
     }
 
 pub side-entry : (b : List ℤ) (v i : ℕ) → Around b v → i < lastWord b v - firstWord b v
-    → getD (row (rowsOf b) 9) (firstWord b v + i) 0 ≡ getD (sidesAt (stateOf b) v) i 0
+    → getD (row (rowsOf b) atRow) (firstWord b v + i) 0 ≡ getD (sidesAt (stateOf b) v) i 0
 side-entry b v i q j =
     rw (
       q .list,
-      getD-take (lastWord b v - firstWord b v) (drop (firstWord b v) (row (rowsOf b) 9)) i 0 j,
-      getD-drop (firstWord b v) (row (rowsOf b) 9) i 0,
+      getD-take (lastWord b v - firstWord b v) (drop (firstWord b v) (row (rowsOf b) atRow)) i 0 j,
+      getD-drop (firstWord b v) (row (rowsOf b) atRow) i 0,
     )
 
 -- ---- of a block in form
@@ -134,11 +134,11 @@ sides-below ends [] v i h = absurd (omega arith)
 sides-below ends (w ∷ vs) zero i h = sides-of-out ends w (getD (sidesOf ends w) i 0) (member-at (sidesOf ends w) i 0 h) .0
 sides-below ends (w ∷ vs) (suc v) i h = sides-below ends vs v i h
 
-sides-are : (b : List ℤ) → Wired b → stateOf b .graph .at ≡ map (sidesOf (stateOf b .graph .end)) (below (getD (row (rowsOf b) 0) 0 0))
+sides-are : (b : List ℤ) → Wired b → stateOf b .graph .at ≡ map (sidesOf (stateOf b .graph .end)) (below (getD (row (rowsOf b) headerRow) 0 0))
 unfolding Wired stateOf stateFrom
 sides-are b w = w .sides
 
 pub vertex-side-below : (b : List ℤ) (v i : ℕ) → Wired b → i < length (sidesAt (stateOf b) v) → getD (sidesAt (stateOf b) v) i 0 < sideCount (stateOf b)
 vertex-side-below b v i w h =
     let e = sides-are b w in
-    rw e (sides-below (stateOf b .graph .end) (below (getD (row (rowsOf b) 0) 0 0)) v i (rw e at h))
+    rw e (sides-below (stateOf b .graph .end) (below (getD (row (rowsOf b) headerRow) 0 0)) v i (rw e at h))

@@ -7,20 +7,18 @@ use native.Mathlib.Decide.{ℕ-discrete as decEq}
 use mathlib.Core.Path.{_≡_, refl, sym, ap, _∙_}
 use mathlib.Core.Bool.{Bool, true, false, _&&_, _||_, not}
 use mathlib.Core.List.{List, [], _∷_, _++_, map}
-use lib.Dec.{eqb, ltb, leb}
-use lib.ListN.{length, getD, set, take, replicate, length-set, length-replicate, length-map, List·getD-map}
+use lib.Dec.{eqb}
+use lib.ListN.{length, getD, set, take, length-set, length-map, List·getD-map}
 use lib.Seq.{take-suc, take-all, getD-set-same, getD-set-other}
-use borrow.Author.Tests.{eq-eqb, ne-eqb, not-true, not-false, ltb-true}
+use borrow.Author.Tests.{eq-eqb, ne-eqb, not-true, not-false}
 use Rattle.graph.specs.Basic.{all, any, member, distinct}
 use Rattle.graph.specs.laws.State.{and-left, and-right}
 use Rattle.graph.specs.laws.Members.{both, member-nil, member-cons, member-at, distinct-snoc, all-snoc}
-use Rattle.graph.specs.State.{State, Overgrown, vertexCount, sideCount, boundaryOf, overgrownOf}
-use Rattle.graph.specs.Open.{dualLimit}
-use Rattle.graph.specs.Sound.{overSound, ownLists}
-use Rattle.graph.specs.laws.Opened.{getD-zeros}
+use Rattle.graph.specs.State.{State, Overgrown, boundaryOf, overgrownOf}
+use Rattle.graph.specs.Sound.{ownLists}
 use Rattle.graph.specs.Layout.{overgrownFrom}
-use Rattle.graph.specs.inner.Scans.{sideHeld, vertexHeld, overgrownVertices, onceAll, AtMost, Carry, Stamped, Stamps}
-use Rattle.graph.specs.laws.Scan.{and-false, list-at, list-fails}
+use Rattle.graph.specs.inner.Scans.{sideHeld, vertexHeld, overgrownVertices, onceAll, AtMost, Carry, Stamped}
+use Rattle.graph.specs.laws.Scan.{and-false, list-fails}
 
 -- ---- lists
 
@@ -138,40 +136,9 @@ own-both c n =
     (own-swap (distinct (boundaryOf c n)) (distinct (overgrownVertices c n)) (all (sideHeld c n) (boundaryOf c n))
     (all (vertexHeld c n) (overgrownVertices c n))))
 
--- where a stack holds vertices, entry i of their list is one
-pub overgrown-below : (c : State) (n i : ℕ) (d : Overgrown) → all (overSound c) (overgrownOf c n) ≡ true
-    → i < length (overgrownOf c n) → getD (overgrownOf c n) i d .vertex < vertexCount c
-unfolding overSound
-overgrown-below c n i d h k =
-    let o : Overgrown = getD (overgrownOf c n) i d in
-    ltb-true (o .vertex) (vertexCount c)
-    (and-left (ltb (o .vertex) (vertexCount c)) (leb (o .amount) dualLimit)
-    (list-at (overSound c) (overgrownOf c n) i d h k))
-
 pub overgrown-vertex : (c : State) (n i : ℕ) → getD (overgrownVertices c n) i 0 ≡ getD (overgrownOf c n) i (overgrownFrom 0) .vertex
 unfolding overgrownFrom
 overgrown-vertex c n i = List·getD-map (λ (o : Overgrown). o .vertex) (overgrownOf c n) i (overgrownFrom 0)
 
 pub overgrown-count : (c : State) (n : ℕ) → length (overgrownVertices c n) ≡ length (overgrownOf c n)
 overgrown-count c n = length-map (overgrownOf c n) (λ (o : Overgrown). o .vertex)
-
--- ---- the stamps of all nodes
-
--- at first there is none
-pub stamps-none : (c : State) (m k : ℕ) → sideCount c ≤ m → vertexCount c ≤ k → Stamps c 0 (replicate m 0) (replicate k 0)
-stamps-none c m k h j = record {
-  sides-room = rw (length-replicate {A = ℕ} m 0) h;
-  vertices-room = rw (length-replicate {A = ℕ} k 0) j;
-  sides-most = λ x. omega (arith, getD-zeros m x);
-  vertices-most = λ x. omega (arith, getD-zeros k x);
-}
-
--- a node that stamps nothing
-pub stamps-still : (c : State) (n : ℕ) (sides vertices : List ℕ) → Stamps c n sides vertices → Stamps c (n + 1) sides vertices
-stamps-still c n sides vertices s =
-    record {
-      sides-room = s .sides-room;
-      vertices-room = s .vertices-room;
-      sides-most = λ x. omega (arith, s .sides-most x);
-      vertices-most = λ x. omega (arith, s .vertices-most x);
-    }

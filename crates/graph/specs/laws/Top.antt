@@ -9,7 +9,7 @@ use lib.ListN.{length, set, getD, take, drop, length-set, length-drop}
 use lib.Seq.{getD-take, getD-drop, getD-set-same, getD-set-other, ext-getD, length-take-le, take-suc, take-all, set-at, set-getD}
 use borrow.Author.Tests.{lt-ltb, le-ltb, eq-eqb, ne-eqb}
 use Rattle.graph.specs.State.{Overgrown, nodeCount, boundaryOf, overgrownOf, withNodes, withOvergrown}
-use Rattle.graph.specs.Rows.{rows}
+use Rattle.graph.specs.Rows.{rows, storeRow}
 use Rattle.graph.specs.Layout.{rowsOf, classFrom, overgrownFrom, stackFrom, boundaries, stacks, stateFrom, stateOf}
 use Rattle.graph.specs.Form.{Listed, Wired, Formed}
 use Rattle.graph.specs.inner.Form.{Rowed, Becomes}
@@ -195,7 +195,7 @@ module _ (b₀ b : List ℤ) (n x p : ℕ) (f : Formed b₀) (h : n < nodeCount 
       stacks-cut bs os l' ∙ parts-now (λ b o l. stackFrom (take o (drop b l))) stack-local
       ∙ rw (← stacks-cut bs os l, stack-now, stack-top words (olenWord b₀ n - 1) x m, stack-is)
 
-  pub top-put : Rowed 18 b₀ b (set (storeOf b₀) p (x * 1024 + getD (storeOf b₀) p 0 % 1024))
+  pub top-put : Rowed storeRow b₀ b (set (storeOf b₀) p (x * 1024 + getD (storeOf b₀) p 0 % 1024))
       → Becomes b₀ b (withOvergrown (stateOf b₀) n (withTop x (overgrownOf (stateOf b₀) n)))
   unfolding Listed Wired rowsOf rows stateOf stateFrom withOvergrown withNodes bs os l l'
   top-put q = becomes-row q (f .listed) (f .wired) (rw (boundaries-now, stacks-now))

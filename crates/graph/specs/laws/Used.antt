@@ -9,7 +9,7 @@ use lib.Seq.{getD-take, length-take-le}
 use Rattle.graph.specs.Basic.{sumBelow}
 use Rattle.graph.specs.State.{State, nodeCount, boundaryOf, overgrownOf}
 use Rattle.graph.specs.Sound.{entries, entriesOf}
-use Rattle.graph.specs.Rows.{offset}
+use Rattle.graph.specs.Rows.{offset, headerRow, startRow, boundaryLengthRow, overgrownLengthRow}
 use Rattle.graph.specs.Layout.{rowsOf, row, stateOf}
 use Rattle.graph.specs.Form.{Laid, Listed, totalFrom}
 use Rattle.graph.specs.laws.Row.{header-get, rows-length}
@@ -51,28 +51,28 @@ entries-none c h = rw h
 -- ---- where the lists stand
 
 module _ (b : List ℤ) (q : Laid b) (f : Listed b) where
-  pub count-is : getD (row (rowsOf b) 0) 4 0 ≡ nodeCount (stateOf b)
+  pub count-is : getD (row (rowsOf b) headerRow) 4 0 ≡ nodeCount (stateOf b)
   unfolding Laid
   count-is = header-get b 4 (omega arith) ∙ sym (q .counted .nodes)
 
   pub length-bs : length (blens b) ≡ nodeCount (stateOf b)
   unfolding Laid offset
-  length-bs = length-take-le (getD (row (rowsOf b) 0) 4 0) (row (rowsOf b) 16) (omega (arith, rows-length b 16 (omega arith), count-is)) ∙ count-is
+  length-bs = length-take-le (getD (row (rowsOf b) headerRow) 4 0) (row (rowsOf b) boundaryLengthRow) (omega (arith, rows-length b boundaryLengthRow (omega arith), count-is)) ∙ count-is
 
   pub length-os : length (olens b) ≡ nodeCount (stateOf b)
   unfolding Laid offset
-  length-os = length-take-le (getD (row (rowsOf b) 0) 4 0) (row (rowsOf b) 17) (omega (arith, rows-length b 17 (omega arith), count-is)) ∙ count-is
+  length-os = length-take-le (getD (row (rowsOf b) headerRow) 4 0) (row (rowsOf b) overgrownLengthRow) (omega (arith, rows-length b overgrownLengthRow (omega arith), count-is)) ∙ count-is
 
   pub blen-is : (n : ℕ) → n < nodeCount (stateOf b) → getD (blens b) n 0 ≡ blenWord b n
-  blen-is n h = getD-take (getD (row (rowsOf b) 0) 4 0) (row (rowsOf b) 16) n 0 (omega (arith, count-is))
+  blen-is n h = getD-take (getD (row (rowsOf b) headerRow) 4 0) (row (rowsOf b) boundaryLengthRow) n 0 (omega (arith, count-is))
 
   pub olen-is : (n : ℕ) → n < nodeCount (stateOf b) → getD (olens b) n 0 ≡ olenWord b n
-  olen-is n h = getD-take (getD (row (rowsOf b) 0) 4 0) (row (rowsOf b) 17) n 0 (omega (arith, count-is))
+  olen-is n h = getD-take (getD (row (rowsOf b) headerRow) 4 0) (row (rowsOf b) overgrownLengthRow) n 0 (omega (arith, count-is))
 
   pub start-is : (n : ℕ) → n < nodeCount (stateOf b) → startWord b n ≡ startAt (blens b) (olens b) n
   unfolding Listed
   start-is n h =
-      sym (getD-take (getD (row (rowsOf b) 0) 4 0) (row (rowsOf b) 15) n 0 (omega (arith, count-is)))
+      sym (getD-take (getD (row (rowsOf b) headerRow) 4 0) (row (rowsOf b) startRow) n 0 (omega (arith, count-is)))
       ∙ ap (λ r. getD r n 0) (f .starts)
       ∙ starts-at 0 (blens b) (olens b) n (omega (arith, length-bs)) (omega (arith, length-os))
       ∙ omega arith
@@ -99,7 +99,7 @@ module _ (b : List ℤ) (q : Laid b) (f : Listed b) where
       )
 
   -- and the next list would start behind them
-  pub entries-total : (n : ℕ) → n ≡ nodeCount (stateOf b) → entries (stateOf b) ≡ totalFrom 0 (take n (row (rowsOf b) 16)) (take n (row (rowsOf b) 17))
+  pub entries-total : (n : ℕ) → n ≡ nodeCount (stateOf b) → entries (stateOf b) ≡ totalFrom 0 (take n (row (rowsOf b) boundaryLengthRow)) (take n (row (rowsOf b) overgrownLengthRow))
   entries-total n e = rw (e, ← count-is) (sym sum-entries ∙ sym (total-sum 0 (blens b) (olens b) ∙ omega arith))
 
   pub entries-within : entries (stateOf b) ≤ stateOf b .storeLimit

@@ -3,12 +3,12 @@ use Prim.Native.Nat.{ℕ, _+_, _-_, _≤_, _<_}
 use native.Mathlib.Omega.{arith}
 use mathlib.Core.Path.{_≡_, refl, sym, ap, _∙_}
 use mathlib.Core.Bool.{Bool, true, false, _&&_, not}
-use mathlib.Core.List.{List, []}
+use mathlib.Core.List.{List, [], _++_}
 use lib.IntN.{ℤ}
 use lib.Dec.{eqb, ltb}
-use lib.ListN.{length, take, drop, length-drop, drop-of-length-le}
-use lib.Seq.{drop-drop, getD-drop}
-use borrow.Author.Tests.{ltb-true, ltb-false, lt-ltb, le-ltb, ne-eqb}
+use lib.ListN.{length, take, drop, length-append, length-drop, drop-of-length-le, List·getD-append}
+use lib.Seq.{drop-drop, getD-drop, drop-append-le, take-append-le}
+use borrow.Author.Tests.{ltb-true, ltb-false, lt-ltb, le-ltb, ne-eqb, leb-true, leb-false, le-leb, lt-leb}
 use Rattle.graph.specs.Basic.{fold}
 use Rattle.graph.specs.laws.State.{and-left, and-right}
 use Rattle.graph.specs.laws.Members.{by-test, clash}
@@ -20,36 +20,74 @@ use Rattle.records.specs.Write.{page, putLines, LinesPut}
 use Rattle.records.specs.laws.Lines.{linesFrom, lines-from-end, lines-from-step, lines-in-start, next-none, run-ended}
 use Rattle.records.specs.laws.Write.{put-full, put-over}
 use Rattle.records.specs.laws.Table.{Telling, telling-none, telling-more}
+use Rattle.lines_export.specs.Whole.{wholeAt}
 use Rattle.record_step.specs.laws.Standing.{stands-fresh, roomy-kept, turn-ill, turned-stop}
 
 -- ---- the next record
 
+pub pair-later : (b : List ℕ) (i : ℕ) → pairAt (drop i b) 0 ≡ pairAt b i
+unfolding pairAt
+pair-later b i =
+    let z : i + 0 ≡ i = omega arith in
+    rw (getD-drop i b 0 0, getD-drop i b 1 0, z)
+
 module _ (b : List ℕ) (i : ℕ) (h : i < length b) where
   rest-some : eqb (length (drop i b)) 0 ≡ false
   rest-some = ne-eqb (length (drop i b)) 0 (λ q. omega (arith, length-drop i b))
-
-  pair-later : pairAt (drop i b) 0 ≡ pairAt b i
-  unfolding pairAt
-  pair-later =
-      let z : i + 0 ≡ i = omega arith in
-      rw (getD-drop i b 0 0, getD-drop i b 1 0, z)
 
   -- input that ends inside it
   pub next-cut : length b - i < 2 + pairAt b i → nextRecord (drop i b) ≡ next illFormed (drop (length b) b)
   unfolding nextRecord
   next-cut k =
       let e : ltb (length (drop i b)) (2 + pairAt (drop i b) 0) ≡ true =
-      lt-ltb (length (drop i b)) (2 + pairAt (drop i b) 0) (rw pair-later (omega (arith, length-drop i b))) in
+      lt-ltb (length (drop i b)) (2 + pairAt (drop i b) 0) (rw (pair-later b i) (omega (arith, length-drop i b))) in
       rw (rest-some, e, drop-of-length-le b {i = length b} (omega arith))
 
   pub next-body : (j : ℕ) → j ≡ i + 2 + pairAt b i → j ≤ length b → nextRecord (drop i b) ≡ next (decoded (take (j - (i + 2)) (drop (i + 2) b))) (drop j b)
   unfolding nextRecord
   next-body j ej k =
       let e : ltb (length (drop i b)) (2 + pairAt (drop i b) 0) ≡ false =
-      le-ltb (length (drop i b)) (2 + pairAt (drop i b) 0) (rw pair-later (omega (arith, length-drop i b))) in
+      le-ltb (length (drop i b)) (2 + pairAt (drop i b) 0) (rw (pair-later b i) (omega (arith, length-drop i b))) in
       let x : j - (i + 2) ≡ pairAt b i = omega arith in
       let y : i + (2 + pairAt b i) ≡ j = omega arith in
-      rw (rest-some, e, pair-later, drop-drop 2 i b, drop-drop (2 + pairAt b i) i b, x, y)
+      rw (rest-some, e, pair-later b i, drop-drop 2 i b, drop-drop (2 + pairAt b i) i b, x, y)
+
+-- where a record is whole, it is the next one whatever bytes follow
+module _ (b more : List ℕ) (i j : ℕ) (e : j ≡ i + 2 + pairAt b i) (h : j ≤ length b) where
+  pair-before : pairAt (b ++ more) i ≡ pairAt b i
+  unfolding pairAt
+  pair-before = rw (List·getD-append b more 0 i (omega arith), List·getD-append b more 0 (i + 1) (omega arith))
+
+  pub next-whole : nextRecord (drop i b ++ more) ≡ next (decoded (take (j - (i + 2)) (drop (i + 2) b))) (drop j b ++ more)
+  next-whole =
+      let long : length (b ++ more) ≡ length b + length more = length-append b more in
+      let room : j - (i + 2) ≤ length (drop (i + 2) b) = omega (arith, length-drop (i + 2) b) in
+      rw (
+        drop-append-le i b more (omega arith),
+        drop-append-le (i + 2) b more (omega arith),
+        drop-append-le j b more h,
+        take-append-le (j - (i + 2)) (drop (i + 2) b) more room,
+      )
+      at
+      (next-body (b ++ more) i (omega arith) j (rw pair-before e) (omega arith))
+
+-- a record is whole where it ends within the bytes
+module _ (b : List ℕ) (i : ℕ) where
+  pub whole-yes : i + 2 + pairAt b i ≤ length b → wholeAt b i ≡ true
+  unfolding wholeAt
+  whole-yes h = le-leb (i + 2 + pairAt b i) (length b) h
+
+  pub whole-no : length b < i + 2 + pairAt b i → wholeAt b i ≡ false
+  unfolding wholeAt
+  whole-no h = lt-leb (i + 2 + pairAt b i) (length b) h
+
+  pub whole-ends : wholeAt b i ≡ true → i + 2 + pairAt b i ≤ length b
+  unfolding wholeAt
+  whole-ends h = leb-true (i + 2 + pairAt b i) (length b) h
+
+  pub cut-ends : wholeAt b i ≡ false → length b < i + 2 + pairAt b i
+  unfolding wholeAt
+  cut-ends h = leb-false (i + 2 + pairAt b i) (length b) h
 
 module _ {b : List ℕ} {i : ℕ} {k : ℕ} {m m' : Memory} {p q : List ℕ} {n l : ℕ} {full stopped : Bool} (h : i < length b) where
   pub stepped-cut : {j : ℕ} → m .stage < 3 → length b - i < 2 + pairAt b i → j ≡ length b

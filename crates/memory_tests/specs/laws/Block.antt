@@ -2,7 +2,7 @@
 use Prim.Native.Nat.{ℕ, suc, _*_, _≤_, _<_}
 use native.Mathlib.Omega.{arith}
 use mathlib.Core.Path.{_≡_, refl, sym, ap, _∙_}
-use mathlib.Core.Bool.{true, _&&_}
+use mathlib.Core.Bool.{Bool, true, false, _&&_}
 use mathlib.Core.List.{List, [], _∷_, map}
 use lib.IntN.{ℤ}
 use lib.Dec.{leb, ltb}
@@ -13,9 +13,9 @@ use Rattle.graph.specs.Basic.{all, below, allBelow}
 use Rattle.graph.specs.State.{vertexCount, edgeCount, sideCount, nodeCount}
 use Rattle.graph.specs.Open.{weightLimit, sidesOf}
 use Rattle.graph.specs.Sound.{edgeSound, vertexSound, sideSound, nodeSound, entries, activeSound, sound, soundRemoved, stateSound}
-use Rattle.graph.specs.Rows.{offset}
+use Rattle.graph.specs.Rows.{offset, headerRow, firstRow, endRow, atRow, weightRow, originalRow}
 use Rattle.graph.specs.laws.State.{and-left, and-right}
-use Rattle.graph.specs.laws.Members.{length-below, all-below-from}
+use Rattle.graph.specs.laws.Members.{by-test, length-below, all-below-from}
 use Rattle.graph.specs.laws.Shape.{sound-edge, sound-vertex, edge-facts, vertex-facts}
 use Rattle.graph.specs.laws.Opened.{getD-tabled}
 use Rattle.graph.specs.Layout.{eOf, nOf, countOf, activeCountOf, rowsOf, row, stretches, risingTo, packed, stateFrom, stateOf, sized, blockSound}
@@ -25,7 +25,7 @@ use Rattle.graph.specs.laws.Row.{header-get, rows-length, laid-of, formed-of}
 use Rattle.graph.specs.laws.Form.{laid-shape}
 use Rattle.graph.specs.laws.Size.{sized-of}
 use Rattle.graph.specs.laws.Scan.{list-from, ends-of}
-use Rattle.memory_tests.specs.laws.Pack.{packed-of}
+use Rattle.node_tests.specs.laws.Pack.{packed-of}
 use Rattle.graph.specs.laws.Used.{entries-within}
 
 -- ---- the parts of the test
@@ -43,6 +43,18 @@ sound-parts b q p =
       le-leb (entries (stateOf b)) (stateOf b .storeLimit) (entries-within b q p),
     )
 
+-- a graph that is not sound: the state is not either
+pub graph-fails : (b : List ℤ) → Laid b → Listed b
+    → risingTo (row (rowsOf b) firstRow) (2 * eOf b)
+    && (allBelow (edgeSound (stateOf b)) (edgeCount (stateOf b)) && allBelow (vertexSound (stateOf b)) (vertexCount (stateOf b))) ≡ false
+    → false ≡ risingTo (row (rowsOf b) firstRow) (2 * eOf b) && stateSound (stateOf b)
+unfolding stateSound
+graph-fails b q p h =
+    let g : Bool = allBelow (edgeSound (stateOf b)) (edgeCount (stateOf b)) && allBelow (vertexSound (stateOf b)) (vertexCount (stateOf b)) in
+    by-test (risingTo (row (rowsOf b) firstRow) (2 * eOf b))
+    (λ t. let z : g ≡ false = rw t at h in rw (t, sound-parts b q p, z))
+    (λ t. rw t)
+
 pub listed-of : (b : List ℤ) → Laid b → packed b ≡ true → Listed b
 unfolding Listed
 listed-of b q h = packed-of b q h
@@ -58,47 +70,47 @@ module _ (b : List ℤ) (q : Laid b) (h : sound (stateOf b) ≡ true) where
   edges-sound : allBelow (edgeSound (stateOf b)) (edgeCount (stateOf b)) ≡ true
   edges-sound = all-below-from (edgeSound (stateOf b)) (edgeCount (stateOf b)) (sound-edge (stateOf b) h)
 
-  header-v : getD (row (rowsOf b) 0) 0 0 ≡ vertexCount (stateOf b)
+  header-v : getD (row (rowsOf b) headerRow) 0 0 ≡ vertexCount (stateOf b)
   unfolding Laid
   header-v = header-get b 0 (omega arith) ∙ sym (q .counted .vertices)
 
-  ends-in : all (λ x. ltb x (getD (row (rowsOf b) 0) 0 0)) (row (rowsOf b) 5) ≡ true
+  ends-in : all (λ x. ltb x (getD (row (rowsOf b) headerRow) 0 0)) (row (rowsOf b) endRow) ≡ true
   unfolding stateOf stateFrom
   ends-in =
-      list-from (λ x. ltb x (getD (row (rowsOf b) 0) 0 0)) (row (rowsOf b) 5) 0
-      (λ s k. lt-ltb (getD (row (rowsOf b) 5) s 0) (getD (row (rowsOf b) 0) 0 0)
+      list-from (λ x. ltb x (getD (row (rowsOf b) headerRow) 0 0)) (row (rowsOf b) endRow) 0
+      (λ s k. lt-ltb (getD (row (rowsOf b) endRow) s 0) (getD (row (rowsOf b) headerRow) 0 0)
       (rw header-v (ends-of b q edges-sound s k)))
 
-  weights-in : all (λ x. leb x weightLimit) (row (rowsOf b) 10) ≡ true
+  weights-in : all (λ x. leb x weightLimit) (row (rowsOf b) weightRow) ≡ true
   unfolding stateOf stateFrom
   weights-in =
-      list-from (λ x. leb x weightLimit) (row (rowsOf b) 10) 0
-      (λ e k. le-leb (getD (row (rowsOf b) 10) e 0) weightLimit
+      list-from (λ x. leb x weightLimit) (row (rowsOf b) weightRow) 0
+      (λ e k. le-leb (getD (row (rowsOf b) weightRow) e 0) weightLimit
       (edge-facts (stateOf b) e (sound-edge (stateOf b) h e k) .weight))
 
-  originals-in : all (λ x. leb x weightLimit) (row (rowsOf b) 20) ≡ true
+  originals-in : all (λ x. leb x weightLimit) (row (rowsOf b) originalRow) ≡ true
   unfolding stateOf stateFrom
   originals-in =
-      list-from (λ x. leb x weightLimit) (row (rowsOf b) 20) 0
-      (λ e k. le-leb (getD (row (rowsOf b) 20) e 0) weightLimit
+      list-from (λ x. leb x weightLimit) (row (rowsOf b) originalRow) 0
+      (λ e k. le-leb (getD (row (rowsOf b) originalRow) e 0) weightLimit
       (edge-facts (stateOf b) e (sound-edge (stateOf b) h e (omega (arith, k, laid-shape b q .original))) .original))
 
-  sides-right : stretches (row (rowsOf b) 4) (row (rowsOf b) 9) ≡ map (sidesOf (row (rowsOf b) 5)) (below (getD (row (rowsOf b) 0) 0 0))
+  sides-right : stretches (row (rowsOf b) firstRow) (row (rowsOf b) atRow) ≡ map (sidesOf (row (rowsOf b) endRow)) (below (getD (row (rowsOf b) headerRow) 0 0))
   unfolding stateOf stateFrom Laid offset
   sides-right =
-      let v : ℕ = getD (row (rowsOf b) 0) 0 0 in
-      let xs : List (List ℕ) = stretches (row (rowsOf b) 4) (row (rowsOf b) 9) in
-      let ys : List (List ℕ) = map (sidesOf (row (rowsOf b) 5)) (below v) in
+      let v : ℕ = getD (row (rowsOf b) headerRow) 0 0 in
+      let xs : List (List ℕ) = stretches (row (rowsOf b) firstRow) (row (rowsOf b) atRow) in
+      let ys : List (List ℕ) = map (sidesOf (row (rowsOf b) endRow)) (below v) in
       let x : length xs ≡ vertexCount (stateOf b) =
-      length-stretches (row (rowsOf b) 4) (row (rowsOf b) 9) ∙ rows-length b 4 (omega arith)
+      length-stretches (row (rowsOf b) firstRow) (row (rowsOf b) atRow) ∙ rows-length b firstRow (omega arith)
       ∙ sym (q .counted .vertices) in
-      let y : length ys ≡ vertexCount (stateOf b) = length-map (below v) (sidesOf (row (rowsOf b) 5)) ∙ length-below v ∙ header-v in
+      let y : length ys ≡ vertexCount (stateOf b) = length-map (below v) (sidesOf (row (rowsOf b) endRow)) ∙ length-below v ∙ header-v in
       ext-getD [] xs ys (x ∙ sym y)
       (λ i k.
       let j : i < vertexCount (stateOf b) = omega (arith, x, k) in
-      vertex-facts (stateOf b) i (sound-vertex (stateOf b) h i j) .sides ∙ sym (getD-tabled (sidesOf (row (rowsOf b) 5)) v i [] (omega (arith, j, header-v))))
+      vertex-facts (stateOf b) i (sound-vertex (stateOf b) h i j) .sides ∙ sym (getD-tabled (sidesOf (row (rowsOf b) endRow)) v i [] (omega (arith, j, header-v))))
 
-  wired-of : risingTo (row (rowsOf b) 4) (2 * eOf b) ≡ true → GraphRows (rowsOf b)
+  wired-of : risingTo (row (rowsOf b) firstRow) (2 * eOf b) ≡ true → GraphRows (rowsOf b)
   wired-of r = record { ends = ends-in; sides = sides-right; firsts = rw (header-get b 1 (omega arith)) r; weights = weights-in; originals = originals-in }
 
   -- lists and stretches in order, and a sound state: the block is in form
@@ -113,7 +125,7 @@ record Parts (b : List ℤ) : Type 0 where
   count : countOf b ≤ nOf b
   active : activeCountOf b ≤ nOf b
   packed : packed b ≡ true
-  rising : risingTo (row (rowsOf b) 4) (2 * eOf b) ≡ true
+  rising : risingTo (row (rowsOf b) firstRow) (2 * eOf b) ≡ true
   sound : sound (stateOf b) ≡ true
   removed : soundRemoved (stateOf b) ≡ true
 
@@ -123,7 +135,7 @@ parts-of b h =
     let x = leb (countOf b) (nOf b) in
     let a = leb (activeCountOf b) (nOf b) in
     let y = packed b in
-    let z = risingTo (row (rowsOf b) 4) (2 * eOf b) in
+    let z = risingTo (row (rowsOf b) firstRow) (2 * eOf b) in
     let u = sound (stateOf b) in
     let r = soundRemoved (stateOf b) in
     let w = u && r in

@@ -17,6 +17,7 @@ use Rattle.graph.specs.Layout.{vOf, eOf, nOf, lOf, countOf, activeCountOf, bloc
 use Rattle.graph.specs.Form.{startsFrom, totalFrom, Laid, Listed, Wired, Formed}
 use Rattle.graph.specs.laws.Row.{header-get}
 use Rattle.graph.specs.laws.List.{total-from}
+use Rattle.graph.specs.Rows.{headerRow, firstRow}
 
 -- ---- the sizes
 
@@ -50,8 +51,8 @@ starts-packed l a (b ∷ bs) (o ∷ os) h =
 listed-packed : (b : List ℤ) → Listed b → packed b ≡ true
 unfolding Listed packed
 listed-packed b p =
-    let c : getD (row (rowsOf b) 0) 4 0 ≡ countOf b = header-get b 4 (omega arith) in
-    let l : getD (row (rowsOf b) 0) 3 0 ≡ lOf b = header-get b 3 (omega arith) in
+    let c : getD (row (rowsOf b) headerRow) 4 0 ≡ countOf b = header-get b 4 (omega arith) in
+    let l : getD (row (rowsOf b) headerRow) 3 0 ≡ lOf b = header-get b 3 (omega arith) in
     rw (rw c at (p .starts)) (starts-packed (lOf b) 0 _ _ (rw (c, l) at (p .total)))
 
 -- ---- the whole block
@@ -59,7 +60,7 @@ listed-packed b p =
 pub formed-sized : (b : List ℤ) → Formed b → sized b ≡ true
 formed-sized b f = laid-sized b (f .laid)
 
-wired-rising : (b : List ℤ) → Wired b → risingTo (row (rowsOf b) 4) (2 * eOf b) ≡ true
+wired-rising : (b : List ℤ) → Wired b → risingTo (row (rowsOf b) firstRow) (2 * eOf b) ≡ true
 unfolding Wired
 wired-rising b w = rw (header-get b 1 (omega arith)) at (w .firsts)
 

@@ -41,8 +41,9 @@ use Rattle.table_theorem.specs.laws.Depth.{DefectsOnly, vertex-inside, far-off}
 use Rattle.table_theorem.specs.laws.Feasible.{nodes-apart}
 use Rattle.table_theorem.specs.laws.Runs.{present-opening, defects-only, end-matches}
 use Rattle.table_check.specs.declared.Verdict.the-variants.{Yes}
-use Rattle.table_check.specs.Handed.{distanceLimit, distanceOf, distanceIn, rowOf, Handed, handed}
-use Rattle.table_check.specs.Verdict.{givenDualOf as dualByVertex, dualsByVertex, Right, sizesRight, lengthsRight, graphInRange, defectsInRange, distancesInRange, numbersRight, tableRefusal, tableVerdict}
+use Rattle.table_words.specs.Handed.{distanceLimit, distanceOf, distanceIn, rowOf, Handed, handed}
+use Rattle.table_check.specs.Verdict.{givenDualOf as dualByVertex, dualsByVertex, Right, tableVerdict}
+use Rattle.table_refuse.specs.Refuse.{sizesRight, lengthsRight, graphInRange, defectsInRange, distancesInRange, numbersRight, tableRefusal}
 use Rattle.table_check.specs.Theorems.{yes-exactly}
 use Rattle.table_check.specs.laws.Members.{place-of}
 use Rattle.own_tables.specs.Own.{distanceWord, Own}

@@ -1,6 +1,7 @@
 -- Inserting a defect or a blossom keeps the invariant.
 pub mod NewNode
 pub mod DefectState
+pub mod DefectNumbers
 pub mod DefectLive
 pub mod Defect
 pub mod Circle

@@ -1,5 +1,6 @@
 -- Preparation: passes until none is called for.
 pub mod Holders
+pub mod Others
 pub mod PassDone
 pub mod FinishedState
 pub mod Since

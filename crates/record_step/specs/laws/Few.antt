@@ -19,7 +19,7 @@ use Rattle.records.specs.Lines.{edgeLines, contactLine, linesFor, joinedLines}
 use Rattle.records.specs.Run.{Stage, fresh, gathering, running, ended, recordStep, ends, callStep, openStep, runRefusal}
 use Rattle.records.specs.declared.setup.Setup.{Setup}
 use Rattle.records.specs.Opening.{openCode}
-use Rattle.record_step.specs.Standing.{partOf, Runs, Memory, Stands, RecordStepped}
+use Rattle.record_step.specs.Standing.{partOf, Runs, Memory, Stands}
 use Rattle.records.specs.Write.{LinesPut}
 use Rattle.records.specs.laws.Write.{told-few}
 use Rattle.records.specs.laws.Opening.{small-of, code-held}
@@ -92,11 +92,6 @@ turn-few k m (ask a) (running c) p h = rw (← p .2) (asked-few k a (p .1))
 turn-few k m illFormed (running c) p h = omega arith
 
 -- ---- all lines of a record fit into 16,384 bytes
-
-pub turned-tells : {k : ℕ} {m m' : Memory} {b c : List ℕ} {i : ℕ} {stopped : Bool} {x : Record}
-    → 384 ≤ length (m .edges) → 16384 ≤ length b → RecordStepped k m m' b 0 false c i stopped x
-    → (s : Stage) → Stands m s → take i c ≡ joinedLines (recordStep k s x .lines)
-turned-tells {k} {m} {m'} {b} {c} {i} {stopped} {x} h room t s p = told-few (recordStep k s x .lines) (t .told s p) (omega (arith, turn-few k m x s p h))
 
 pub ends-tells : (k code : ℕ) {b c : List ℕ} {i : ℕ} {stopped : Bool} → 16384 ≤ length b
     → LinesPut b 0 false c i stopped (ends k code .lines) → take i c ≡ joinedLines (ends k code .lines)

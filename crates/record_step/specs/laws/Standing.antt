@@ -4,7 +4,7 @@ use native.Mathlib.Omega.{arith}
 use mathlib.Core.Path.{_≡_, refl, sym, ap, _∙_}
 use mathlib.Core.Logic.{_≢_}
 use mathlib.Core.Bool.{Bool, true, false}
-use mathlib.Core.List.{List, [], _∷_}
+use mathlib.Core.List.{List, []}
 use lib.IntN.{ℤ, pos}
 use lib.Dec.{eqb}
 use lib.ListN.{length, take, replicate, length-map, length-take, length-replicate}
@@ -16,23 +16,23 @@ use Rattle.graph.specs.Layout.{stateOf}
 use Rattle.graph.specs.laws.Opened.{accepted}
 use Rattle.graph.specs.laws.Members.{by-test, length-below}
 use Rattle.pass.specs.Scratch.{zeroScratch}
-use Rattle.answers.specs.declared.Answer.the-variants.{Refused}
 use Rattle.calls.specs.Calls.{Call, respond}
 use Rattle.reachable.specs.Reachable.{after}
 use Rattle.records.specs.Record.{Record, sizes, anEdge, aVirtual, ask, illFormed, field, recordOf, decoded}
 use Rattle.records.specs.Decode.{wellFormed}
-use Rattle.records.specs.Lines.{line, wordsOf, linesFor}
+use Rattle.records.specs.Lines.{linesFor}
 use Rattle.records.specs.Run.{Gathered, Stage, fresh, gathering, running, ended, recordStep, ends, callStep, openStep, tooLarge, runRefusal}
 use Rattle.records.specs.declared.setup.Setup.{Setup}
 use Rattle.records.specs.Setup.{fromSizes, edgeAdded, storedEdge, virtualAdded, storedVirtual, SetupHolds}
 use Rattle.records.specs.Opening.{largeSizes, complete, openCode, openBlock}
-use Rattle.record_step.specs.Standing.{callIn, OfKind, partOf, Runs, Asked, Memory, memory, Stands, Standing, Gathers, MemorySuffices, RecordStepped}
+use Rattle.record_call.specs.Call.{callIn, OfKind}
+use Rattle.record_step.specs.Standing.{partOf, Runs, Asked, Memory, memory, Stands, Standing, Gathers, MemorySuffices, RecordStepped}
 use Rattle.records.specs.Write.{LinesPut}
 use Rattle.records.specs.laws.Decode.{decoded-kind, decoded-ill}
 use Rattle.records.specs.laws.Write.{told-lines, told-none}
 use Rattle.record_step.specs.laws.Holding.{onlySizes, holding-start, holding-edge, holding-virtual, stored-few}
 use Rattle.records.specs.laws.Opening.{complete-sizes, open-large, open-incomplete, code-held, block-held}
-use Rattle.record_step.specs.laws.Asking.{asks}
+use Rattle.record_call.specs.laws.Asking.{asks}
 
 -- ---- the stage by its number
 
@@ -121,10 +121,6 @@ module _ {k : ℕ} {m m' : Memory} {b c : List ℕ} {n i : ℕ} {full stopped : 
       → LinesPut b n full c i stopped (ends k code .lines) → m' .stage ≡ 3 → RecordStepped k m m' b n full c i stopped x
   unfolding ends
   turned-stop e t h = record { stands = λ s p. rw (e s p) (stands-ended m' h); told = λ s p. rw (e s p) t }
-
-pub ends-line : (k code : ℕ) → line k (wordsOf (Refused code)) ∷ [] ≡ ends k code .lines
-unfolding ends linesFor
-ends-line k code = refl
 
 -- ---- records before the opening
 

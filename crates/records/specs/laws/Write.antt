@@ -3,14 +3,14 @@ use Prim.Native.Nat.{ℕ, zero, suc, _+_, _-_, _*_, _/_, _%_, _≤_, _<_}
 use native.Mathlib.Numerals.{add-one}
 use native.Mathlib.Omega.{arith}
 use mathlib.Core.Path.{_≡_, refl, sym, ap, _∙_}
-use mathlib.Core.Bool.{Bool, true, false}
+use mathlib.Core.Bool.{Bool, true, false, _&&_, not}
 use mathlib.Core.List.{List, [], _∷_, _++_, append-assoc, append-nil}
 use lib.IntN.{ℤ, pos, negsuc, natAbs}
 use lib.Signed.{nonNeg}
 use lib.Dec.{leb, ltb}
 use lib.ListN.{length, take, drop, set, getD, length-append, take-append-drop}
 use lib.Seq.{sets, sets-eq, length-sets, take-suc, take-at}
-use borrow.Author.Tests.{ltb-true, ltb-false, leb-true, leb-false, le-leb, lt-leb}
+use borrow.Author.Tests.{ltb-true, ltb-false, leb-true, leb-false, le-leb, lt-leb, not-true}
 use Rattle.graph.specs.Basic.{fold, all}
 use Rattle.graph.specs.laws.Members.{by-test, clash}
 use Rattle.graph.specs.laws.State.{and-left, and-right}
@@ -51,6 +51,24 @@ decimal-some n =
     by-test (ltb n 10)
     (λ e. rw (decimal-last n (ltb-true n 10 e)) (omega arith))
     (λ e. omega (arith, decimal-shorter n (ltb-false n 10 e)))
+
+-- by two digits
+pub decimal-two : (n : ℕ) → 10 ≤ n → n < 100 → decimal n ≡ (48 + n / 10) ∷ (48 + n % 10) ∷ []
+decimal-two n h k = rw (decimal-more n h, decimal-last (n / 10) (omega arith)) refl
+
+pub decimal-hundreds : (n : ℕ) → 100 ≤ n → decimal n ≡ decimal (n / 100) ++ ((48 + n % 100 / 10) ∷ (48 + n % 100 % 10) ∷ [])
+decimal-hundreds n h =
+    let a : n / 10 / 10 ≡ n / 100 = omega arith in
+    let b : n / 10 % 10 ≡ n % 100 / 10 = omega arith in
+    let d : n % 10 ≡ n % 100 % 10 = omega arith in
+    rw (decimal-more n (omega arith), decimal-more (n / 10) (omega arith), a, b, d)
+    (append-assoc (decimal (n / 100)) ((48 + n % 100 / 10) ∷ []) ((48 + n % 100 % 10) ∷ []))
+
+pub two-long : (n : ℕ) → 10 ≤ n → n < 100 → length (decimal n) ≡ 2
+two-long n h k = ap length (decimal-two n h k)
+
+pub hundreds-long : (n : ℕ) → 100 ≤ n → length (decimal n) ≡ length (decimal (n / 100)) + 2
+hundreds-long n h = ap length (decimal-hundreds n h) ∙ length-append (decimal (n / 100)) ((48 + n % 100 / 10) ∷ (48 + n % 100 % 10) ∷ [])
 
 -- ---- text behind text
 
@@ -143,6 +161,11 @@ line-parts k w v = ap (λ l. l ++ (10 ∷ [])) (append-assoc (decimal k) (32 ∷
 one-line : (l : List ℕ) → length l ≤ 128 → shortLines (l ∷ []) ≡ true
 unfolding shortLines all
 one-line l h = rw (le-leb (length l) 128 h)
+
+-- all lines before did fit, and any line fits behind place n
+pub room-here : (full : Bool) (m n : ℕ) → not full && leb 128 (m - n) ≡ true → (full ≡ false) × (128 ≤ m - n)
+room-here full m n e =
+    (not-true full (and-left (not full) (leb 128 (m - n)) e), leb-true 128 (m - n) (and-right (not full) (leb 128 (m - n)) e))
 
 pub told-full : (b : List ℕ) (n : ℕ) (full : Bool) (l : List ℕ) → full ≡ true → n ≤ length b → length l ≤ 128 → LinesPut b n full b n full (l ∷ [])
 unfolding page putLine putLines fold

@@ -10,7 +10,7 @@ use Rattle.answers.specs.declared.Answer.{Answer}
 use Rattle.calls.specs.declared.group.GroupMaxUpdateLength.{GroupMaxUpdateLength as Group}
 use Rattle.calls.specs.declared.group.GroupMaxUpdateLength.the-variants.{Conflicts as groupConflicts}
 use Rattle.calls.specs.Round.{conflictsOf, stopsOf, groupOf, listedBy, preparedAll, groupLength}
-use Rattle.round.specs.Asked.{listedFrom}
+use Rattle.round_list.specs.Asked.{listedFrom}
 
 -- conflicts and stops of the answers xs were listed and counted
 pub record ListedGroup (xs : List Answer) (list list' : List ℕ) (g : Group) : Type 0 where

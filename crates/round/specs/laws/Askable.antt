@@ -34,8 +34,8 @@ use Rattle.calls.specs.laws.Phase.{sound-phase, renewed-phase, shrinking-prepar
 use Rattle.calls.specs.inner.Phase.{Phase}
 use Rattle.calls.specs.laws.Trial.{Turned, Stepped, turn-accepted, try-start, try-step, try-keeps, unless-accepted}
 use Rattle.calls.specs.laws.Listed.{prepared-active}
-use Rattle.round.specs.inner.Asked.{Askable}
-use Rattle.round.specs.laws.InTurn.{none-empty, renewed-ok}
+use Rattle.round_answers.specs.inner.Asked.{Askable}
+use Rattle.round_trial.specs.laws.InTurn.{none-empty, renewed-ok}
 
 -- ---- a node that was prepared is outermost
 

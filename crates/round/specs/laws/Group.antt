@@ -25,12 +25,13 @@ use Rattle.calls.specs.Round.{isFree, joinFree, answersOf, firstRefusal, confli
 use Rattle.calls.specs.laws.Accepted.{unless-cases}
 use Rattle.calls.specs.laws.Listed.{both-lists, answers-length}
 use Rattle.calls.specs.laws.Trial.{turn-keeps}
-use Rattle.round.specs.inner.Step.{wholeTrial, TriedTo}
-use Rattle.round.specs.Asked.{listedFrom}
-use Rattle.round.specs.inner.Asked.{Listing}
+use Rattle.round_trial.specs.Trial.{wholeTrial}
+use Rattle.round_trial.specs.inner.Step.{TriedTo}
+use Rattle.round_list.specs.Asked.{listedFrom}
+use Rattle.round_list.specs.inner.Listed.{Listing}
 use Rattle.round.specs.inner.Group.{ListedGroup, AskedGroup, GroupTried}
-use Rattle.round.specs.laws.InTurn.{turned-none}
-use Rattle.round.specs.laws.Listing.{listed-append, listed-none}
+use Rattle.round_trial.specs.laws.InTurn.{turned-none}
+use Rattle.round_list.specs.laws.Listing.{listed-append, listed-none}
 
 -- ---- what is listed
 

@@ -74,7 +74,7 @@ below-tops [] = refl
 below-tops (x ∷ o) = let ih : belowTops o ≡ drop (length (emptyTops o)) o = below-tops o in by-test (eqb (x .amount) 0) (λ e. rw e ih) (λ e. rw e)
 
 -- a vertex of the stack, where all are below k
-stack-vertex : (k : ℕ) (o : List Overgrown) (i : ℕ) (d : Overgrown)
+pub stack-vertex : (k : ℕ) (o : List Overgrown) (i : ℕ) (d : Overgrown)
     → all (λ (x : Overgrown). ltb (x .vertex) k) o ≡ true → i < length o → getD o i d .vertex < k
 unfolding all
 stack-vertex k [] i d h l = absurd (omega arith)

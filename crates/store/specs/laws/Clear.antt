@@ -7,7 +7,7 @@ use lib.IntN.{ℤ, pos}
 use lib.ListN.{length, getD, set, length-set, length-map}
 use lib.Seq.{getD-set-same, getD-set-other}
 use Rattle.graph.specs.Open.{blankState, withOriginals, cleared}
-use Rattle.graph.specs.Rows.{rows, offset}
+use Rattle.graph.specs.Rows.{rows, offset, headerRow, flagsRow, vertexHolderRow, vertexGrandsonRow, endRow, growthRow, holderRow, grandsonRow, weightRow, originalRow}
 use Rattle.graph.specs.Word.{wordAt, toNat}
 use Rattle.graph.specs.Layout.{countOf, activeCountOf, rowsOf, row, boundaries, stacks, stateFrom, stateOf}
 use Rattle.graph.specs.Form.{Sized, Counted, LaidOut, Laid, Wired, PackedRows, GraphRows, Formed, startsFrom, totalFrom}
@@ -86,14 +86,14 @@ rewritten-zeros {k} {b₀} {b} {b'} {r} h q =
     }
 
 module _ (b₀ b₁ b₂ b : List ℤ) where
-  pub vertices-rewritten : Rowed 1 b₀ b₁ (map (λ x. x % 2) (row (rowsOf b₀) 1))
-      → Rowed 2 b₁ b₂ (zeros (length (row (rowsOf b₁) 2))) → Rowed 3 b₂ b (zeros (length (row (rowsOf b₂) 3)))
+  pub vertices-rewritten : Rowed flagsRow b₀ b₁ (map (λ x. x % 2) (row (rowsOf b₀) flagsRow))
+      → Rowed vertexHolderRow b₁ b₂ (zeros (length (row (rowsOf b₁) vertexHolderRow))) → Rowed vertexGrandsonRow b₂ b (zeros (length (row (rowsOf b₂) vertexGrandsonRow)))
       → Rewritten b₀ b (clearedVertices (rowsOf b₀))
   unfolding clearedVertices rowsOf rows
   vertices-rewritten p q r = rewritten-zeros (rewritten-zeros (rewritten-first p) q) r
 
-  pub sides-rewritten : Rowed 6 b₀ b₁ (zeros (length (row (rowsOf b₀) 6)))
-      → Rowed 7 b₁ b₂ (zeros (length (row (rowsOf b₁) 7))) → Rowed 8 b₂ b (zeros (length (row (rowsOf b₂) 8)))
+  pub sides-rewritten : Rowed growthRow b₀ b₁ (zeros (length (row (rowsOf b₀) growthRow)))
+      → Rowed holderRow b₁ b₂ (zeros (length (row (rowsOf b₁) holderRow))) → Rowed grandsonRow b₂ b (zeros (length (row (rowsOf b₂) grandsonRow)))
       → Rewritten b₀ b (clearedSides (rowsOf b₀))
   unfolding clearedSides rowsOf rows
   sides-rewritten p q r = rewritten-zeros (rewritten-zeros (rewritten-first p) q) r
@@ -111,34 +111,34 @@ flags-none (x ∷ l) = let z : x % 2 / 2 ≡ 0 = omega arith in rw (z, flags-non
 
 -- ---- the state, and the form
 
-module _ (r : List (List ℕ)) (h : 6 < length (row r 0)) where
+module _ (r : List (List ℕ)) (h : 6 < length (row r headerRow)) where
   header : List ℕ
-  header = set (set (set (row r 0) 4 0) 5 0) 6 0
+  header = set (set (set (row r headerRow) 4 0) 5 0) 6 0
 
   counts : List ℕ
-  counts = set (set (row r 0) 4 0) 5 0
+  counts = set (set (row r headerRow) 4 0) 5 0
 
   before-mark : (i : ℕ) → i < 6 → getD header i 0 ≡ getD counts i 0
   unfolding header counts
-  before-mark i k = getD-set-other (set (set (row r 0) 4 0) 5 0) 6 i 0 0 (λ q. omega arith)
+  before-mark i k = getD-set-other (set (set (row r headerRow) 4 0) 5 0) 6 i 0 0 (λ q. omega arith)
 
   mark-none : _≡_ {A = ℕ} (getD header 6 0) 0
   unfolding header
   mark-none =
-      getD-set-same (set (set (row r 0) 4 0) 5 0) 6 0 0
-      (omega (arith, length-set (set (row r 0) 4 0) 5 0, length-set (row r 0) 4 0))
+      getD-set-same (set (set (row r headerRow) 4 0) 5 0) 6 0 0
+      (omega (arith, length-set (set (row r headerRow) 4 0) 5 0, length-set (row r headerRow) 4 0))
 
   count-none : _≡_ {A = ℕ} (getD header 4 0) 0
   unfolding counts
-  count-none = before-mark 4 (omega arith) ∙ getD-set-other (set (row r 0) 4 0) 5 4 0 0 (λ q. omega arith) ∙ getD-set-same (row r 0) 4 0 0 (omega arith)
+  count-none = before-mark 4 (omega arith) ∙ getD-set-other (set (row r headerRow) 4 0) 5 4 0 0 (λ q. omega arith) ∙ getD-set-same (row r headerRow) 4 0 0 (omega arith)
 
   active-none : _≡_ {A = ℕ} (getD header 5 0) 0
   unfolding counts
-  active-none = before-mark 5 (omega arith) ∙ getD-set-same (set (row r 0) 4 0) 5 0 0 (omega (arith, length-set (row r 0) 4 0))
+  active-none = before-mark 5 (omega arith) ∙ getD-set-same (set (row r headerRow) 4 0) 5 0 0 (omega (arith, length-set (row r headerRow) 4 0))
 
-  size-still : (i : ℕ) → i < 4 → getD header i 0 ≡ getD (row r 0) i 0
+  size-still : (i : ℕ) → i < 4 → getD header i 0 ≡ getD (row r headerRow) i 0
   unfolding counts
-  size-still i k = before-mark i (omega arith) ∙ getD-set-other (set (row r 0) 4 0) 5 i 0 0 (λ q. omega arith) ∙ getD-set-other (row r 0) 4 i 0 0 (λ q. omega arith)
+  size-still i k = before-mark i (omega arith) ∙ getD-set-other (set (row r headerRow) 4 0) 5 i 0 0 (λ q. omega arith) ∙ getD-set-other (row r headerRow) 4 i 0 0 (λ q. omega arith)
 
   cleared-packed : PackedRows (clearedRows r)
   unfolding header clearedRows startsFrom totalFrom
@@ -155,8 +155,8 @@ module _ (r : List (List ℕ)) (h : 6 < length (row r 0)) where
         originals = g .originals;
       }
 
-  cleared-state : length (row r 2) ≡ length (row r 1) → length (row r 3) ≡ length (row r 1)
-      → length (row r 6) ≡ length (row r 5) → length (row r 7) ≡ length (row r 5) → length (row r 8) ≡ length (row r 5)
+  cleared-state : length (row r vertexHolderRow) ≡ length (row r flagsRow) → length (row r vertexGrandsonRow) ≡ length (row r flagsRow)
+      → length (row r growthRow) ≡ length (row r endRow) → length (row r holderRow) ≡ length (row r endRow) → length (row r grandsonRow) ≡ length (row r endRow)
       → stateFrom (clearedRows r) ≡ cleared (stateFrom r)
   unfolding header clearedRows stateFrom cleared withOriginals blankState boundaries stacks
   cleared-state l₂ l₃ l₆ l₇ l₈ =
@@ -166,14 +166,14 @@ module _ (r : List (List ℕ)) (h : 6 < length (row r 0)) where
         mark-none,
         size-still 2 (omega arith),
         size-still 3 (omega arith),
-        flags-twice (row r 1),
-        flags-none (row r 1),
+        flags-twice (row r flagsRow),
+        flags-none (row r flagsRow),
         l₂,
         l₃,
         l₆,
         l₇,
         l₈,
-        length-map (row r 1) (λ x. x % 2),
+        length-map (row r flagsRow) (λ x. x % 2),
       )
 
 module _
@@ -181,8 +181,8 @@ module _
     (f : Formed b₀)
     (p : Recounted b₀ b₁ 0)
     (a : ActiveRecounted b₁ b₂ 0)
-    (m : Rowed 0 b₂ b₃ (set (row (rowsOf b₂) 0) 6 0))
-    (w : Rowed 10 b₃ b₄ (row (rowsOf b₃) 20))
+    (m : Rowed headerRow b₂ b₃ (set (row (rowsOf b₂) headerRow) 6 0))
+    (w : Rowed weightRow b₃ b₄ (row (rowsOf b₃) originalRow))
     (q : Rewritten b₄ b₅ (clearedVertices (rowsOf b₄)))
     (r : Rewritten b₅ b (clearedSides (rowsOf b₅)))
   where
@@ -194,14 +194,14 @@ module _
         (q .rows
         ∙ ap clearedVertices
         (w .rows
-        ∙ ap (λ z. set z 10 (row z 20))
-        (m .rows ∙ ap (λ z. set z 0 (set (row z 0) 6 0)) (a .rows ∙ ap (λ z. set z 0 (set (row z 0) 5 0)) (p .rows)))))
+        ∙ ap (λ z. set z 10 (row z originalRow))
+        (m .rows ∙ ap (λ z. set z 0 (set (row z headerRow) 6 0)) (a .rows ∙ ap (λ z. set z 0 (set (row z headerRow) 5 0)) (p .rows)))))
 
-    header-length : 6 < length (row (rowsOf b₀) 0)
+    header-length : 6 < length (row (rowsOf b₀) headerRow)
     unfolding Laid offset
     header-length =
         let z : LaidOut b₀ = f .laid in
-        let x : length (row (rowsOf b₀) 0) ≡ 16 = rows-length b₀ 0 (omega (arith, z .sized .len)) in
+        let x : length (row (rowsOf b₀) headerRow) ≡ 16 = rows-length b₀ headerRow (omega (arith, z .sized .len)) in
         omega (arith, x)
 
     state-cleared : stateOf b ≡ cleared (stateOf b₀)

@@ -10,7 +10,7 @@ use lib.Seq.{getD-at, set-at, getD-set-same, getD-set-other, take-suc-set, lengt
 use Rattle.graph.specs.Basic.{sumBelow}
 use Rattle.graph.specs.State.{State, NodeClass, vertexCount, nodeCount, withNodes, withNode, withBoundary, withOvergrown}
 use Rattle.graph.specs.Sound.{entries, entriesOf}
-use Rattle.graph.specs.Rows.{rows, offset}
+use Rattle.graph.specs.Rows.{rows, offset, headerRow, classRow, growStateRow, parentRow, dualRow, startRow, boundaryLengthRow, overgrownLengthRow, storeRow}
 use Rattle.graph.specs.Layout.{rowsOf, row, classFrom, stackFrom, boundaries, stacks, stateFrom, stateOf}
 use Rattle.graph.specs.Form.{Laid, Listed, Wired, PackedRows, GraphRows, Formed, startsFrom, totalFrom}
 use Rattle.graph.specs.inner.Form.{Rowed, Becomes}
@@ -74,20 +74,20 @@ rewritten-then f p q = record { kept = kept-then (p .kept) (q .kept); rows = q .
 
 module _ (b₀ b₁ b₂ : List ℤ) (n class x a : ℕ) (f : Formed b₀) (is-count : n ≡ nodeCount (stateOf b₀)) (room : n < stateOf b₀ .nodeLimit)
     (p : Rewritten b₀ b₁ (tailPut n a (headPut n (newNode class x) (rowsOf b₀)))) (r : Recounted b₁ b₂ (n + 1))
-    (is-start : a ≡ totalFrom 0 (take n (row (rowsOf b₀) 16)) (take n (row (rowsOf b₀) 17))) where
+    (is-start : a ≡ totalFrom 0 (take n (row (rowsOf b₀) boundaryLengthRow)) (take n (row (rowsOf b₀) overgrownLengthRow))) where
   header : List ℕ
-  header = row (rowsOf b₀) 0
+  header = row (rowsOf b₀) headerRow
 
   rowsEnd : List (List ℕ)
   rowsEnd = set (put 17 n 0 (put 16 n 0 (put 15 n a (put 14 n 0 (put 13 n 0 (put 12 n x (put 11 n class (rowsOf b₀)))))))) 0 (set header 4 (n + 1))
 
   rows-end : rowsOf b₂ ≡ rowsEnd
   unfolding rowsOf rows rowsEnd header
-  rows-end = r .rows ∙ ap (λ z. set z 0 (set (row z 0) 4 (n + 1))) (p .rows)
+  rows-end = r .rows ∙ ap (λ z. set z 0 (set (row z headerRow) 4 (n + 1))) (p .rows)
 
   header-length : length header ≡ 16
   unfolding Laid offset header
-  header-length = rows-length b₀ 0 (omega (arith, f .laid .sized))
+  header-length = rows-length b₀ headerRow (omega (arith, f .laid .sized))
 
   header-count : getD (set header 4 (n + 1)) 4 0 ≡ n + 1
   header-count = getD-set-same header 4 (n + 1) 0 (omega (arith, header-length))
@@ -105,13 +105,13 @@ module _ (b₀ b₁ b₂ : List ℤ) (n class x a : ℕ) (f : Formed b₀) (is-c
 
   row-length : (k : ℕ) → k < 7 → n < length (row (rowsOf b₀) (11 + k))
   unfolding Laid offset
-  row-length zero h = omega (arith, rows-length b₀ 11 (omega (arith, f .laid .sized)), f .laid .counted .node-limit, room)
-  row-length (suc zero) h = omega (arith, rows-length b₀ 12 (omega (arith, f .laid .sized)), f .laid .counted .node-limit, room)
-  row-length (suc (suc zero)) h = omega (arith, rows-length b₀ 13 (omega (arith, f .laid .sized)), f .laid .counted .node-limit, room)
-  row-length (suc (suc (suc zero))) h = omega (arith, rows-length b₀ 14 (omega (arith, f .laid .sized)), f .laid .counted .node-limit, room)
-  row-length (suc (suc (suc (suc zero)))) h = omega (arith, rows-length b₀ 15 (omega (arith, f .laid .sized)), f .laid .counted .node-limit, room)
-  row-length (suc (suc (suc (suc (suc zero))))) h = omega (arith, rows-length b₀ 16 (omega (arith, f .laid .sized)), f .laid .counted .node-limit, room)
-  row-length (suc (suc (suc (suc (suc (suc zero)))))) h = omega (arith, rows-length b₀ 17 (omega (arith, f .laid .sized)), f .laid .counted .node-limit, room)
+  row-length zero h = omega (arith, rows-length b₀ classRow (omega (arith, f .laid .sized)), f .laid .counted .node-limit, room)
+  row-length (suc zero) h = omega (arith, rows-length b₀ growStateRow (omega (arith, f .laid .sized)), f .laid .counted .node-limit, room)
+  row-length (suc (suc zero)) h = omega (arith, rows-length b₀ parentRow (omega (arith, f .laid .sized)), f .laid .counted .node-limit, room)
+  row-length (suc (suc (suc zero))) h = omega (arith, rows-length b₀ dualRow (omega (arith, f .laid .sized)), f .laid .counted .node-limit, room)
+  row-length (suc (suc (suc (suc zero)))) h = omega (arith, rows-length b₀ startRow (omega (arith, f .laid .sized)), f .laid .counted .node-limit, room)
+  row-length (suc (suc (suc (suc (suc zero))))) h = omega (arith, rows-length b₀ boundaryLengthRow (omega (arith, f .laid .sized)), f .laid .counted .node-limit, room)
+  row-length (suc (suc (suc (suc (suc (suc zero)))))) h = omega (arith, rows-length b₀ overgrownLengthRow (omega (arith, f .laid .sized)), f .laid .counted .node-limit, room)
   row-length (suc (suc (suc (suc (suc (suc (suc k))))))) h = absurd (omega arith)
 
   -- one more word counts in a row over nodes
@@ -121,16 +121,16 @@ module _ (b₀ b₁ b₂ : List ℤ) (n class x a : ℕ) (f : Formed b₀) (is-c
   cut-length : (k : ℕ) → k < 7 → length (take n (row (rowsOf b₀) (11 + k))) ≡ n
   cut-length k h = length-take-le n (row (rowsOf b₀) (11 + k)) (omega (arith, row-length k h))
 
-  same-length : length (take n (row (rowsOf b₀) 16)) ≡ length (take n (row (rowsOf b₀) 17))
+  same-length : length (take n (row (rowsOf b₀) boundaryLengthRow)) ≡ length (take n (row (rowsOf b₀) overgrownLengthRow))
   same-length = cut-length 5 (omega arith) ∙ sym (cut-length 6 (omega arith))
 
   packed-end : PackedRows rowsEnd
   unfolding Listed rowsOf rows rowsEnd header
   packed-end =
       let q = f .listed in
-      let bs : List ℕ = take n (row (rowsOf b₀) 16) in
-      let os : List ℕ = take n (row (rowsOf b₀) 17) in
-      let s : take n (row (rowsOf b₀) 15) ≡ startsFrom 0 bs os = rw count-then at (q .starts) in
+      let bs : List ℕ = take n (row (rowsOf b₀) boundaryLengthRow) in
+      let os : List ℕ = take n (row (rowsOf b₀) overgrownLengthRow) in
+      let s : take n (row (rowsOf b₀) startRow) ≡ startsFrom 0 bs os = rw count-then at (q .starts) in
       let t : totalFrom 0 bs os ≤ getD header 3 0 = rw count-then at (q .total) in
       let z : totalFrom 0 bs os + 0 + 0 ≡ totalFrom 0 bs os = omega arith in
       record {
@@ -187,9 +187,9 @@ module _ (b₀ b₁ b₂ : List ℤ) (n class x a : ℕ) (f : Formed b₀) (is-c
         one-more 3 0 (omega arith),
         one-more 5 0 (omega arith),
         one-more 6 0 (omega arith),
-        boundaries-snoc (take n (row (rowsOf b₀) 16)) (take n (row (rowsOf b₀) 17)) (row (rowsOf b₀) 18) same-length,
-        stacks-snoc (take n (row (rowsOf b₀) 16)) (take n (row (rowsOf b₀) 17)) (row (rowsOf b₀) 18) same-length,
-        map-snoc (classFrom (getD header 0 0)) (take n (row (rowsOf b₀) 11)) class,
+        boundaries-snoc (take n (row (rowsOf b₀) boundaryLengthRow)) (take n (row (rowsOf b₀) overgrownLengthRow)) (row (rowsOf b₀) storeRow) same-length,
+        stacks-snoc (take n (row (rowsOf b₀) boundaryLengthRow)) (take n (row (rowsOf b₀) overgrownLengthRow)) (row (rowsOf b₀) storeRow) same-length,
+        map-snoc (classFrom (getD header 0 0)) (take n (row (rowsOf b₀) classRow)) class,
         count-then,
         vertices-then,
       )
@@ -209,11 +209,11 @@ module _ (b₀ b₁ b₂ : List ℤ) (n class x a : ℕ) (f : Formed b₀) (is-c
 
 pub head-limit : {b₀ b : List ℤ} (n : ℕ) (d : DualNode) → Rewritten b₀ b (headPut n d (rowsOf b₀)) → stateOf b .nodeLimit ≡ stateOf b₀ .nodeLimit
 unfolding rowsOf rows stateOf stateFrom
-head-limit n d p = ap (λ z. getD (row z 0) 2 0) (p .rows)
+head-limit n d p = ap (λ z. getD (row z headerRow) 2 0) (p .rows)
 
 pub tail-limit : {b₀ b : List ℤ} (n a : ℕ) → Rewritten b₀ b (tailPut n a (rowsOf b₀)) → stateOf b .nodeLimit ≡ stateOf b₀ .nodeLimit
 unfolding rowsOf rows stateOf stateFrom
-tail-limit n a p = ap (λ z. getD (row z 0) 2 0) (p .rows)
+tail-limit n a p = ap (λ z. getD (row z headerRow) 2 0) (p .rows)
 
 -- ---- the lists of the new node
 

@@ -8,7 +8,7 @@ use lib.IntN.{ℤ}
 use lib.ListN.{length, set, getD, length-set}
 use lib.Seq.{getD-set-same, getD-set-other}
 use Rattle.graph.specs.Word.{wordAt}
-use Rattle.graph.specs.Rows.{offset}
+use Rattle.graph.specs.Rows.{offset, startRow, storeRow}
 use Rattle.graph.specs.Layout.{rowsOf, row, stateOf}
 use Rattle.graph.specs.Form.{Laid}
 use Rattle.graph.specs.inner.Form.{Rowed}
@@ -47,7 +47,7 @@ wrote-at a n g w i h = w .inside (a + i) (omega arith) (omega arith) ∙ ap g (l
 
 module _ {b₀ b b' : List ℤ} (q : Laid b₀) where
   pub move-down-more : (from to i x : ℕ) → Copied b₀ b from to i → to ≤ from → from + i < stateOf b₀ .storeLimit
-      → x ≡ getD (storeOf b) (from + i) 0 → Rowed 18 b b' (set (storeOf b) (to + i) x) → Copied b₀ b' from to (i + 1)
+      → x ≡ getD (storeOf b) (from + i) 0 → Rowed storeRow b b' (set (storeOf b) (to + i) x) → Copied b₀ b' from to (i + 1)
   move-down-more from to i x a h k e r =
       let z : to + i - to ≡ i = omega arith in
       wrote-more to (to + (i + 1)) (to + i) x (omega arith) a r (omega (arith, store-length b₀ q))
@@ -55,7 +55,7 @@ module _ {b₀ b b' : List ℤ} (q : Laid b₀) where
 
   pub move-up-more : (from to n i x : ℕ)
       → Wrote 18 b₀ b (to + (i + 1)) (to + n) (λ p. getD (storeOf b₀) (from + (p - to)) 0) → from ≤ to → i < n
-      → to + n ≤ stateOf b₀ .storeLimit → x ≡ getD (storeOf b) (from + i) 0 → Rowed 18 b b' (set (storeOf b) (to + i) x)
+      → to + n ≤ stateOf b₀ .storeLimit → x ≡ getD (storeOf b) (from + i) 0 → Rowed storeRow b b' (set (storeOf b) (to + i) x)
       → Wrote 18 b₀ b' (to + i) (to + n) (λ p. getD (storeOf b₀) (from + (p - to)) 0)
   move-up-more from to n i x a h j k e r =
       let z : to + i - to ≡ i = omega arith in
@@ -63,19 +63,19 @@ module _ {b₀ b b' : List ℤ} (q : Laid b₀) where
       (rw z (e ∙ a .below (from + i) (omega arith))) (omega arith) (omega arith) (omega arith) (omega arith)
 
   pub fill-more : (t : List ℤ) (s at i x : ℕ) → Filled b₀ b t s at i → at + i < stateOf b₀ .storeLimit
-      → x ≡ wordAt t (s + i) → Rowed 18 b b' (set (storeOf b) (at + i) x) → Filled b₀ b' t s at (i + 1)
+      → x ≡ wordAt t (s + i) → Rowed storeRow b b' (set (storeOf b) (at + i) x) → Filled b₀ b' t s at (i + 1)
   fill-more t s at i x a k e r =
       let z : at + i - at ≡ i = omega arith in
       wrote-more
       at (at + (i + 1)) (at + i) x (omega arith) a r (omega (arith, store-length b₀ q)) (rw z e) (omega arith)
       (omega arith) (omega arith) (omega arith)
 
-starts-length : (b : List ℤ) → Laid b → length (row (rowsOf b) 15) ≡ stateOf b .nodeLimit
+starts-length : (b : List ℤ) → Laid b → length (row (rowsOf b) startRow) ≡ stateOf b .nodeLimit
 unfolding Laid offset
-starts-length b q = rows-length b 15 (omega arith) ∙ sym (q .counted .node-limit)
+starts-length b q = rows-length b startRow (omega arith) ∙ sym (q .counted .node-limit)
 
 pub shift-more : {b₀ b b' : List ℤ} (q : Laid b₀) (add sub lo i x : ℕ) → Shifted b₀ b lo i add sub → lo ≤ i
-    → i < stateOf b₀ .nodeLimit → x ≡ startWord b i + add - sub → Rowed 15 b b' (set (row (rowsOf b) 15) i x)
+    → i < stateOf b₀ .nodeLimit → x ≡ startWord b i + add - sub → Rowed startRow b b' (set (row (rowsOf b) startRow) i x)
     → Shifted b₀ b' lo (i + 1) add sub
 shift-more {b₀} {b} {b'} q add sub lo i x a h k e r =
     wrote-more lo (i + 1) i x (omega arith) a r (omega (arith, starts-length b₀ q)) (rw (a .above i (omega arith)) at e)

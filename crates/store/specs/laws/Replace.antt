@@ -10,7 +10,7 @@ use lib.Seq.{getD-take, ext-getD, length-take-le, take-set-lt, take-at, drop-at,
 use Rattle.graph.specs.State.{nodeCount, boundaryOf, overgrownOf, withNodes, withBoundary, withOvergrown}
 use Rattle.graph.specs.Sound.{entries, entriesOf}
 use Rattle.graph.specs.Word.{numbersAt}
-use Rattle.graph.specs.Rows.{rows, offset}
+use Rattle.graph.specs.Rows.{rows, offset, headerRow, startRow, boundaryLengthRow, overgrownLengthRow, storeRow}
 use Rattle.graph.specs.Layout.{rowsOf, row, overgrownFrom, stackFrom, boundaries, stacks, stateFrom, stateOf}
 use Rattle.graph.specs.Form.{startsFrom, Laid, Listed, Wired, PackedRows, GraphRows, Formed}
 use Rattle.graph.specs.inner.Form.{Rowed, Becomes}
@@ -69,13 +69,13 @@ module _ (b : List ℤ) (n a x w u : ℕ) (q : Laid b) (f : Listed b) (h : n < n
         small = store-max b q;
       }
 
-starts-still : (b₀ b₁ : List ℤ) → Rowed 18 b₀ b₁ (storeOf b₁) → row (rowsOf b₁) 15 ≡ row (rowsOf b₀) 15
+starts-still : (b₀ b₁ : List ℤ) → Rowed storeRow b₀ b₁ (storeOf b₁) → row (rowsOf b₁) startRow ≡ row (rowsOf b₀) startRow
 unfolding rowsOf rows
-starts-still b₀ b₁ r = ap (λ z. row z 15) (r .rows)
+starts-still b₀ b₁ r = ap (λ z. row z startRow) (r .rows)
 
 -- what the sizes ask when the words are in place
 pub asked-sizes : (b₀ b₁ : List ℤ) (n a x y rest k m o c : ℕ) → Formed b₀ → Replaceable b₀ n a x y rest k m o
-    → Rowed 18 b₀ b₁ (storeOf b₁) → c ≡ nodeCount (stateOf b₀)
+    → Rowed storeRow b₀ b₁ (storeOf b₁) → c ≡ nodeCount (stateOf b₀)
     → Laid b₁ × (n < c) × (c ≤ stateOf b₁ .nodeLimit) × (k + (m + o) ≤ 65536) × ((p : ℕ) → n + 1 ≤ p → p < c → (y ≤ startWord b₁ p) × (startWord b₁ p ≤ 65536))
 asked-sizes b₀ b₁ n a x y rest k m o c f w r e = (
   r .laid,
@@ -194,44 +194,44 @@ module _ (b₀ b₁ b₂ t : List ℤ) (n a x y rest k m q o : ℕ) (f : Formed 
         | no i ↦ z .before p (omega arith) ∙ e ∙ sym (start-set-le (blens b₀) (olens b₀) n k (m + o) p (omega arith))
       ]
 
-  starts-size : length (row (rowsOf b₂) 15) ≡ stateOf b₀ .nodeLimit
+  starts-size : length (row (rowsOf b₂) startRow) ≡ stateOf b₀ .nodeLimit
   unfolding offset Laid
   starts-size =
       let g = f .laid in
-      z .size ∙ ap length (starts-still b₀ b₁ (s .still)) ∙ rows-length b₀ 15 (omega (arith, g .sized))
+      z .size ∙ ap length (starts-still b₀ b₁ (s .still)) ∙ rows-length b₀ startRow (omega (arith, g .sized))
       ∙ sym (g .counted .node-limit)
 
-  starts-now : take (getD (row (rowsOf b₀) 0) 4 0) (row (rowsOf b₂) 15) ≡ startsFrom 0 bs os
+  starts-now : take (getD (row (rowsOf b₀) headerRow) 4 0) (row (rowsOf b₂) startRow) ≡ startsFrom 0 bs os
   unfolding bs os Laid
   starts-now =
-      let c : ℕ = getD (row (rowsOf b₀) 0) 4 0 in
+      let c : ℕ = getD (row (rowsOf b₀) headerRow) 4 0 in
       let g = f .laid in
       let e : c ≡ nodeCount (stateOf b₀) = count-is b₀ (f .laid) (f .listed) in
       let lb : length bs ≡ nodeCount (stateOf b₀) = length-set (blens b₀) n k ∙ length-bs b₀ (f .laid) (f .listed) in
       let lo : length os ≡ nodeCount (stateOf b₀) = length-set (olens b₀) n (m + o) ∙ length-os b₀ (f .laid) (f .listed) in
-      let ls : length (take c (row (rowsOf b₂) 15)) ≡ nodeCount (stateOf b₀) =
-      length-take-le c (row (rowsOf b₂) 15) (omega (arith, starts-size, e, g .counted)) ∙ e in
-      ext-getD 0 (take c (row (rowsOf b₂) 15)) (startsFrom 0 bs os) (ls ∙ sym (starts-length 0 bs os (lb ∙ sym lo) ∙ lb))
-      (λ p h. getD-take c (row (rowsOf b₂) 15) p 0 (omega (arith, ls, e, h)) ∙ start-now p (omega (arith, ls, h))
+      let ls : length (take c (row (rowsOf b₂) startRow)) ≡ nodeCount (stateOf b₀) =
+      length-take-le c (row (rowsOf b₂) startRow) (omega (arith, starts-size, e, g .counted)) ∙ e in
+      ext-getD 0 (take c (row (rowsOf b₂) startRow)) (startsFrom 0 bs os) (ls ∙ sym (starts-length 0 bs os (lb ∙ sym lo) ∙ lb))
+      (λ p h. getD-take c (row (rowsOf b₂) startRow) p 0 (omega (arith, ls, e, h)) ∙ start-now p (omega (arith, ls, h))
       ∙ sym (starts-at 0 bs os p (omega (arith, ls, lb, h)) (omega (arith, ls, lo, h)) ∙ omega arith))
 
-  blens-now : take (getD (row (rowsOf b₀) 0) 4 0) (set (row (rowsOf b₀) 16) n k) ≡ bs
+  blens-now : take (getD (row (rowsOf b₀) headerRow) 4 0) (set (row (rowsOf b₀) boundaryLengthRow) n k) ≡ bs
   unfolding bs
-  blens-now = take-set-lt (getD (row (rowsOf b₀) 0) 4 0) (row (rowsOf b₀) 16) n k (omega (arith, count-is b₀ (f .laid) (f .listed), w .split .below))
+  blens-now = take-set-lt (getD (row (rowsOf b₀) headerRow) 4 0) (row (rowsOf b₀) boundaryLengthRow) n k (omega (arith, count-is b₀ (f .laid) (f .listed), w .split .below))
 
-  olens-now : take (getD (row (rowsOf b₀) 0) 4 0) (set (row (rowsOf b₀) 17) n (m + o)) ≡ os
+  olens-now : take (getD (row (rowsOf b₀) headerRow) 4 0) (set (row (rowsOf b₀) overgrownLengthRow) n (m + o)) ≡ os
   unfolding os
-  olens-now = take-set-lt (getD (row (rowsOf b₀) 0) 4 0) (row (rowsOf b₀) 17) n (m + o) (omega (arith, count-is b₀ (f .laid) (f .listed), w .split .below))
+  olens-now = take-set-lt (getD (row (rowsOf b₀) headerRow) 4 0) (row (rowsOf b₀) overgrownLengthRow) n (m + o) (omega (arith, count-is b₀ (f .laid) (f .listed), w .split .below))
 
   -- the rows
   rowsEnd : List (List ℕ)
-  rowsEnd = set (set (set (set (rowsOf b₀) 18 (storeOf b₁)) 15 (row (rowsOf b₂) 15)) 16 (set (row (rowsOf b₀) 16) n k)) 17 (set (row (rowsOf b₀) 17) n (m + o))
+  rowsEnd = set (set (set (set (rowsOf b₀) storeRow (storeOf b₁)) 15 (row (rowsOf b₂) startRow)) 16 (set (row (rowsOf b₀) boundaryLengthRow) n k)) 17 (set (row (rowsOf b₀) overgrownLengthRow) n (m + o))
 
   rows-end : rowsOf b₂ ≡ rowsEnd
   unfolding rowsOf rows rowsEnd
-  rows-end = z .rows ∙ ap (λ r. set (set (set r 15 (row (rowsOf b₂) 15)) 16 (set (row r 16) n k)) 17 (set (row r 17) n (m + o))) (s .still .rows)
+  rows-end = z .rows ∙ ap (λ r. set (set (set r 15 (row (rowsOf b₂) startRow)) 16 (set (row r boundaryLengthRow) n k)) 17 (set (row r overgrownLengthRow) n (m + o))) (s .still .rows)
 
-  room-end : sumOfLists bs os ≤ getD (row (rowsOf b₀) 0) 3 0
+  room-end : sumOfLists bs os ≤ getD (row (rowsOf b₀) headerRow) 3 0
   unfolding Laid
   room-end = let g = f .laid in omega (arith, sum-now, w .room, header-get b₀ 3 (omega arith), g .counted .store-limit)
 

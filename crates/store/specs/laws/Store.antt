@@ -9,7 +9,7 @@ use lib.IntN.{ℤ}
 use lib.ListN.{length, set, getD, take, drop, length-drop, List·getD-append}
 use lib.Seq.{getD-take, getD-drop, getD-append-add, length-take-le}
 use Rattle.graph.specs.Word.{wordAt, numbersAt}
-use Rattle.graph.specs.Rows.{rows}
+use Rattle.graph.specs.Rows.{rows, startRow, boundaryLengthRow, overgrownLengthRow}
 use Rattle.graph.specs.Layout.{rowsOf, row, stateOf}
 use Rattle.graph.specs.Form.{Laid}
 use Rattle.graph.specs.inner.Form.{Rowed}
@@ -119,18 +119,18 @@ kept-then p q =
 
 module _ (b₀ b₁ b₂ b : List ℤ) (n c k o y : ℕ)
     (s : Shifted b₀ b₁ (n + 1) c (k + o) y)
-    (u : Rowed 16 b₁ b₂ (set (row (rowsOf b₁) 16) n k))
-    (v : Rowed 17 b₂ b (set (row (rowsOf b₂) 17) n o)) where
-  same : row (rowsOf b) 15 ≡ row (rowsOf b₁) 15
+    (u : Rowed boundaryLengthRow b₁ b₂ (set (row (rowsOf b₁) boundaryLengthRow) n k))
+    (v : Rowed overgrownLengthRow b₂ b (set (row (rowsOf b₂) overgrownLengthRow) n o)) where
+  same : row (rowsOf b) startRow ≡ row (rowsOf b₁) startRow
   unfolding rowsOf rows
-  same = ap (λ z. row z 15) (v .rows) ∙ ap (λ z. row z 15) (u .rows)
+  same = ap (λ z. row z startRow) (v .rows) ∙ ap (λ z. row z startRow) (u .rows)
 
-  rows-are : rowsOf b ≡ set (set (set (rowsOf b₀) 15 (row (rowsOf b₁) 15)) 16 (set (row (rowsOf b₀) 16) n k)) 17 (set (row (rowsOf b₀) 17) n o)
+  rows-are : rowsOf b ≡ set (set (set (rowsOf b₀) startRow (row (rowsOf b₁) startRow)) 16 (set (row (rowsOf b₀) boundaryLengthRow) n k)) 17 (set (row (rowsOf b₀) overgrownLengthRow) n o)
   unfolding rowsOf rows
   rows-are =
       v .rows
-      ∙ ap (λ z. set z 17 (set (row z 17) n o)) (u .rows)
-      ∙ ap (λ z. set (set z 16 (set (row z 16) n k)) 17 (set (row z 17) n o)) (s .still .rows)
+      ∙ ap (λ z. set z 17 (set (row z overgrownLengthRow) n o)) (u .rows)
+      ∙ ap (λ z. set (set z 16 (set (row z boundaryLengthRow) n k)) 17 (set (row z overgrownLengthRow) n o)) (s .still .rows)
 
   pub resized : Resized b₀ b n c k o y
   resized = record {

@@ -18,8 +18,8 @@ use Rattle.graph.specs.laws.Size.{sizes-in}
 use Rattle.open_graph.specs.laws.Open.{first-passed, edges-count}
 use Rattle.distance.specs.Graph.{WellFormed}
 use Rattle.opened_graph.specs.laws.Opening.{well-formed}
-use Rattle.table_check.specs.Verdict.{sizesRight, lengthsRight, graphInRange, defectsInRange, distancesInRange, numbersRight, tableRefusal}
-use Rattle.table_check.specs.laws.Words.{below-more, numbers-long}
+use Rattle.table_refuse.specs.Refuse.{sizesRight, lengthsRight, graphInRange, defectsInRange, distancesInRange, numbersRight, tableRefusal}
+use Rattle.table_words.specs.laws.Words.{below-more, numbers-long}
 use Rattle.table_check.specs.laws.Wiring.{graphIn}
 
 pub record Accepted (v e : ℕ) (edges virtuals defects duals growths distances : List ℤ) : Type 0 where

@@ -18,7 +18,8 @@ use Rattle.distance.specs.Graph.{WellFormed, Positive, sides, near, across, wei
 use Rattle.distance.specs.Distance.{unreachable, dist, DistanceCertificate}
 use Rattle.distance.specs.Theorems.{certificate-is-distance, distance-certificate}
 use Rattle.distance.specs.laws.Side.{across-placed}
-use Rattle.table_check.specs.Tests.{nearIn, acrossIn, weightIn, marked, marksBy, relaxedAt, precedesAt, precededMarks, settledAt, certified}
+use Rattle.table_words.specs.Sides.{nearIn, acrossIn, weightIn, marked, marksBy}
+use Rattle.table_distances.specs.Certificate.{relaxedAt, precedesAt, precededMarks, settledAt, certified}
 use Rattle.table_check.specs.laws.Marks.{marked-has, has-marked, no-marks, marks-there, marks-from}
 use Rattle.table_check.specs.laws.Wiring.{graphIn, sides-are, size-is, near-is, across-is, weight-is}
 

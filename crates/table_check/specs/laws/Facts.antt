@@ -22,10 +22,13 @@ use Rattle.distance.specs.Distance.{unreachable, dist}
 use Rattle.distance.specs.Nearest.{VirtualInReach}
 use Rattle.distance.specs.Reach.{HasMark}
 use Rattle.distance.specs.Table.{share}
-use Rattle.table_check.specs.Handed.{distanceOf, distanceIn, rowOf}
-use Rattle.table_check.specs.Verdict.{distancesInRange}
-use Rattle.table_check.specs.Tests.{nearIn, acrossIn, weightIn, marked, coversAt, coverMarks, coveredBy, certified, defectPairAt, virtualPairAt, sideAt, freeAt, rowRight, rowsRight, positiveIn, allMarked, tested}
-use Rattle.table_check.specs.laws.Words.{distance-outside}
+use Rattle.table_words.specs.Handed.{distanceOf, distanceIn, rowOf}
+use Rattle.table_refuse.specs.Refuse.{distancesInRange}
+use Rattle.table_words.specs.Sides.{nearIn, acrossIn, weightIn, marked}
+use Rattle.table_rows.specs.Row.{coversAt, coverMarks, defectPairAt, virtualPairAt, sideAt, freeAt, rowRight}
+use Rattle.table_check.specs.Tests.{coveredBy, rowsRight, positiveIn, allMarked, tested}
+use Rattle.table_distances.specs.Certificate.{certified}
+use Rattle.table_words.specs.laws.Words.{distance-outside}
 use Rattle.table_check.specs.laws.Marks.{marked-has, not-marked, no-marks, marks-length, marks-there, marks-kept, marks-from}
 use Rattle.table_check.specs.laws.Wiring.{graphIn, sides-are, size-is, near-is, weight-is, virtual-member, member-virtual}
 use Rattle.table_check.specs.laws.Members.{place-of}

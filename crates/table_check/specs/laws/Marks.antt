@@ -12,7 +12,7 @@ use borrow.Author.Tests.{lt-ltb, ltb-true}
 use Rattle.graph.specs.laws.Members.{by-test, clash}
 use Rattle.graph.specs.laws.Opened.{getD-zeros}
 use Rattle.distance.specs.Reach.{HasMark}
-use Rattle.table_check.specs.Tests.{marked, markIf, marksBy}
+use Rattle.table_words.specs.Sides.{marked, markIf, marksBy}
 
 pub marked-has : (m : List ℕ) (u : ℕ) → marked m u ≡ true → HasMark m u
 marked-has m u h = ltb-true 0 (getD m u 0) h

@@ -21,7 +21,8 @@ use Rattle.distance.specs.Reach.{HasMark, ReachMarks, AllSpread}
 use Rattle.distance.specs.Theorems.{mark-spreads, marks-tell-reach}
 use Rattle.distance.specs.laws.Side.{across-placed}
 use Rattle.open_graph.specs.laws.Open.{virtuals-count, virtuals-get}
-use Rattle.table_check.specs.Tests.{nearIn, acrossIn, marked, markIf, marksBy, spreadsAt, spreadSide, spreadSides, spreadNew, spreadUntil, virtualMarks, allMarked}
+use Rattle.table_words.specs.Sides.{nearIn, acrossIn, marked, markIf, marksBy}
+use Rattle.table_check.specs.Tests.{spreadsAt, spreadSide, spreadSides, spreadNew, spreadUntil, virtualMarks, allMarked}
 use Rattle.table_check.specs.laws.Marks.{marked-has, has-marked, not-marked, no-marks, marks-length, marks-there, marks-from, countMarks, count-new, count-full}
 use Rattle.table_check.specs.laws.Wiring.{graphIn, sides-are, size-is, near-is, across-is, virtual-member, member-virtual}
 use Rattle.table_check.specs.laws.Members.{place-of}

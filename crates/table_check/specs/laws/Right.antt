@@ -27,11 +27,12 @@ use Rattle.distance.specs.Theorems.{nearest-virtual-least, nearest-virtual-vert
 use Rattle.distance.specs.laws.Distance.{unreachable-is}
 use Rattle.distance.specs.laws.Table.{length-tableFromDistances, at-tableFromDistances}
 use Rattle.distance.specs.laws.Side.{across-placed}
-use Rattle.table_check.specs.Handed.{distanceIn, rowOf, Handed, handed}
+use Rattle.table_words.specs.Handed.{distanceIn, rowOf, Handed, handed}
 use Rattle.table_check.specs.Verdict.{givenDefectAt, givenDualAt, defectCount, givenDualOf, dualsByVertex, positive, inReach, shortest, pairsFeasible, virtualsFeasible, tableAfresh, right, Right}
-use Rattle.table_check.specs.Tests.{nearIn, acrossIn, weightIn, tested}
+use Rattle.table_words.specs.Sides.{nearIn, acrossIn, weightIn}
+use Rattle.table_check.specs.Tests.{tested}
 use Rattle.table_check.specs.laws.Choice.{test-same}
-use Rattle.table_check.specs.laws.Words.{numbers-at, numbers-long}
+use Rattle.table_words.specs.laws.Words.{numbers-at, numbers-long}
 use Rattle.table_check.specs.laws.Wiring.{graphIn, sides-are, size-is, near-is, across-is, weight-is}
 use Rattle.table_check.specs.laws.Members.{dual-of-defect, defect-of-dual}
 use Rattle.table_check.specs.laws.Accepted.{Accepted, formed}

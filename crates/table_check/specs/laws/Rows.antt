@@ -10,8 +10,9 @@ use lib.IntN.{ℤ}
 use lib.ListN.{length, take, drop, replicate}
 use Rattle.graph.specs.Basic.{allBelow}
 use Rattle.graph.specs.Word.{wordAt}
-use Rattle.table_check.specs.Handed.{distanceIn, rowOf}
-use Rattle.table_check.specs.Tests.{coverMarks, coveredBy, rowRight, freeAt, rowsRight}
+use Rattle.table_words.specs.Handed.{distanceIn, rowOf}
+use Rattle.table_rows.specs.Row.{coverMarks, rowRight, freeAt}
+use Rattle.table_check.specs.Tests.{coveredBy, rowsRight}
 
 -- the places of row i
 module _ (n v i : ℕ) (h : i < n) (few : n ≤ 1024) (small : v ≤ 1024) where

@@ -4,20 +4,21 @@ use native.Mathlib.Omega.{arith}
 use native.Mathlib.Nat.{suc-mul}
 use mathlib.Core.Path.{_≡_, refl, sym, ap, _∙_}
 use mathlib.Core.Bool.{Bool, true, false, _&&_}
-use mathlib.Core.List.{List, [], _∷_, _++_, map}
+use mathlib.Core.List.{List, [], _∷_, _++_}
 use lib.IntN.{ℤ}
 use lib.Dec.{leb}
 use lib.ListN.{length, take, drop, replicate}
 use lib.Seq.{take-all, take-add}
 use Rattle.graph.specs.Basic.{if_then_else_, all, allBelow}
-use Rattle.graph.specs.Word.{toNat}
-use Rattle.graph.specs.Open.{dualLimit, growthLimit}
 use Rattle.graph.specs.laws.Members.{by-test}
 use Rattle.distance.specs.Distance.{unreachable}
-use Rattle.table_check.specs.Handed.{distanceOf, distanceIn, rowOf}
-use Rattle.table_check.specs.Verdict.{sizesRight, lengthsRight, graphInRange, defectsInRange, distancesInRange, numbersRight, tableRefusal, verdictBy, tableVerdict}
-use Rattle.table_check.specs.Tests.{positiveIn, allMarked, rowRight, coveredBy, freeAt, rowsRight, tested}
-use Rattle.table_check.specs.Streamed.{headInRange, begun, advanced, afterRows, ended}
+use Rattle.table_words.specs.Handed.{distanceOf, distanceIn, rowOf}
+use Rattle.table_refuse.specs.Refuse.{sizesRight, lengthsRight, distancesInRange, numbersRight, tableRefusal, headInRange}
+use Rattle.table_check.specs.Verdict.{verdictBy, tableVerdict}
+use Rattle.table_check.specs.Tests.{positiveIn, allMarked, coveredBy, rowsRight, tested}
+use Rattle.table_rows.specs.Row.{rowRight, freeAt}
+use Rattle.table_check.specs.Streamed.{begun, advanced, afterRows, ended}
+use Rattle.table_refuse.specs.laws.Numbers.{numbers-split}
 use Rattle.table_check.specs.laws.Accepted.{accepted-of, lengths}
 use Rattle.table_check.specs.laws.Right.{tested-right}
 
@@ -73,19 +74,6 @@ module _ (v e : ℕ) (edges virtuals defects duals growths distances : List ℤ)
   after-marks zero = refl
   after-marks (suc n) = rw (after-marks n)
 
-  pub numbers-split : numbersRight v edges virtuals defects duals growths distances ≡ headInRange v edges virtuals defects duals
-      growths && distancesInRange distances
-  unfolding numbersRight headInRange
-  numbers-split =
-      go (graphInRange v edges virtuals) (defectsInRange v defects) (all (λ x. leb x dualLimit) (map toNat duals))
-      (all (λ x. leb x growthLimit) (map toNat growths)) (distancesInRange distances)
-    where
-      go : (a b c d z : Bool) → a && (b && (c && (d && z))) ≡ (a && (b && (c && d))) && z
-      go true true true d z = refl
-      go true true false d z = refl
-      go true false c d z = refl
-      go false b c d z = refl
-
   module _ (sizes : sizesRight v e edges ≡ true) (fit : lengthsRight v e defects duals growths distances ≡ true) where
     rows-range : distancesInRange distances ≡ allBelow (λ i. distancesInRange (rowOf v distances i)) (length defects)
     unfolding distancesInRange
@@ -96,7 +84,9 @@ module _ (v e : ℕ) (edges virtuals defects duals growths distances : List ℤ)
 
     range-is : afterRows v e edges virtuals defects duals growths distances (length defects) .inRange ≡ numbersRight v edges virtuals defects duals
         growths distances
-    range-is = after-range (length defects) ∙ ap (λ t. headInRange v edges virtuals defects duals growths && t) (sym rows-range) ∙ sym numbers-split
+    range-is =
+        after-range (length defects) ∙ ap (λ t. headInRange v edges virtuals defects duals growths && t) (sym rows-range)
+        ∙ sym (numbers-split v e edges virtuals defects duals growths distances)
 
     refusal-is : (t : Bool) → numbersRight v edges virtuals defects duals growths distances ≡ t
         → tableRefusal v e edges virtuals defects duals growths distances ≡ (if t then 0 else 4)

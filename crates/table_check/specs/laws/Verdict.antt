@@ -10,8 +10,9 @@ use lib.IntN.{ℤ}
 use borrow.Author.Tests.{eq-eqb, ne-eqb}
 use Rattle.graph.specs.Basic.{if_then_else_}
 use Rattle.graph.specs.laws.Members.{by-test, clash}
-use Rattle.table_check.specs.Handed.{handed}
-use Rattle.table_check.specs.Verdict.{right, Right, tableRefusal, verdictBy, tableVerdict}
+use Rattle.table_words.specs.Handed.{handed}
+use Rattle.table_check.specs.Verdict.{right, Right, verdictBy, tableVerdict}
+use Rattle.table_refuse.specs.Refuse.{tableRefusal}
 use Rattle.table_check.specs.declared.Verdict.{Verdict}
 use Rattle.table_check.specs.declared.Verdict.the-variants.{Yes, No, Refused}
 use Rattle.table_check.specs.laws.Accepted.{accepted-of}

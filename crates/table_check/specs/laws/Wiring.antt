@@ -16,7 +16,7 @@ use Rattle.graph.specs.laws.Members.{by-test}
 use Rattle.open_graph.specs.laws.Open.{edges-count, edges-get}
 use Rattle.distance.specs.Graph.{WeightedGraph, Virtual, sides, otherSide, near, across, weight}
 use Rattle.opened_graph.specs.OpenedGraph.{openedGraph}
-use Rattle.table_check.specs.Tests.{nearIn, acrossIn, weightIn}
+use Rattle.table_words.specs.Sides.{nearIn, acrossIn, weightIn}
 
 ends-left : (es : List Edge) (i : ℕ) (d : Edge) → i < length es → getD (endsOf es) (2 * i) 0 ≡ getD es i d .left
 unfolding endsOf

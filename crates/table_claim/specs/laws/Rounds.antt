@@ -21,7 +21,7 @@ use Rattle.calls.specs.declared.group.GroupMaxUpdateLength.{GroupMaxUpdateLengt
 use Rattle.calls.specs.declared.group.GroupMaxUpdateLength.the-variants.{Refused as groupRefused}
 use Rattle.calls.specs.Refuse.{unless}
 use Rattle.calls.specs.Round.{refusalOf, round, isRefused, GroupReply}
-use Rattle.round.specs.Asked.{listedFrom}
+use Rattle.round_list.specs.Asked.{listedFrom}
 use Rattle.dual_module_round.specs.Called.{trialRefusal, belowOne, roundRefusal, OnTrial, GroupOnTrial}
 use Rattle.table_claim.specs.Run.{orRefused}
 

@@ -41,6 +41,7 @@ use Rattle.calls.specs.laws.Trial.{turn-keeps, tried-keeps}
 use Rattle.calls.specs.laws.Accepted.{unless-cases, node-accepted, defect-accepted}
 use Rattle.growth.specs.laws.Accepted.{shrink-accepted}
 use Rattle.reachable.specs.Invariant.{Invariant}
+use Rattle.reachable.specs.laws.prepare.Preparation.{invariant-numbers}
 use Rattle.reachable.specs.laws.insert.DefectState.{DefectMade, defect-made}
 use Rattle.reachable.specs.laws.state.Live.{class-beyond}
 use Rattle.reachable.specs.laws.Calls.{opensNone, call-invariant}
@@ -249,7 +250,7 @@ advance-leaves {c} {h} i len n =
 
 defect-put-matches : {c : State} {h : History} → Invariant c → Matches c h → (v x : ℕ) → defectRefusal c v x ≡ 0 → Matches (defectPut c v x) (h ++ (record { vertex = v; growState = x; y = pos 0 } ∷ []))
 defect-put-matches {c} {h} g i v x e =
-    let p : DefectMade c v x (defectPut c v x) = defect-made c g v x (defect-accepted c v x e) in
+    let p : DefectMade c v x (defectPut c v x) = defect-made c (invariant-numbers g) v x (defect-accepted c v x e) in
     let r : Entry = record { vertex = v; growState = x; y = pos 0 } in
     record {
       outer = λ m b. by-cases (decEq m (nodeCount c))

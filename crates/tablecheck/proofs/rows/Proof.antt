@@ -1,4 +1,4 @@
-use Rattle.tablecheck.specs.File.{verdictNumber}
+use Rattle.table_file.specs.File.{verdictNumber}
 use Rattle.tablecheck.specs.laws.Read.{so-begun, SoFar, so-more, so-all}
 use borrow.Author.Needs.{needs}
 use mathlib.Core.Path.{_≡_, refl, _∙_, ap}

@@ -5,7 +5,7 @@ use mathlib.Core.Bool.{true, _&&_}
 use lib.Dec.{leb}
 use borrow.Author.Tests.{leb-true}
 use Rattle.graph.specs.laws.State.{and-left, and-right}
-use Rattle.tablecheck.specs.File.{fileSizes}
+use Rattle.table_file.specs.File.{fileSizes}
 
 pub record Fits (v e k n : ℕ) : Type 0 where
   pub v-max : v ≤ 1024

@@ -12,11 +12,12 @@ use lib.ListN.{length, take, drop, replicate, length-append, length-drop}
 use lib.Seq.{take-all, drop-at, take-append-le, drop-append-le}
 use borrow.Author.Tests.{eq-eqb}
 use Rattle.graph.specs.laws.Members.{both}
-use Rattle.table_check.specs.Handed.{rowOf}
-use Rattle.table_check.specs.Verdict.{sizesRight, lengthsRight}
+use Rattle.table_words.specs.Handed.{rowOf}
+use Rattle.table_refuse.specs.Refuse.{sizesRight, lengthsRight}
 use Rattle.table_check.specs.Streamed.{Known, begun, advanced, afterRows, ended}
 use Rattle.table_check.specs.Theorems.{row-by-row}
-use Rattle.tablecheck.specs.File.{verdictNumber, RowsRead}
+use Rattle.table_file.specs.File.{verdictNumber}
+use Rattle.tablecheck.specs.File.{RowsRead}
 
 module _ (v e : ℕ) (edges virtuals defects duals growths : List ℤ) where
   -- what is known after i rows is what the definition says of some rows

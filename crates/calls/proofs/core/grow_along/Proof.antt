@@ -1,98 +1,22 @@
-use mathlib.Core.Bool.{false}
-use mathlib.Core.Path.{_≡_, refl, sym, ap, _∙_}
-use lib.IntN.{natAbs}
-use lib.Signed.{nonNeg}
 use mir.Facts.{toZ-ofZ}
-use Rattle.graph.specs.Layout.{stateOf}
-use Rattle.calls.specs.laws.Replies.{along-forth, along-back, steady-other}
 use borrow.Author.Needs.{needs}
 use Rattle.calls.proofs.core.grow_along.Statement.{statement}
 use Rattle.calls.proofs.core.grow_along.Tie as tie
 
-magnitude-requires : tie.Need-magnitude-requires
-magnitude-requires c κs = search needs
-
-grow-none-requires : tie.Need-grow-none-requires
-grow-none-requires c κs = search needs
+grow-along-requires : tie.Need-grow-along-requires
+grow-along-requires c κs = search needs
 
 same-length : tie.Need-same-length
 same-length c = search needs
 
-returns : tie.Need-returns
-returns c = let s = c .before .before .before .before in (rw (toZ-ofZ (s .fits .length)) at (c .grow-none .ensures), refl)
-
-non-negative-requires : tie.Need-non-negative-requires
-non-negative-requires c κs = search needs
-
-grow-toward-requires : tie.Need-grow-toward-requires
-grow-toward-requires c κs = search needs
-
 same-length-2 : tie.Need-same-length-2
 same-length-2 c = search needs
 
-same-length-3 : tie.Need-same-length-3
-same-length-3 c = search needs
-
-returns-2 : tie.Need-returns-2
-returns-2 c =
-    let s = c .before .before .before .before .before .before .before .before .before in
-    let e = c .before .before .grow-toward .ensures in
-    let m : c .before .before .before .before .before .before .before .before .magnitude .result
-    ≡ natAbs (s .args .length) =
-    c .before .before .before .before .before .before .before .before .magnitude .ensures .0
-    ∙ ap natAbs (toZ-ofZ (s .fits .length)) in (
-      rw (
-        along-forth (stateOf (s .args .b .now)) (s .args .n) (s .args .d) (s .args .length) (s .pre .1)
-            (λ q. c .before .before .before .before .before .before .before .if1 .left (m ∙ q))
-            (sym (c .before .before .before .before .before .before .non-negative .ensures ∙ ap nonNeg (toZ-ofZ (s .fits .length)))
-            ∙ c .before .before .before .before .before .if2 .taken),
-        ← m,
-      )
-          (e .0),
-      e .1,
-    )
-
-grow-toward-requires-2 : tie.Need-grow-toward-requires-2
-grow-toward-requires-2 c κs =
-    let s = c .before .before .before .before .before .before in
-    let below : nonNeg (s .args .length) ≡ false =
-    sym (c .before .before .before .non-negative .ensures ∙ ap nonNeg (toZ-ofZ (s .fits .length)))
-    ∙ c .before .before .if2 .left in
-    (steady-other (rw (s .pre .2 below) at (s .pre .0)) 0, c .before .before .before .before .before .magnitude .ensures .1)
-
-same-length-4 : tie.Need-same-length-4
-same-length-4 c = search needs
-
-same-length-5 : tie.Need-same-length-5
-same-length-5 c = search needs
-
-returns-3 : tie.Need-returns-3
-returns-3 c =
-    let s = c .before .before .before .before .before .before .before .before .before in
-    let e = c .before .before .grow-toward2 .ensures in
-    let m : c .before .before .before .before .before .before .before .before .magnitude .result
-    ≡ natAbs (s .args .length) =
-    c .before .before .before .before .before .before .before .before .magnitude .ensures .0
-    ∙ ap natAbs (toZ-ofZ (s .fits .length)) in
-    let below : nonNeg (s .args .length) ≡ false =
-    sym (c .before .before .before .before .before .before .non-negative .ensures ∙ ap nonNeg (toZ-ofZ (s .fits .length)))
-    ∙ c .before .before .before .before .before .if2 .left in
-    (rw (s .pre .2 below, along-back (stateOf (s .args .b .now)) (s .args .n) (s .args .length) below, ← m) (e .0), e .1)
+returns : tie.Need-returns
+returns c =
+    let s = c .before .before .before .before .before in
+    let g = c .before .before .grow-along .ensures in
+    (rw (toZ-ofZ (s .fits .length)) at (g .0), g .1)
 
 pub grow-along-spec : {M : Type 1} → statement M
-grow-along-spec =
-    tie.close
-    (tie.spec
-    magnitude-requires
-    grow-none-requires
-    same-length
-    returns
-    non-negative-requires
-    grow-toward-requires
-    same-length-2
-    same-length-3
-    returns-2
-    grow-toward-requires-2
-    same-length-4
-    same-length-5
-    returns-3)
+grow-along-spec = tie.close (tie.spec grow-along-requires same-length same-length-2 returns)

@@ -13,23 +13,17 @@ use Rattle.graph.specs.Sound.{isRemoved}
 use Rattle.graph.specs.laws.Members.{by-test, clash, member-head}
 use Rattle.calls.specs.laws.Accepted.{BlossomAccepted}
 use Rattle.reachable.specs.Invariant.{Emptied, Live}
-use Rattle.reachable.specs.laws.state.Live.{class-beyond, parent-beyond}
+use Rattle.reachable.specs.laws.state.Live.{RemovedEmpty, FirstInside, removed-empty, live-of, class-beyond, parent-beyond}
 use Rattle.reachable.specs.laws.insert.JoinedLists.{joinedLists}
-use Rattle.reachable.specs.laws.insert.Circle.{CirclePreparing}
+use Rattle.reachable.specs.laws.insert.Circle.{MemberLists}
 use Rattle.reachable.specs.laws.insert.BlossomState.{BlossomMade}
 
 head-member : (l : List ℕ) → 3 ≤ length l → member (getD l 0 0) l ≡ true
 head-member [] h = absurd (omega arith)
 head-member (i ∷ l) h = member-head i l
 
-module _ (c : State) (x : ℕ) (circle : List ℕ) (ok : BlossomAccepted c x circle) (ready made : State) (prepared : CirclePreparing circle c ready [])
+module _ (c : State) (x : ℕ) (circle : List ℕ) (ok : BlossomAccepted c x circle) (ready made : State) (ms : MemberLists circle c ready)
     (made-by : BlossomMade c x circle ready made) where
-  count : nodeCount ready ≡ nodeCount c
-  count = ap (λ (l : List ℕ). length l) (prepared .growState)
-
-  outer : (m : ℕ) → member m circle ≡ true → parentOf ready m ≡ 0
-  outer m h = ap (λ (l : List ℕ). getD l m 0) (prepared .parent) ∙ ok .outer m h
-
   later-class : (m : ℕ) → nodeCount c < m → classOf made m ≡ defectVertex 0
   later-class m h = class-beyond made (made-by .made-shape) m (omega (arith, made-by .made-count))
 
@@ -46,32 +40,31 @@ module _ (c : State) (x : ℕ) (circle : List ℕ) (ok : BlossomAccepted c x cir
   still-live : (m : ℕ) → isRemoved (classOf ready m) ≡ false → isRemoved (classOf made m) ≡ false
   still-live m e = by-cases (decLt m (nodeCount c)) (λ a. rw (made-by .class-old m a) e) (λ a. later-live m (omega arith))
 
-  new-first : (n m : ℕ) → classOf made n ≡ blossom m → parentOf made m ≡ n + 1
-  new-first n m e =
+  -- a blossom was one before, or is the new one, whose first member is a member
+  blossom-of : {P : Type 0} (n m : ℕ) → classOf made n ≡ blossom m
+      → ((a : n < nodeCount c) → classOf ready n ≡ blossom m → P) → (n ≡ nodeCount c → member m circle ≡ true → P) → P
+  blossom-of n m e old new =
       by-cases (decLt n (nodeCount c))
-      (λ a.
-      let y : parentOf ready m ≡ n + 1 = prepared .live .first n m (sym (made-by .class-old n a) ∙ e) in
-      by-cases (decLt m (nodeCount c))
-      (λ b. made-by .parent-off m b (by-test (member m circle) (λ h. absurd (omega (arith, outer m h))) (λ h. h)) ∙ y)
-      (λ b. absurd (omega (arith, parent-beyond ready (prepared .numbers .shape) m (omega (arith, count))))))
+      (λ a. old a (sym (made-by .class-old n a) ∙ e))
       (λ a.
       by-cases (decEq n (nodeCount c))
       (λ q.
       let y : blossom (getD circle 0 0) ≡ blossom m = sym (made-by .class-new) ∙ ap (classOf made) (sym q) ∙ e in
       let w : getD circle 0 0 ≡ m = cc in
-      let h : member m circle ≡ true = subst (λ (i : ℕ). member i circle ≡ true) w (head-member circle (ok .three)) in
-      made-by .parent-in m (ok .inside m h) h ∙ ap (λ (i : ℕ). i + 1) (sym q))
+      new q (subst (λ (i : ℕ). member i circle ≡ true) w (head-member circle (ok .three))))
       (λ q. absurd (let y : defectVertex 0 ≡ blossom m = sym (later-class n (omega arith)) ∙ e in let w : _≡_ {A = ℕ} 0 1 = cc in omega arith)))
 
-  pub blossom-live : Live made
-  blossom-live = record {
+  member-live : (m : ℕ) → member m circle ≡ true → isRemoved (classOf ready m) ≡ false
+  member-live m h = rw (ms .class) (ok .live m h)
+
+  pub blossom-empty : RemovedEmpty ready → RemovedEmpty made
+  blossom-empty l = record {
     emptied = λ m e.
         by-cases (decLt m (nodeCount c))
         (λ a.
         let r : isRemoved (classOf ready m) ≡ true = rw (made-by .class-old m a) at e in
-        let off : member m circle ≡ false =
-        by-test (member m circle) (λ h. clash (isRemoved (classOf ready m)) r (rw (prepared .class) (ok .live m h))) (λ h. h) in
-        let b : Emptied ready m = prepared .live .emptied m r in
+        let off : member m circle ≡ false = by-test (member m circle) (λ h. clash (isRemoved (classOf ready m)) r (member-live m h)) (λ h. h) in
+        let b : Emptied ready m = l .emptied m r in
         record {
           parent = made-by .parent-off m a off ∙ b .parent;
           growState = made-by .grow-state-off m a off ∙ b .growState;
@@ -82,14 +75,27 @@ module _ (c : State) (x : ℕ) (circle : List ℕ) (ok : BlossomAccepted c x cir
     side = λ t m e.
         by-test (member t (joinedLists ready circle))
         (λ h. later-live m (omega (arith, made-by .side-in t h)))
-        (λ h. still-live m (prepared .live .side t m (sym (made-by .side-off t h) ∙ e)));
-    vertex = λ u m e. still-live m (prepared .live .vertex u m (sym (ap (λ (y : Vertices). getD (y .vertexHolder) u 0) (made-by .made-vertices)) ∙ e));
+        (λ h. still-live m (l .side t m (sym (made-by .side-off t h) ∙ e)));
+    vertex = λ u m e. still-live m (l .vertex u m (sym (ap (λ (y : Vertices). getD (y .vertexHolder) u 0) (made-by .made-vertices)) ∙ e));
     parent = λ m j e.
         by-cases (decLt m (nodeCount c))
         (λ a.
         by-test (member m circle)
         (λ h. later-live j (omega (arith, made-by .parent-in m a h)))
-        (λ h. still-live j (prepared .live .parent m j (sym (made-by .parent-off m a h) ∙ e))))
+        (λ h. still-live j (l .parent m j (sym (made-by .parent-off m a h) ∙ e))))
         (λ a. absurd (omega (arith, no-parent-later m (omega arith))));
-    first = new-first;
+    first = λ n m e. still-live m (blossom-of n m e (λ a q. l .first n m q) (λ q h. member-live m h));
   }
+
+  new-first : FirstInside ready → FirstInside made
+  new-first f n m e =
+      blossom-of n m e
+      (λ a q.
+      let y : parentOf ready m ≡ n + 1 = f n m q in
+      by-cases (decLt m (nodeCount c))
+      (λ b. made-by .parent-off m b (by-test (member m circle) (λ h. absurd (omega (arith, ms .outer m h))) (λ h. h)) ∙ y)
+      (λ b. absurd (omega (arith, parent-beyond ready (ms .numbers .shape) m (omega (arith, ms .count))))))
+      (λ q h. made-by .parent-in m (ok .inside m h) h ∙ ap (λ (i : ℕ). i + 1) (sym q))
+
+  pub blossom-live : Live ready → Live made
+  blossom-live l = live-of (blossom-empty (removed-empty l)) (new-first (l .first))

@@ -11,7 +11,7 @@ use Rattle.graph.specs.Sound.{isRemoved}
 use Rattle.graph.specs.laws.Members.{by-test, clash}
 use Rattle.graph.specs.Shape.{Shape}
 use Rattle.reachable.specs.Invariant.{Emptied, Live}
-use Rattle.reachable.specs.laws.state.Live.{class-beyond, parent-beyond}
+use Rattle.reachable.specs.laws.state.Live.{RemovedEmpty, removed-empty, live-of, class-beyond, parent-beyond}
 use Rattle.reachable.specs.laws.insert.DefectState.{DefectMade}
 
 module _ (c : State) (shape : Shape c) (v x : ℕ) (made : State) (p : DefectMade c v x made) where
@@ -38,11 +38,15 @@ module _ (c : State) (shape : Shape c) (v x : ℕ) (made : State) (p : DefectMad
   no-blossom-later : (n m : ℕ) → nodeCount c ≤ n → classOf made n ≡ blossom m → ⊥
   no-blossom-later n m h e = let y : defectVertex (later-class n h .0) ≡ blossom m = sym (later-class n h .1) ∙ e in let w : _≡_ {A = ℕ} 0 1 = cc in omega arith
 
+  -- so a blossom was one before
+  old-blossom : (n m : ℕ) → classOf made n ≡ blossom m → classOf c n ≡ blossom m
+  old-blossom n m e = by-cases (decLt n (nodeCount c)) (λ a. sym (p .class-old n a) ∙ e) (λ a. absurd (no-blossom-later n m (omega arith) e))
+
   still-live : (m : ℕ) → isRemoved (classOf c m) ≡ false → isRemoved (classOf made m) ≡ false
   still-live m e = by-cases (decLt m (nodeCount c)) (λ a. rw (p .class-old m a) e) (λ a. later-live m (omega arith))
 
-  pub defect-live : Live c → Live made
-  defect-live l = record {
+  pub defect-empty : RemovedEmpty c → RemovedEmpty made
+  defect-empty l = record {
     emptied = λ m e.
         by-cases (decLt m (nodeCount c))
         (λ a.
@@ -63,8 +67,8 @@ module _ (c : State) (shape : Shape c) (v x : ℕ) (made : State) (p : DefectMad
         (λ q. let h : vertexHolderAt made v ≡ m + 1 = rw q at e in later-live m (omega (arith, p .vertex-holder-at)))
         (λ q. still-live m (l .vertex u m (sym (p .vertex-holder-off u q) ∙ e)));
     parent = λ m j e. still-live j (l .parent m j (sym (parent-same m) ∙ e));
-    first = λ n m e.
-        by-cases (decLt n (nodeCount c))
-        (λ a. parent-same m ∙ l .first n m (sym (p .class-old n a) ∙ e))
-        (λ a. absurd (no-blossom-later n m (omega arith) e));
+    first = λ n m e. still-live m (l .first n m (old-blossom n m e));
   }
+
+  pub defect-live : Live c → Live made
+  defect-live l = live-of (defect-empty (removed-empty l)) (λ n m e. parent-same m ∙ l .first n m (old-blossom n m e))

@@ -59,7 +59,7 @@ module _ (c : State) (g : Invariant c) (x : ℕ) (circle : List ℕ) (ok : Bloss
     not-member m e = by-test (member m circle) (λ h. let y : m ≡ q = sym (own-top m h) ∙ e in clash (member q circle) (rw y at h) off) (λ h. h)
 
     in-c : (m : ℕ) → top m ≡ q → m < nodeCount c
-    in-c m e = omega (arith, top-inside before (prepared .numbers .shape) tops m q (omega (arith, cs .count)) e, cs .count)
+    in-c m e = omega (arith, top-inside before (prepared .numbers .shape) tops m q (omega (arith, cs .lists .count)) e, cs .lists .count)
 
     frame : (m : ℕ) → top m ≡ q
         → Frame (sideGraphOf (ready .graph)) (viewOf ready (prepared .labels)) (viewOf made (blossomLabels ready (prepared .labels) circle (nodeCount c))) m
@@ -104,14 +104,14 @@ module _ (c : State) (g : Invariant c) (x : ℕ) (circle : List ℕ) (ok : Bloss
       (λ h.
       let e : top m ≡ nodeCount c = sym (new-top-off top circle (nodeCount c) m h) ∙ u .top in
       by-cases (decLt m (nodeCount c))
-      (λ a. absurd (omega (arith, tops .inside m (rw (cs .count) a), cs .count)))
+      (λ a. absurd (omega (arith, tops .inside m (rw (cs .lists .count) a), cs .lists .count)))
       (λ a. absurd (u .other (sym (top-beyond c g x circle ok ready made prepared made-by top tops m (omega arith)) ∙ e))))
 
   under-inside : (m : ℕ) → Under after (nodeCount c) m → m < nodeCount ready
-  under-inside m u = top-inside before (prepared .numbers .shape) tops m (top m) (cs .inside (top m) (under-circle m u)) refl
+  under-inside m u = top-inside before (prepared .numbers .shape) tops m (top m) (cs .lists .inside (top m) (under-circle m u)) refl
 
   under-c : (m : ℕ) → Under after (nodeCount c) m → m < nodeCount c
-  under-c m u = omega (arith, under-inside m u, cs .count)
+  under-c m u = omega (arith, under-inside m u, cs .lists .count)
 
   new-side : (m t : ℕ) → Under after (nodeCount c) m → holderAt ready t ≡ m + 1
       → (holderAt made t ≡ m + 1) ⊎ ((parentOf made m ≡ nodeCount c + 1) × (member t (boundaryOf made m) ≡ true))
@@ -119,7 +119,7 @@ module _ (c : State) (g : Invariant c) (x : ℕ) (circle : List ℕ) (ok : Bloss
       by-test (member t (joinedLists ready circle))
       (λ y.
       let r : FromList ready circle t = from-list ready circle t y in
-      let e : r .node ≡ m = omega (arith, cs .boundary-held (r .node) (r .member-of) t (r .listed)) in
+      let e : r .node ≡ m = omega (arith, cs .lists .boundary-held (r .node) (r .member-of) t (r .listed)) in
       let l : member t (boundaryOf ready m) ≡ true = rw e at (r .listed) in
       inr (made-by .parent-in m (under-c m u) (rw e at (r .member-of)), rw (made-by .boundary-old m (under-c m u)) l))
       (λ y. inl (made-by .side-off t y ∙ h))
@@ -133,7 +133,7 @@ module _ (c : State) (g : Invariant c) (x : ℕ) (circle : List ℕ) (ok : Bloss
   unfolding blossomLabels radiusOf
   new-level m t e l =
       let i = of-new m e in
-      let own : prepared .labels .owner (endAt ready t) ≡ m = tops .side t m (cs .boundary-held m (i .1) t (was-listed m t e l)) ∙ own-top m (i .1) in
+      let own : prepared .labels .owner (endAt ready t) ≡ m = tops .side t m (cs .lists .boundary-held m (i .1) t (was-listed m t e l)) ∙ own-top m (i .1) in
       rw (end-eq t, made-by .dual-old m (i .0), update-same (prepared .labels .base) (nodeCount c) (radiusSum ready (prepared .labels) circle))
       (shifted-depth-in ready (prepared .labels) circle (nodeCount c) (endAt ready t) m own (i .1))
 
@@ -149,13 +149,13 @@ module _ (c : State) (g : Invariant c) (x : ℕ) (circle : List ℕ) (ok : Bloss
   pub new-agreement : Agreement after (nodeCount c) before
   new-agreement = record {
     graph = sym (made-by .made-graph);
-    new = omega (arith, cs .count);
+    new = omega (arith, cs .lists .count);
     inside = under-inside;
     class = λ m u. sym (made-by .class-old m (under-c m u));
     dual = λ m u. sym (made-by .dual-old m (under-c m u));
     boundary = λ m u. sym (made-by .boundary-old m (under-c m u));
     overgrown = λ m u. sym (made-by .overgrown-old m (under-c m u));
-    member-outer = λ m e. cs .outer m (of-new m e .1);
+    member-outer = λ m e. cs .lists .outer m (of-new m e .1);
     deeper = λ m u e. sym (made-by .parent-off m (under-c m u) (by-test (member m circle) (λ h. absurd (e (made-by .parent-in m (under-c m u) h))) (λ h. h)));
     member-top = λ m u. made-by .parent-in (top m) (ok .inside (top m) (under-circle m u)) (under-circle m u);
     top-back = new-top-back;

@@ -64,22 +64,22 @@ module _ (c : State) (g : Invariant c) (x : ℕ) (circle : List ℕ) (ok : Bloss
   end-eq t = ap (λ (y : Graph). getD (y .end) t 0) (made-by .made-graph)
 
   pub circle-below : (m : ℕ) → member m circle ≡ true → m < nodeCount c
-  circle-below m h = omega (arith, cs .inside m h, cs .count)
+  circle-below m h = omega (arith, cs .lists .inside m h, cs .lists .count)
 
   off-circle : (m : ℕ) → nodeCount c ≤ m → member m circle ≡ false
   off-circle m h = by-test (member m circle) (λ e. absurd (omega (arith, circle-below m e))) (λ e. e)
 
   pub top-beyond : (m : ℕ) → nodeCount c ≤ m → top m ≡ m
-  top-beyond m h = tops .outer m (parent-beyond ready (prepared .numbers .shape) m (omega (arith, cs .count)))
+  top-beyond m h = tops .outer m (parent-beyond ready (prepared .numbers .shape) m (omega (arith, cs .lists .count)))
 
   pub top-circle : (m : ℕ) → member m circle ≡ true → top m ≡ m
-  top-circle m h = tops .outer m (cs .outer m h)
+  top-circle m h = tops .outer m (cs .lists .outer m h)
 
   new-beyond : (m : ℕ) → nodeCount c ≤ m → newTop top circle (nodeCount c) m ≡ m
   new-beyond m h = let e : top m ≡ m = top-beyond m h in new-top-off top circle (nodeCount c) m (rw e (off-circle m h)) ∙ e
 
   none-beyond : (m : ℕ) → nodeCount c ≤ m → parentOf made m ≡ 0
-  none-beyond = no-parent-later c x circle ok ready made prepared made-by
+  none-beyond = no-parent-later c x circle ok ready made (cs .lists) made-by
 
   -- no node of `ready` lies in the new number
   not-in-new : (m j : ℕ) → parentOf ready m ≡ j + 1 → j < nodeCount c
@@ -88,8 +88,8 @@ module _ (c : State) (g : Invariant c) (x : ℕ) (circle : List ℕ) (ok : Bloss
       (λ a.
       let t : top m ≡ j = tops .inner m j e ∙ top-beyond j (omega arith) in
       by-cases (decLt m (nodeCount c))
-      (λ b. absurd (omega (arith, tops .inside m (rw (cs .count) b), cs .count)))
-      (λ b. absurd (omega (arith, parent-beyond ready (prepared .numbers .shape) m (omega (arith, cs .count))))))
+      (λ b. absurd (omega (arith, tops .inside m (rw (cs .lists .count) b), cs .lists .count)))
+      (λ b. absurd (omega (arith, parent-beyond ready (prepared .numbers .shape) m (omega (arith, cs .lists .count))))))
 
   -- whose parent is the new number is a member
   pub in-new : (m : ℕ) → parentOf made m ≡ nodeCount c + 1 → (m < nodeCount c) × (member m circle ≡ true)
@@ -134,7 +134,7 @@ module _ (c : State) (g : Invariant c) (x : ℕ) (circle : List ℕ) (ok : Bloss
       (λ (a : m < nodeCount c).
       by-test (member (top m) circle)
       (λ h. rw (new-top-in top circle (nodeCount c) m h) (omega (arith, made-by .made-count)))
-      (λ h. rw (new-top-off top circle (nodeCount c) m h) (omega (arith, tops .inside m (rw (cs .count) a), cs .count, made-by .made-count))))
+      (λ h. rw (new-top-off top circle (nodeCount c) m h) (omega (arith, tops .inside m (rw (cs .lists .count) a), cs .lists .count, made-by .made-count))))
       (λ (a : m ≡ nodeCount c). rw (a, new-beyond (nodeCount c) (omega arith)) (omega (arith, made-by .made-count)))
       (bs .old-or-new m b)
 

@@ -2,7 +2,7 @@ use native.Mathlib.Omega.{arith}
 use mathlib.Core.Path.{_≡_, refl}
 use lib.ListN.{length}
 use Rattle.records.specs.Record.{fieldCounts}
-use Rattle.record_step.specs.laws.Asking.{fields-of, kind-some}
+use Rattle.record_call.specs.laws.Asking.{fields-of, kind-some}
 use Rattle.record_step.specs.laws.Standing.{turned-stop, late-sizes, out-of-place, turned-sizes, turned-edge, turned-virtual}
 use borrow.Author.Needs.{needs}
 use Rattle.record_step.proofs.one_record.gather.Statement.{statement}

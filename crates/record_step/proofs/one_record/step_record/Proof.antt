@@ -1,6 +1,6 @@
 use native.Mathlib.Omega.{arith}
 use mathlib.Core.Path.{sym, _∙_, refl}
-use Rattle.record_step.specs.laws.Asking.{kind-there}
+use Rattle.record_call.specs.laws.Asking.{kind-there}
 use Rattle.record_step.specs.laws.Standing.{standing-few, turned-stop, ill-stops}
 use borrow.Author.Needs.{needs}
 use Rattle.record_step.proofs.one_record.step_record.Statement.{statement}

@@ -1,5 +1,6 @@
 use mathlib.Core.Path.{_≡_, sym, _∙_}
-use Rattle.table_check.specs.Verdict.{verdictBy, tableVerdict, tableRefusal}
+use Rattle.table_check.specs.Verdict.{verdictBy, tableVerdict}
+use Rattle.table_refuse.specs.Refuse.{tableRefusal}
 use borrow.Author.Tests.{ne-eqb}
 use Rattle.table_check.specs.laws.Accepted.{accepted-of, defects-few}
 use Rattle.table_check.specs.laws.Right.{tested-right}

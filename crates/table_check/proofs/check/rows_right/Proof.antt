@@ -1,4 +1,5 @@
-use Rattle.table_check.specs.Tests.{rowRight, coveredBy}
+use Rattle.table_rows.specs.Row.{rowRight}
+use Rattle.table_check.specs.Tests.{coveredBy}
 use borrow.Author.Needs.{needs}
 use mathlib.Core.Path.{_≡_, refl, sym, _∙_, ap}
 use native.Mathlib.Omega.{arith}
@@ -7,7 +8,7 @@ use Rattle.graph.specs.Basic.{allBelow}
 use Rattle.graph.specs.laws.Scan.{all-more, all-fails}
 use mathlib.Core.Bool.{true}
 use lib.ListN.{length}
-use Rattle.table_check.specs.Handed.{distanceIn, rowOf}
+use Rattle.table_words.specs.Handed.{distanceIn, rowOf}
 use Rattle.table_check.specs.laws.Rows.{row-inside, rows-few, row-is, covered-none, covered-more, rowTest, rows-fail, rows-pass}
 use Rattle.table_check.proofs.check.rows_right.Statement.{statement}
 use Rattle.table_check.proofs.check.rows_right.Tie as tie

@@ -1,5 +1,5 @@
 use borrow.Author.Needs.{needs}
-use Rattle.table_check.specs.Tests.{marked}
+use Rattle.table_words.specs.Sides.{marked}
 use mathlib.Core.Path.{_≡_, refl, sym, _∙_}
 use native.Mathlib.Omega.{arith}
 use Prim.Native.Nat.{_-_, _≤_}

@@ -1,11 +1,12 @@
 use borrow.Author.Needs.{needs}
-use Rattle.table_check.specs.Tests.{virtualMarks, marksBy}
+use Rattle.table_check.specs.Tests.{virtualMarks}
+use Rattle.table_words.specs.Sides.{marksBy}
 use Rattle.graph.specs.Word.{wordAt}
 use mathlib.Core.Bool.{true}
 use mathlib.Core.Path.{_≡_, refl, _∙_}
 use native.Mathlib.Omega.{arith}
 use Prim.Native.Nat.{_-_, _≤_}
-use Rattle.table_check.specs.laws.Loops.{marks-none, marks-more}
+use Rattle.table_words.specs.laws.Loops.{marks-none, marks-more}
 use lib.ListN.{length}
 use Rattle.table_check.proofs.reach.mark_virtuals.Statement.{statement}
 use Rattle.table_check.proofs.reach.mark_virtuals.Tie as tie

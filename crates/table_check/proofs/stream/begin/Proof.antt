@@ -1,4 +1,4 @@
-use Rattle.table_check.specs.Verdict.{sizesRight}
+use Rattle.table_refuse.specs.Refuse.{sizesRight}
 use Rattle.graph.specs.laws.Size.{sizes-in}
 use Rattle.open_graph.specs.laws.Open.{first-passed}
 use Rattle.table_check.specs.Streamed.{begun}

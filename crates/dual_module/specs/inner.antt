@@ -1,0 +1,2 @@
+-- What the contracts behind the tests of lent memory cite.
+pub mod Known

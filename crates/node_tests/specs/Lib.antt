@@ -1,0 +1,3 @@
+-- What the loops of the test of the nodes go through; what the test finds out is defined in `graph`.
+pub mod inner
+pub mod laws

@@ -1,0 +1,3 @@
+-- What the contracts of `record_call` cite: the call of a body, on an opened block; and its laws.
+pub mod Call
+pub mod laws

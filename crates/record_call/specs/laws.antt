@@ -1,0 +1,2 @@
+-- Laws of the call of a body.
+pub mod Asking

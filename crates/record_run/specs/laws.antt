@@ -1,0 +1,2 @@
+-- The law of the end of a run.
+pub mod Ends

@@ -1,0 +1,2 @@
+-- Laws of the answers of the active nodes.
+pub mod Answers

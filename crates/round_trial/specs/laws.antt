@@ -1,0 +1,4 @@
+-- Laws of the trial.
+pub mod Step
+pub mod Trying
+pub mod InTurn

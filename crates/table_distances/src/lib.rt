@@ -1,0 +1,3 @@
+// The distances of a table from another decoder.
+
+pub mod distances; // whether the distances of one defect are the shortest, by a certificate

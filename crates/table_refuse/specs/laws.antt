@@ -1,0 +1,3 @@
+-- Laws behind what refuses the call.
+pub mod Distinct
+pub mod Numbers

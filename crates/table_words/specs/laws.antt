@@ -1,0 +1,3 @@
+-- Laws of words that are handed over, and of marks.
+pub mod Words
+pub mod Loops
