@@ -44,11 +44,13 @@ def stream():
         for v in vertices[:6]:
             calls.insert_defect(st, v, 1)
             made.append(record(4, v, 1))
-        for _ in range(12):
-            for n in range(6):
-                calls.length(st, n, 1, True)
-                calls.grow(st, n, 200)
-                made += [record(8, n, 1, 1), record(9, n, 200)]
+        for n in [n for _ in range(12) for n in range(6)]:
+            said = calls.length(st, n, 1, True)
+            made.append(record(8, n, 1, 1))
+            if said[0] == "free":
+                by = 200 if said[3] else min(200, said[1])
+                assert calls.grow(st, n, by) == ("done",)
+                made.append(record(9, n, by))
     head = [record(1, *sizes)] + [record(2, *e) for e in edges] + [record(3, v) for v in virtual]
     return b"".join(head) + b"".join(made) * REPEATS, len(made) * REPEATS
 

@@ -1,6 +1,6 @@
 //! The calls for all clusters against the Rust's own, on its active list: answers, conflicts in their order, stops, and
 //! whole states.
-use crate::graphs::{self, Graph, Weights};
+use crate::graphs::{self, Graph};
 use crate::lent::{circle, state_differs, Lent};
 use crate::random::Random;
 use crate::records::{record, Record};
@@ -385,7 +385,7 @@ pub fn compare(runs: u64, seed: u64) -> bool {
     println!("{runs} streams of rounds from seed {seed}");
     for i in 0..runs {
         let one = seed.wrapping_mul(1_000_003).wrapping_add(i);
-        let g = a_graph(&mut Random::new(!one));
+        let g = graphs::any_size(&mut Random::new(!one));
         if g.v > 1024 || g.edges.len() > 4096 {
             continue;
         }
