@@ -1,2 +1,3 @@
 -- Laws of the call of a body.
 pub mod Asking
+pub mod Long

@@ -7,6 +7,7 @@ ghost use lib.ListN.{length, take};
 ghost use Rattle.graph.specs.Word.{toNat};
 ghost use Rattle.records.specs.Record.{fields};
 ghost use Rattle.record_call.specs.Call.{callIn, OfKind, Opened, Answers};
+use crate::long_circle;
 use answers::Answer;
 use calls::advance;
 use calls::core;
@@ -40,17 +41,16 @@ fn blossom_in(b: &mut [i64], t: &mut [i64], body: &[u8], c: &mut [i64]) -> Answe
     blossom::insert_blossom(b, t, x, &c[0..n])
 }
 
-// The same with words of its own: a circle that can be accepted has at most 32 members, so that few words are set to zero for it.
+// The same with words of its own. A longer circle is refused without any, so that a call sets few words to zero.
 fn blossom(b: &mut [i64], t: &mut [i64], body: &[u8]) -> Answer
     requires { ⌜ Opened (now b) (now t) × OfKind (now body) 5 ⌝ }
     ensures { λ r. ⌜ Answers (now (b .entry)) (now (b .exit)) r (callIn (now (body .entry))) × (now (t .exit) ≡ now (t .entry)) ⌝ }
 {
-    if body.len() <= 134 {
-        let mut c = [0i64; 32];
+    if body.len() <= 262 {
+        let mut c = [0i64; 64];
         return blossom_in(b, t, body, &mut c);
     }
-    let mut c = [0i64; 16384];
-    blossom_in(b, t, body, &mut c)
+    Answer::Refused(long_circle::long_refusal(b, body))
 }
 
 // The call of a body of this kind, which is not one that only reads.

@@ -1,0 +1,2 @@
+-- What only contracts inside the code cite.
+pub mod Long
