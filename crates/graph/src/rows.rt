@@ -119,7 +119,7 @@ pub fn put_reweighted(b: &mut [i64], x: usize)
 // ---- where a place stands
 
 // Over vertices: flags, holder, grandson, first.
-fn vertex_place(b: &[i64], k: usize, v: usize) -> usize
+pub fn vertex_place(b: &[i64], k: usize, v: usize) -> usize
     requires { ⌜ Laid (now b) × (k < 4) × (v < vertexCount (stateOf (now b))) ⌝ }
     ensures { λ r. ⌜ Found (now (b .entry)) (flagsRow + k) v r ⌝ }
 {
@@ -128,7 +128,7 @@ fn vertex_place(b: &[i64], k: usize, v: usize) -> usize
 }
 
 // Over sides: end, growth, holder, grandson, at.
-fn side_place(b: &[i64], k: usize, s: usize) -> usize
+pub fn side_place(b: &[i64], k: usize, s: usize) -> usize
     requires { ⌜ Laid (now b) × (k < 5) × (s < sideCount (stateOf (now b))) ⌝ }
     ensures { λ r. ⌜ Found (now (b .entry)) (endRow + k) s r ⌝ }
 {
@@ -138,7 +138,7 @@ fn side_place(b: &[i64], k: usize, s: usize) -> usize
 }
 
 // Over edges: weight.
-fn edge_place(b: &[i64], i: usize) -> usize
+pub fn edge_place(b: &[i64], i: usize) -> usize
     requires { ⌜ Laid (now b) × (i < edgeCount (stateOf (now b))) ⌝ }
     ensures { λ r. ⌜ Found (now (b .entry)) weightRow i r ⌝ }
 {
@@ -182,7 +182,7 @@ fn active_place(b: &[i64], i: usize) -> usize
 }
 
 // Over edges: original weight.
-fn original_place(b: &[i64], i: usize) -> usize
+pub fn original_place(b: &[i64], i: usize) -> usize
     requires { ⌜ Laid (now b) × (i < edgeCount (stateOf (now b))) ⌝ }
     ensures { λ r. ⌜ Found (now (b .entry)) originalRow i r ⌝ }
 {

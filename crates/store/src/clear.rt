@@ -29,15 +29,18 @@ pub fn put_active_count(b: &mut [i64], x: usize)
     words::put(b, 5, x);
 }
 
+// Rows are gone over from their first place on, so that a word costs no look at the header.
+
 // A row over vertices becomes zero.
 fn zero_vertices(b: &mut [i64], k: usize)
     requires { ⌜ Laid (now b) × (k < 4) ⌝ }
     ensures { λ r. ⌜ Rowed (flagsRow + k) (now (b .entry)) (now (b .exit)) (zeros (length (row (rowsOf (now (b .entry))) (flagsRow + k)))) ⌝ }
 {
     let m = rows::vertex_count(b);
+    let a = rows::vertex_place(b, k, 0);
     let mut v = 0;
     while v < m {
-        rows::put_vertex(b, k, v, 0);
+        words::put(b, a + v, 0);
         v += 1;
     }
 }
@@ -48,9 +51,10 @@ fn zero_sides(b: &mut [i64], k: usize)
     ensures { λ r. ⌜ Rowed (endRow + k) (now (b .entry)) (now (b .exit)) (zeros (length (row (rowsOf (now (b .entry))) (endRow + k)))) ⌝ }
 {
     let m = rows::side_count(b);
+    let a = rows::side_place(b, k, 0);
     let mut s = 0;
     while s < m {
-        rows::put_side(b, k, s, 0);
+        words::put(b, a + s, 0);
         s += 1;
     }
 }
@@ -75,10 +79,12 @@ fn restore_weights(b: &mut [i64])
     ensures { λ r. ⌜ Rowed weightRow (now (b .entry)) (now (b .exit)) (row (rowsOf (now (b .entry))) originalRow) ⌝ }
 {
     let m = rows::edge_count(b);
+    let a = rows::edge_place(b, 0);
+    let o = rows::original_place(b, 0);
     let mut i = 0;
     while i < m {
-        let x = rows::original_word(b, i);
-        rows::put_edge(b, i, x);
+        let x = words::word(b, o + i);
+        words::put(b, a + i, x);
         i += 1;
     }
 }
