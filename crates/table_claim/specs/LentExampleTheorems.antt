@@ -124,7 +124,9 @@ run = record {
   opening-is = opening;
   exchanges = _;
   last = blockWith 2;
-  steps = next (insert-defect inserted) (next (insert-defect not-lent) (next (open-refused not-opened (λ e. absurd (omega arith))) (next (grow grown) (next (read-node node-read) none))));
+  steps = next (insert-defect inserted)
+      (next (insert-defect not-lent)
+      (next (open-refused not-opened (λ e. absurd (omega arith))) (next (grow grown) (next (read-node node-read) none))));
   present = standing;
 }
 
@@ -232,7 +234,9 @@ hostRun = record {
   done = says-done;
   exchanges = _;
   last = blockWith 2;
-  steps = one-more (fb-insert-defect defect-told) (one-more (fb-grow grow-not-made) (one-more (fb-grow grow-refused) (one-more (fb-grow grow-told) (one-more (fb-read-node node-told) no-more))));
+  steps = one-more (fb-insert-defect defect-told)
+      (one-more (fb-grow grow-not-made)
+      (one-more (fb-grow grow-refused) (one-more (fb-grow grow-told) (one-more (fb-read-node node-told) no-more))));
   present = standing;
 }
 

@@ -32,7 +32,9 @@ same-length-5 : tie.Need-same-length-5
 same-length-5 c = search needs
 
 returns-2 : tie.Need-returns-2
-returns-2 c = told-all (search needs) _ (c .before .before .before .before .before .before .before .before .make-calls .ensures) (c .before .before .tell-calls .ensures)
+returns-2 c =
+    told-all (search needs) _ (c .before .before .before .before .before .before .before .before .make-calls .ensures)
+    (c .before .before .tell-calls .ensures)
 
 pub fb-calls-spec : {M : Type 1} → statement M
 fb-calls-spec =

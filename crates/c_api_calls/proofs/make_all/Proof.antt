@@ -36,7 +36,12 @@ step-at-requires c κs =
     (q .between, q .few, search needs, h .0, rw (l .inv .4) (h .1))
 
 loop-less : tie.Need-loop-less Inv-loop μ-loop
-loop-less c = omega (arith, c .before .before .before .before .step-at .ensures .1, c .before .before .before .before .before .before .before .before .if1 .taken)
+loop-less c =
+    omega (
+      arith,
+      c .before .before .before .before .step-at .ensures .1,
+      c .before .before .before .before .before .before .before .before .if1 .taken,
+    )
 
 loop-again : tie.Need-loop-again Inv-loop μ-loop
 loop-again c =

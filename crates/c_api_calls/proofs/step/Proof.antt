@@ -28,7 +28,8 @@ returns : tie.Need-returns
 returns c =
     let s = c .before .before .before .before .before .before .before .before .before .before .before in
     let t = c .before .before .before .before .before .before .before .test .ensures in (
-      refused-steps (omega (arith, s .pre .4)) (c .before .before .before .before .before .if1 .taken) (t .0) (λ h. s .pre .0 .cleared (sym (t .2) ∙ h)) (c .before .before .before .tell .ensures),
+      refused-steps (omega (arith, s .pre .4)) (c .before .before .before .before .before .if1 .taken) (t .0)
+          (λ h. s .pre .0 .cleared (sym (t .2) ∙ h)) (c .before .before .before .tell .ensures),
       ap (λ x. x + 1) (t .1),
       omega (arith, t .0 .more, t .1, s .pre .1),
     )
@@ -55,7 +56,9 @@ returns-2 : tie.Need-returns-2
 returns-2 c =
     let s = c .before .before .before .before .before .before .before .before .before .before .before .before .before .before .before in
     let t = c .before .before .before .before .before .before .before .before .before .before .before .test .ensures in (
-      made-steps (omega (arith, s .pre .4)) (rw (c .before .before .before .before .before .before .before .before .before .if1 .left) at (t .0)) (c .before .before .before .before .before .make .ensures),
+      made-steps (omega (arith, s .pre .4))
+          (rw (c .before .before .before .before .before .before .before .before .before .if1 .left) at (t .0))
+          (c .before .before .before .before .before .make .ensures),
       ap (λ x. x + 1) (t .1),
       omega (arith, t .0 .more, t .1, s .pre .1),
     )

@@ -46,7 +46,8 @@ pub record Tested (b t : List ℤ) (tests refusal : ℕ) (known : Bool) (tests' 
       ≡ tests' + (if eqb refusal' 0 then testsFrom (keeps (stateOf b) c) (leaves (stateOf b) c) cs else 0)
 
 -- the call c was made, or refused with all calls behind it
-pub record CallStepped (b t : List ℤ) (c : ListCall) (b' t' : List ℤ) (part part' : List ℕ) (tests refusal : ℕ) (known : Bool) (tests' refusal' : ℕ) (known' zero' : Bool) : Type 0 where
+pub record CallStepped (b t : List ℤ) (c : ListCall) (b' t' : List ℤ) (part part' : List ℕ) (tests refusal : ℕ)
+    (known : Bool) (tests' refusal' : ℕ) (known' zero' : Bool) : Type 0 where
   pub told : OneTold b t c b' t' part part'
   pub between : Between b' t' refusal' known' zero'
   pub tests-are : (cs : List ListCall) → tests + testsLeft b t refusal known (c ∷ cs) ≡ tests' + testsLeft b' t' refusal' known' cs
@@ -56,14 +57,16 @@ abbrev pub withPart : List ℕ → ℕ → List ℕ → List ℕ
 withPart list n part = take n list ++ (part ++ drop (n + 5) list)
 
 -- call number i of a list was made, its answer in the five numbers from 5 i on
-pub record CallSteppedAt (b t : List ℤ) (c : ListCall) (b' t' : List ℤ) (i : ℕ) (answers answers' : List ℕ) (tests refusal : ℕ) (known : Bool) (tests' refusal' : ℕ) (known' zero' : Bool) : Type 0 where
+pub record CallSteppedAt (b t : List ℤ) (c : ListCall) (b' t' : List ℤ) (i : ℕ) (answers answers' : List ℕ)
+    (tests refusal : ℕ) (known : Bool) (tests' refusal' : ℕ) (known' zero' : Bool) : Type 0 where
   pub part : List ℕ
   pub five : length part ≡ 5
   pub answers-are : answers' ≡ withPart answers (5 * i) part
   pub stepped : CallStepped b t c b' t' (take 5 (drop (5 * i) answers)) part tests refusal known tests' refusal' known' zero'
 
 -- i of the calls cs were made, from block b₀, scratch t₀ and the list answers₀ on
-pub record Running (b₀ t₀ : List ℤ) (cs : List ListCall) (answers₀ : List ℕ) (b t : List ℤ) (answers : List ℕ) (i tests refusal : ℕ) (known zero : Bool) : Type 0 where
+pub record Running (b₀ t₀ : List ℤ) (cs : List ListCall) (answers₀ : List ℕ) (b t : List ℤ) (answers : List ℕ)
+    (i tests refusal : ℕ) (known zero : Bool) : Type 0 where
   pub within : i ≤ length cs
   pub steps : ListedSteps b₀ t₀ (take i cs) answers₀ b t answers
   pub between : Between b t refusal known zero

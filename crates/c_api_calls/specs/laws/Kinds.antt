@@ -58,4 +58,17 @@ module _ (circles w : List ℤ) where
       → wordAt w 0 ≢ 11 → wordAt w 0 ≢ 13 → wordAt w 0 ≢ 14 → wordAt w 0 ≢ 15 → wordAt w 0 ≢ 16 → listCallOf circles w ≡ listOther
   unfolding listCallOf
   kind-other n4 n5 n6 n7 n8 n9 n11 n13 n14 n15 n16 =
-      rw (ne-eqb _ 4 n4, ne-eqb _ 5 n5, ne-eqb _ 6 n6, ne-eqb _ 7 n7, ne-eqb _ 8 n8, ne-eqb _ 9 n9, ne-eqb _ 11 n11, ne-eqb _ 13 n13, ne-eqb _ 14 n14, ne-eqb _ 15 n15, ne-eqb _ 16 n16) refl
+      rw (
+        ne-eqb _ 4 n4,
+        ne-eqb _ 5 n5,
+        ne-eqb _ 6 n6,
+        ne-eqb _ 7 n7,
+        ne-eqb _ 8 n8,
+        ne-eqb _ 9 n9,
+        ne-eqb _ 11 n11,
+        ne-eqb _ 13 n13,
+        ne-eqb _ 14 n14,
+        ne-eqb _ 15 n15,
+        ne-eqb _ 16 n16,
+      )
+      refl

@@ -59,7 +59,8 @@ stepped-at {answers = answers} {part = part} words circles i h p =
     record { part = part; five = h; answers-are = rw (f, drop-drop 5 (5 * i) answers) refl; stepped = rw (e, f) at p }
 
 -- a call that is made is there, and has room for its answer
-pub count-below : (words : List ℤ) (answers : List ℕ) {m i : ℕ} → m ≡ callCount words answers → i < m → (4 * i + 4 ≤ length words) × (5 * i + 5 ≤ length answers)
+pub count-below : (words : List ℤ) (answers : List ℕ) {m i : ℕ} → m ≡ callCount words answers → i < m
+    → (4 * i + 4 ≤ length words) × (5 * i + 5 ≤ length answers)
 unfolding callCount
 count-below words answers e h = (omega (arith, e, h), omega (arith, e, h))
 
@@ -80,7 +81,8 @@ module _ (b₀ t₀ : List ℤ) (cs : List ListCall) (answers₀ : List ℕ) whe
     few = omega arith;
   }
 
-  module _ {b t : List ℤ} {answers : List ℕ} {i tests refusal : ℕ} {known zero : Bool} (q : Running b₀ t₀ cs answers₀ b t answers i tests refusal known zero) where
+  module _ {b t : List ℤ} {answers : List ℕ} {i tests refusal : ℕ} {known zero : Bool}
+      (q : Running b₀ t₀ cs answers₀ b t answers i tests refusal known zero) where
     pub running-more : {b' t' : List ℤ} {answers' : List ℕ} {tests' refusal' : ℕ} {known' zero' : Bool} → i < length cs
         → 5 * i + 5 ≤ length answers₀ → tests' ≤ i + 1
         → CallSteppedAt b t (getD cs i listOther) b' t' i answers answers' tests refusal known tests' refusal' known' zero'

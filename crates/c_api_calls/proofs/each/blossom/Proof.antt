@@ -34,7 +34,11 @@ unfolding circleCall
 returns c =
     let s = c .before .before .before .before .before .before .before .before .before in
     let k = c .before .before .other .ensures in
-    rw (← c .before .before .before .before .before .before .word2 .ensures .0, ← c .before .before .before .before .before .word3 .ensures .0, lt-leb _ _ (c .before .before .before .before .if1 .taken))
+    rw (
+      ← c .before .before .before .before .before .before .word2 .ensures .0,
+      ← c .before .before .before .before .before .word3 .ensures .0,
+      lt-leb _ _ (c .before .before .before .before .if1 .taken),
+    )
     (other-done (s .pre .0 .accepted) (s .pre .2) (k .0) (k .1) (k .2) (s .pre .0 .cleared))
 
 mul-insert-blossom : tie.Need-mul-insert-blossom

@@ -26,7 +26,9 @@ unfolding ListedTold keeps
 returns c =
     let s = c .before .before .before .before .before .before .before .before in
     let k = c .before .before .tell-plain .ensures in
-    call-done listClear _ (told-all (omega arith) _ (c .before .before .before .before .before .clear .ensures) (k .0), refl) refl (s .pre .0 .cleared) (k .1) (k .2)
+    call-done listClear _
+    (told-all (omega arith) _ (c .before .before .before .before .before .clear .ensures) (k .0), refl) refl
+    (s .pre .0 .cleared) (k .1) (k .2)
 
 pub clear-spec : {M : Type 1} → statement M
 clear-spec =

@@ -35,7 +35,10 @@ returns c =
     let s = c .before .before .before .before .before .before .before .before .before .before .before .before in
     let r = c .before .before .before .before .before .before .insert-defect .ensures in
     let k = c .before .before .tell-known .ensures in
-    rw (← c .before .before .before .before .before .before .before .before .before .before .word .ensures .0, ← c .before .before .before .before .before .before .before .before .before .word2 .ensures .0)
+    rw (
+      ← c .before .before .before .before .before .before .before .before .before .before .word .ensures .0,
+      ← c .before .before .before .before .before .before .before .before .before .word2 .ensures .0,
+    )
     (call-done (listDefect _ _) _ (told-all (omega arith) _ (r .0) (k .0)) (r .1) (r .2) (k .1) (k .2))
 
 pub defect-spec : {M : Type 1} → statement M

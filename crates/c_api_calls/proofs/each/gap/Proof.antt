@@ -26,7 +26,13 @@ unfolding ListedTold keeps
 returns c =
     let s = c .before .before .before .before .before .before .before in
     rw (← c .before .before .before .before .before .word .ensures .0)
-    (call-done (listGap _) _ (told-all (omega arith) _ (c .before .before .before .before .edge-gap .ensures) (c .before .before .tell-gap .ensures), (refl, refl)) refl (s .pre .0 .cleared) refl refl)
+    (call-done (listGap _) _ (
+      told-all (omega arith) _ (c .before .before .before .before .edge-gap .ensures)
+          (c .before .before .tell-gap .ensures),
+      (refl, refl),
+    )
+    refl
+    (s .pre .0 .cleared) refl refl)
 
 pub gap-spec : {M : Type 1} → statement M
 gap-spec =

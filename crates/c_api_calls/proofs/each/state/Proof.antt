@@ -32,8 +32,13 @@ unfolding ListedTold keeps
 returns c =
     let s = c .before .before .before .before .before .before .before .before .before .before in
     let k = c .before .before .tell-plain .ensures in
-    rw (← c .before .before .before .before .before .before .before .before .word .ensures .0, ← c .before .before .before .before .before .before .before .word2 .ensures .0)
-    (call-done (listState _ _) _ (told-all (omega arith) _ (c .before .before .before .before .before .set-grow-state .ensures) (k .0), refl) refl (s .pre .0 .cleared) (k .1) (k .2))
+    rw (
+      ← c .before .before .before .before .before .before .before .before .word .ensures .0,
+      ← c .before .before .before .before .before .before .before .word2 .ensures .0,
+    )
+    (call-done (listState _ _) _
+    (told-all (omega arith) _ (c .before .before .before .before .before .set-grow-state .ensures) (k .0), refl) refl
+    (s .pre .0 .cleared) (k .1) (k .2))
 
 pub state-spec : {M : Type 1} → statement M
 state-spec =

@@ -27,7 +27,12 @@ returns c =
     let s = c .before .before .before .before .before .before .before in
     let k = c .before .before .tell-plain .ensures in
     rw (← c .before .before .before .before .before .word .ensures .0)
-    (call-done (listVertex _) _ (told-all (omega arith) _ (c .before .before .before .before .get-representative-vertex .ensures) (k .0), (refl, refl)) refl (s .pre .0 .cleared) (k .1) (k .2))
+    (call-done (listVertex _) _ (
+      told-all (omega arith) _ (c .before .before .before .before .get-representative-vertex .ensures) (k .0),
+      (refl, refl),
+    )
+    refl
+    (s .pre .0 .cleared) (k .1) (k .2))
 
 pub vertex-spec : {M : Type 1} → statement M
 vertex-spec =

@@ -230,7 +230,10 @@ returns-12 c =
     let e = c .before .before .before .before .before .word .ensures .0 in
     let m = rw e at (c .before .before .before .before .match .rest) in
     let k = c .before .before .other .ensures in
-    rw (kind-other (s .args .circles .now) (s .args .w .now) (m .0 .0 .0 .0 .0 .0 .0 .0 .0 .0 .1) (m .0 .0 .0 .0 .0 .0 .0 .0 .0 .1) (m .0 .0 .0 .0 .0 .0 .0 .0 .1) (m .0 .0 .0 .0 .0 .0 .0 .1) (m .0 .0 .0 .0 .0 .0 .1) (m .0 .0 .0 .0 .0 .1)
+    rw
+    (kind-other (s .args .circles .now) (s .args .w .now) (m .0 .0 .0 .0 .0 .0 .0 .0 .0 .0 .1)
+    (m .0 .0 .0 .0 .0 .0 .0 .0 .0 .1) (m .0 .0 .0 .0 .0 .0 .0 .0 .1) (m .0 .0 .0 .0 .0 .0 .0 .1)
+    (m .0 .0 .0 .0 .0 .0 .1) (m .0 .0 .0 .0 .0 .1)
     (m .0 .0 .0 .0 .1) (m .0 .0 .0 .1) (m .0 .0 .1) (m .0 .1) (m .1))
     (other-done (s .pre .0 .accepted) (s .pre .2) (k .0) (k .1) (k .2) (s .pre .0 .cleared))
 
