@@ -6,22 +6,12 @@ refused without words for its entries: 3, 6 or 7.
 """
 import os
 import random
-import struct
 import subprocess
-import sys
 import unittest
 
-ROOT = os.path.dirname(os.path.dirname(os.path.dirname(os.path.abspath(__file__))))
-sys.path.insert(0, os.path.join(ROOT, "tests"))
-import model  # noqa: E402
+from test_blocks import PROGRAM, model, record
 
-PROGRAM = os.path.join(ROOT, "target", "bin", "cardrun")
 COUNTS = [1, 2, 3, 31, 33, 62, 63, 64, 65, 66, 67, 100, 1001, 16381, 16382]
-
-
-def record(kind, *fields):
-    body = struct.pack("<H", kind) + b"".join(struct.pack("<i", f) for f in fields)
-    return struct.pack("<H", len(body)) + body
 
 
 def stream(rng):
