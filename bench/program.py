@@ -1,12 +1,12 @@
 #!/usr/bin/env python3
 """Times programs on one long stream of records, as whole processes.
 
-    bench/program.py COMMAND [COMMAND ..]
+    bench/program.py [--stream FILE] COMMAND [COMMAND ..]
 
-A command is a program and its words, as 'target/bin/cardrun' or 'differential lines'. The stream has decoding runs of
-accepted calls on a strip of V 58, E 85, again and again: about 480,000 records, from a file, with the lines to
-/dev/null. Runs alternate; each number is the best of 9, and the ratio is that to the last command. All must write the
-same lines. Prints a row of a table for each.
+A command is a program and its words, as 'target/bin/cardrun' or 'differential lines'. The stream is FILE, or else has
+lengths and growths, all accepted, of six defects on a strip of V 58, E 85, again and again: about 480,000 records, from
+a file, with the lines to /dev/null. Runs alternate; each number is the best of 9, and the ratio is that to the last
+command. All must write the same lines. Prints a row of a table for each.
 """
 import os
 import random
@@ -55,11 +55,22 @@ def stream():
     return b"".join(head) + b"".join(made) * REPEATS, len(made) * REPEATS
 
 
+def read(path):
+    """The records of a file, and how many of them are calls."""
+    data, at, count = open(path, "rb").read(), 0, 0
+    while at < len(data):
+        length, kind = struct.unpack_from("<HH", data, at)
+        at, count = at + 2 + length, count + (kind > 3)
+    return data, count
+
+
 def main():
-    programs = sys.argv[1:]
+    programs, given = sys.argv[1:], None
+    if programs[:1] == ["--stream"]:
+        given, programs = programs[1:2], programs[2:]
     if not programs:
         sys.exit(__doc__)
-    data, count = stream()
+    data, count = read(given[0]) if given else stream()
     with tempfile.NamedTemporaryFile() as f:
         f.write(data)
         f.flush()

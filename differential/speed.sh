@@ -28,10 +28,14 @@ T
 
 `bench/program.py`: `cardrun`, which reads and writes in blocks, and the Rust behind the same records, which reads all
 of its input first; one file, lines to /dev/null, the best of 9 runs each, in turn. The lines are the same, which is
-checked.
+checked. First decoding runs on a patch of distance 11, then six defects with small boundaries.
 
 T
     (cd "$root" && rt check cardrun > target/differential.log 2>&1) || { tail "$root/target/differential.log" >&2; exit 1; }
+    "$bench" stream > "$root/target/stream.records"
+    python3 "$root/bench/program.py" --stream "$root/target/stream.records" "$root/target/bin/cardrun" \
+        "$bench lines unlocked" "$bench lines"
+    echo
     python3 "$root/bench/program.py" "$root/target/bin/cardrun" "$bench lines unlocked" "$bench lines"
 } > "$out.new"
 mv "$out.new" "$out"

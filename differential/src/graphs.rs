@@ -310,6 +310,7 @@ pub fn any_large(r: &mut Random, w: Weights) -> Graph {
 }
 
 /// Whole patches of distance 3 to 15 in several rounds, and the other kinds of graphs, up to V 1,024 and E 4,096.
+#[cfg(library)]
 pub fn any_size(r: &mut Random) -> Graph {
     let w = r.pick(&[Weights::Same, Weights::Even, Weights::Odd, Weights::Sparse, Weights::Zero]);
     if r.chance(40) {

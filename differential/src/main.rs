@@ -116,6 +116,10 @@ fn main() {
             calls_speed::table();
             true
         }
+        Some("stream") => {
+            speed::stream();
+            true
+        }
         Some("lines") => {
             speed::program(a.get(2).is_some_and(|x| x == "unlocked"));
             true
@@ -134,7 +138,7 @@ fn main() {
             eprintln!(
                 "differential compare [RUNS] [SEED] | one SEED | sample FILE [SEED] | replay FILE | patches FILE \
                  | speed | library [RUNS] [SEED] | rounds [RUNS] [SEED] | openings [RUNS] [SEED] \
-                 | gaps [RUNS] [SEED] | erasures [RUNS] [SEED] | rounds-speed | calls-speed | lines [unlocked]"
+                 | gaps [RUNS] [SEED] | erasures [RUNS] [SEED] | rounds-speed | calls-speed | stream | lines [unlocked]"
             );
             false
         }

@@ -36,6 +36,14 @@ pub fn program(unlocked: bool) {
     std::io::stdout().lock().write_all(&lines).expect("standard output");
 }
 
+/// A long stream of records for whole processes, to standard output: decoding runs of accepted calls on a patch of
+/// distance 11.
+pub fn stream() {
+    let g = graphs::patch(&mut Random::new(7), 11, Weights::Even);
+    let records = streams::decoding(11, &g, 480_000, 32, 2000);
+    std::io::stdout().lock().write_all(&flat(&records)).expect("standard output");
+}
+
 /// Nanoseconds a call: port, Rust, Rust without locks.
 fn measure(records: &[Record]) -> (usize, [f64; 3]) {
     let bytes = flat(records);

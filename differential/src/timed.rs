@@ -6,6 +6,7 @@ use crate::records::{record, Record};
 pub const ROUNDS: usize = 60;
 
 /// Patches that library calls are timed on: distance, rounds, N, L.
+#[cfg(library)]
 pub const SIZES: [(i32, i32, i32, i32); 6] = [
     (7, 1, 32, 2_000), (11, 1, 64, 4_000), (15, 1, 64, 8_000), (7, 7, 64, 8_000), (11, 11, 128, 40_000),
     (15, 8, 128, 50_000),
