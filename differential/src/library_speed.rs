@@ -78,10 +78,10 @@ A defect takes 8 vertices and releases them, as above, beside other defects whos
 const WITH_THE_BLOCK: &str = "\
 Without the test two calls cost more on a larger block where the Rust's do not. A preparation that makes the lists of a
 node longer or shorter moves the lists of all later nodes, because the store is compact (docs/LAYOUT.md); that is a word
-for each entry and one for each node, and among 900 other nodes still under the Rust's time. Clearing writes three words
-for each vertex and each side, because afterwards a block is the one that opening made, word for word, but for the words
-that are free; the Rust counts up a time stamp instead, and clears each vertex and edge when it next meets it. No other
-call depends on V, E or N.";
+for each entry and one for each node, and the table on the number of nodes has what it comes to. Clearing writes three
+words for each vertex and each side and the weight of each edge, because afterwards a block is the one that opening made,
+word for word, but for the words that are free; the Rust counts up a time stamp instead, and clears each vertex and edge
+when it next meets it. No other call depends on V, E or N.";
 
 /// The tables of docs/SPEED.md on library calls.
 pub fn table() {
