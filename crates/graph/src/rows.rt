@@ -148,7 +148,7 @@ pub fn edge_place(b: &[i64], i: usize) -> usize
 }
 
 // Over nodes: class, grow state, parent, dual variable, start, boundary length, overgrown length.
-fn node_place(b: &[i64], k: usize, n: usize) -> usize
+pub fn node_place(b: &[i64], k: usize, n: usize) -> usize
     requires { ⌜ Laid (now b) × (k < 7) × (n < stateOf (now b) .nodeLimit) ⌝ }
     ensures { λ r. ⌜ Found (now (b .entry)) (classRow + k) n r ⌝ }
 {
@@ -159,7 +159,7 @@ fn node_place(b: &[i64], k: usize, n: usize) -> usize
 }
 
 // The list store.
-fn store_place(b: &[i64], i: usize) -> usize
+pub fn store_place(b: &[i64], i: usize) -> usize
     requires { ⌜ Laid (now b) × (i < stateOf (now b) .storeLimit) ⌝ }
     ensures { λ r. ⌜ Found (now (b .entry)) storeRow i r ⌝ }
 {
