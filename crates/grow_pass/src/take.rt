@@ -11,7 +11,6 @@ ghost use Rattle.graph.specs.Layout.{stateOf};
 ghost use Rattle.pass.specs.Grow.{takeSide, takeVertex};
 ghost use Rattle.pass.specs.inner.Once.{takeOnce};
 ghost use Rattle.grow_pass.specs.inner.Growing.{growWorkIn, GrowWorking, GrowWorked, OwnKept};
-
 use pass::another;
 
 // How far a growing pass has come: how many entries each section of its scratch has.
