@@ -84,8 +84,7 @@ fn restore_weights(b: &mut [i64])
     let o = rows::original_place(b, 0);
     let mut i = 0;
     while i < m {
-        let x = words::word(b, o + i);
-        words::put(b, a + i, x);
+        words::copy(b, a + i, o + i);
         i += 1;
     }
 }

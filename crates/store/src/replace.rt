@@ -6,7 +6,7 @@ ghost use lib.ListN.{length, getD, set};
 ghost use Rattle.graph.specs.Rows.{storeRow};
 ghost use Rattle.graph.specs.State.{nodeCount, overgrownOf};
 ghost use Rattle.graph.specs.Sound.{entries, entriesOf};
-ghost use Rattle.graph.specs.Word.{numbersAt, wordLimit};
+ghost use Rattle.graph.specs.Word.{numbersAt, wordAt};
 ghost use Rattle.graph.specs.Layout.{stateOf};
 ghost use Rattle.graph.specs.Form.{Laid, Formed};
 ghost use Rattle.graph.specs.inner.Form.{Becomes, Rowed};
@@ -20,22 +20,23 @@ use graph::rows;
 use graph::words;
 
 // ---- stretches of the store
-// The store is gone over from its first place on, so that a word costs no look at the header.
+// The store is gone over from its first place on, so that a word costs no look at the header, and words are moved as they stand.
 
-// Word i of the store, which begins at place a.
-fn word_from(b: &[i64], a: usize, i: usize) -> usize
-    requires { ⌜ Laid (now b) × Found (now b) storeRow 0 a × (i < stateOf (now b) .storeLimit) ⌝ }
-    ensures { λ r. ⌜ (r ≡ getD (storeOf (now (b .entry))) i 0) × (r < wordLimit) ⌝ }
+// Word i of the store, which begins at place a, becomes word j.
+fn copy_at(b: &mut [i64], a: usize, i: usize, j: usize)
+    requires { ⌜ Laid (now b) × Found (now b) storeRow 0 a × (i < stateOf (now b) .storeLimit) × (j < stateOf (now b) .storeLimit) ⌝ }
+    ensures { λ r.
+        ⌜ Rowed storeRow (now (b .entry)) (now (b .exit)) (set (storeOf (now (b .entry))) i (getD (storeOf (now (b .entry))) j 0)) ⌝ }
 {
-    words::word(b, a + i)
+    words::copy(b, a + i, a + j);
 }
 
-// It becomes x.
-fn put_from(b: &mut [i64], a: usize, i: usize, x: usize)
-    requires { ⌜ Laid (now b) × Found (now b) storeRow 0 a × (i < stateOf (now b) .storeLimit) × (x < wordLimit) ⌝ }
-    ensures { λ r. ⌜ Rowed storeRow (now (b .entry)) (now (b .exit)) (set (storeOf (now (b .entry))) i x) ⌝ }
+// The same with word j of t.
+fn fill_at(b: &mut [i64], a: usize, i: usize, t: &[i64], j: usize)
+    requires { ⌜ Laid (now b) × Found (now b) storeRow 0 a × (i < stateOf (now b) .storeLimit) × (j < length (now t)) ⌝ }
+    ensures { λ r. ⌜ Rowed storeRow (now (b .entry)) (now (b .exit)) (set (storeOf (now (b .entry))) i (wordAt (now (t .entry)) j)) ⌝ }
 {
-    words::put(b, a + i, x);
+    words::copy_from(b, a + i, t, j);
 }
 
 // The n words at `from` are copied to `to`, which lies before them.
@@ -49,8 +50,7 @@ fn move_down(b: &mut [i64], from: usize, to: usize, n: usize)
     let a = rows::store_place(b, 0);
     let mut i = 0;
     while i < n {
-        let x = word_from(b, a, from + i);
-        put_from(b, a, to + i, x);
+        copy_at(b, a, to + i, from + i);
         i += 1;
     }
 }
@@ -67,8 +67,7 @@ fn move_up(b: &mut [i64], from: usize, to: usize, n: usize)
     let mut i = n;
     while 0 < i {
         i -= 1;
-        let x = word_from(b, a, from + i);
-        put_from(b, a, to + i, x);
+        copy_at(b, a, to + i, from + i);
     }
 }
 
@@ -97,8 +96,7 @@ fn fill(b: &mut [i64], t: &[i64], q: usize, at: usize, n: usize)
     let a = rows::store_place(b, 0);
     let mut i = 0;
     while i < n {
-        let x = words::word(t, q + i);
-        put_from(b, a, at + i, x);
+        fill_at(b, a, at + i, t, q + i);
         i += 1;
     }
 }

@@ -1,7 +1,7 @@
 use borrow.Author.Needs.{needs}
 use native.Mathlib.Omega.{arith}
 use Prim.Native.Nat.{_+_, _-_, _≤_, _<_}
-use mathlib.Core.Path.{_≡_}
+use mathlib.Core.Path.{_≡_, refl}
 use Rattle.graph.specs.Rows.{storeRow}
 use Rattle.graph.specs.Layout.{stateOf}
 use Rattle.graph.specs.inner.Found.{Found}
@@ -35,17 +35,14 @@ loop-holds c =
       c .store-place .ensures,
     )
 
-add-word : tie.Need-add-word Inv-loop μ-loop
-add-word c = search needs
+add-fill-at : tie.Need-add-fill-at Inv-loop μ-loop
+add-fill-at c = search needs
 
-word-requires : tie.Need-word-requires Inv-loop μ-loop
-word-requires c κs = search needs
+add-fill-at-2 : tie.Need-add-fill-at-2 Inv-loop μ-loop
+add-fill-at-2 c = search needs
 
-add-put-from : tie.Need-add-put-from Inv-loop μ-loop
-add-put-from c = search needs
-
-put-from-requires : tie.Need-put-from-requires Inv-loop μ-loop
-put-from-requires c κs = search needs
+fill-at-requires : tie.Need-fill-at-requires Inv-loop μ-loop
+fill-at-requires c κs = search needs
 
 add-i : tie.Need-add-i Inv-loop μ-loop
 add-i c = search needs
@@ -55,13 +52,13 @@ loop-less c = search needs
 
 loop-again : tie.Need-loop-again Inv-loop μ-loop
 loop-again c =
-    let a = c .before .before .before .before .before .loop in
-    let s = c .before .before .before .before .before .before .before .before .before in (
+    let a = c .before .before .before .before .loop in
+    let s = c .before .before .before .before .before .before .before .before in (
       omega arith,
       a .inv .1,
       fill-more (s .pre .0) (s .args .t .now) (s .args .q) (s .args .at) (a .i) _ (a .inv .2) (omega arith)
-          (c .before .before .before .word .ensures .0) (c .before .put-from .ensures),
-      store-begins (a .inv .2 .still .laid) (c .before .put-from .ensures) _ (omega arith) (a .inv .3),
+          refl (c .before .fill-at .ensures),
+      store-begins (a .inv .2 .still .laid) (c .before .fill-at .ensures) _ (omega arith) (a .inv .3),
     )
 
 same-length : tie.Need-same-length Inv-loop μ-loop
@@ -82,10 +79,9 @@ fill-spec =
     returns
     store-place-requires
     loop-holds
-    add-word
-    word-requires
-    add-put-from
-    put-from-requires
+    add-fill-at
+    add-fill-at-2
+    fill-at-requires
     add-i
     loop-less
     loop-again

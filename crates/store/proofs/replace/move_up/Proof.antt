@@ -1,7 +1,7 @@
 use borrow.Author.Needs.{needs}
 use native.Mathlib.Omega.{arith}
 use Prim.Native.Nat.{_+_, _-_, _≤_, _<_}
-use mathlib.Core.Path.{_≡_}
+use mathlib.Core.Path.{_≡_, refl}
 use Rattle.graph.specs.Rows.{storeRow}
 use Rattle.graph.specs.Layout.{stateOf}
 use Rattle.graph.specs.inner.Found.{Found}
@@ -40,31 +40,28 @@ loop-holds c =
 sub-i : tie.Need-sub-i Inv-loop μ-loop
 sub-i c = search needs
 
-add-word-from : tie.Need-add-word-from Inv-loop μ-loop
-add-word-from c = search needs
+add-copy-at : tie.Need-add-copy-at Inv-loop μ-loop
+add-copy-at c = search needs
 
-word-from-requires : tie.Need-word-from-requires Inv-loop μ-loop
-word-from-requires c κs = search needs
+add-copy-at-2 : tie.Need-add-copy-at-2 Inv-loop μ-loop
+add-copy-at-2 c = search needs
 
-add-put-from : tie.Need-add-put-from Inv-loop μ-loop
-add-put-from c = search needs
-
-put-from-requires : tie.Need-put-from-requires Inv-loop μ-loop
-put-from-requires c κs = search needs
+copy-at-requires : tie.Need-copy-at-requires Inv-loop μ-loop
+copy-at-requires c κs = search needs
 
 loop-less : tie.Need-loop-less Inv-loop μ-loop
 loop-less c = search needs
 
 loop-again : tie.Need-loop-again Inv-loop μ-loop
 loop-again c =
-    let a = c .before .before .before .before .before .before .loop in
-    let s = c .before .before .before .before .before .before .before .before .before .before in
+    let a = c .before .before .before .before .loop in
+    let s = c .before .before .before .before .before .before .before .before in
     let z : a .i ≡ a .i - 1 + 1 = omega arith in (
       omega arith,
       a .inv .1,
       move-up-more (s .pre .0) (s .args .from) (s .args .to) (s .args .n) (a .i - 1) _ (rw z at (a .inv .2)) (s .pre .1)
-          (omega arith) (omega arith) (c .before .before .before .word-from .ensures .0) (c .before .put-from .ensures),
-      store-begins (a .inv .2 .still .laid) (c .before .put-from .ensures) _ (omega arith) (a .inv .3),
+          (omega arith) (omega arith) refl (c .before .copy-at .ensures),
+      store-begins (a .inv .2 .still .laid) (c .before .copy-at .ensures) _ (omega arith) (a .inv .3),
     )
 
 same-length : tie.Need-same-length Inv-loop μ-loop
@@ -86,10 +83,9 @@ move-up-spec =
     store-place-requires
     loop-holds
     sub-i
-    add-word-from
-    word-from-requires
-    add-put-from
-    put-from-requires
+    add-copy-at
+    add-copy-at-2
+    copy-at-requires
     loop-less
     loop-again
     same-length
