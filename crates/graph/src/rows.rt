@@ -1,4 +1,5 @@
-// The arrays of a block: place i of row k. Only this file knows where a row begins (docs/LAYOUT.md numbers the rows).
+// The arrays of a block: place i of row k (docs/LAYOUT.md numbers the rows). Where a row begins stands here, and for rows lent as parts of a
+// block in lists::boundary and in block_rows::parts.
 
 ghost use mathlib.Core.Path.{_≡_};
 ghost use Prim.Native.Nat.{_+_, _<_, _≤_};
