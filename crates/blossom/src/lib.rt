@@ -72,7 +72,7 @@ fn repeats(circle: &[i64]) -> bool
     requires { ⌜ all (λ m. ltb m 1024) (map toNat (now circle)) ≡ true ⌝ }
     ensures { λ r. ⌜ r ≡ not (distinct (map toNat (now (circle .entry)))) ⌝ }
 {
-    let mut marks = [0usize; 1024];
+    let mut marks = [0u8; 1024];
     let mut i = 0;
     while i < circle.len() {
         let m = words::word(circle, i);

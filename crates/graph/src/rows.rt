@@ -1,4 +1,5 @@
-// The arrays of a block: place i of row k. Only this file knows where a row begins (docs/LAYOUT.md numbers the rows).
+// The arrays of a block: place i of row k (docs/LAYOUT.md numbers the rows). Where a row begins stands here, and for rows lent as parts of a
+// block in lists::boundary and in block_rows::parts.
 
 ghost use mathlib.Core.Path.{_≡_};
 ghost use Prim.Native.Nat.{_+_, _<_, _≤_};
@@ -148,7 +149,7 @@ pub fn edge_place(b: &[i64], i: usize) -> usize
 }
 
 // Over nodes: class, grow state, parent, dual variable, start, boundary length, overgrown length.
-fn node_place(b: &[i64], k: usize, n: usize) -> usize
+pub fn node_place(b: &[i64], k: usize, n: usize) -> usize
     requires { ⌜ Laid (now b) × (k < 7) × (n < stateOf (now b) .nodeLimit) ⌝ }
     ensures { λ r. ⌜ Found (now (b .entry)) (classRow + k) n r ⌝ }
 {
@@ -159,7 +160,7 @@ fn node_place(b: &[i64], k: usize, n: usize) -> usize
 }
 
 // The list store.
-fn store_place(b: &[i64], i: usize) -> usize
+pub fn store_place(b: &[i64], i: usize) -> usize
     requires { ⌜ Laid (now b) × (i < stateOf (now b) .storeLimit) ⌝ }
     ensures { λ r. ⌜ Found (now (b .entry)) storeRow i r ⌝ }
 {

@@ -2,7 +2,7 @@
 
 ghost use mathlib.Core.Path.{_≡_};
 ghost use Prim.Native.Nat.{_<_, _≤_};
-ghost use lib.ListN.{length, set};
+ghost use lib.ListN.{length, getD, set};
 ghost use lib.IntN.{pos, natAbs};
 ghost use lib.Signed.{nonNeg};
 ghost use Rattle.graph.specs.Word.{toNat, wordAt, wordLimit};
@@ -40,6 +40,22 @@ pub fn put(b: &mut [i64], i: usize, x: usize)
     ensures { λ r. ⌜ now (b .exit) ≡ set (now (b .entry)) i (pos x) ⌝ }
 {
     b[i] = to_word(x);
+}
+
+// The word at place i becomes that at place j, as it stands.
+pub fn copy(b: &mut [i64], i: usize, j: usize)
+    requires { ⌜ (i < length (now b)) × (j < length (now b)) ⌝ }
+    ensures { λ r. ⌜ now (b .exit) ≡ set (now (b .entry)) i (getD (now (b .entry)) j (pos 0)) ⌝ }
+{
+    b[i] = b[j];
+}
+
+// The same with a word of another list.
+pub fn copy_from(b: &mut [i64], i: usize, t: &[i64], j: usize)
+    requires { ⌜ (i < length (now b)) × (j < length (now t)) ⌝ }
+    ensures { λ r. ⌜ now (b .exit) ≡ set (now (b .entry)) i (getD (now (t .entry)) j (pos 0)) ⌝ }
+{
+    b[i] = t[j];
 }
 
 // Whether a signed number is not negative.

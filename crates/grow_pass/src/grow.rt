@@ -18,6 +18,7 @@ ghost use Rattle.pass.specs.inner.Ready.{Ready, Growable, AfterPass};
 ghost use Rattle.grow_pass.specs.inner.Growing.{growWorkIn, GrowWorking, GrowWorked, NotesFit};
 use crate::take;
 use crate::take::GrowProgress;
+use pass::another;
 use pass::scratch;
 
 // Whether the edge of side s is full, its far side free, and the far vertex not virtual.
@@ -26,11 +27,15 @@ fn reaches(b: &[i64], s: usize) -> bool
     ensures { λ r. ⌜ r ≡ reaches (stateOf (now (b .entry))) s ⌝ }
 {
     let o = graph::side::opposite(s);
-    let full = graph::side::growth(b, s) + graph::side::growth(b, o)
-        == graph::edge::weight(b, s / 2);
-    let free = graph::side::holder(b, o) == 0;
+    let grown = graph::side::growth(b, s) + graph::side::growth(b, o);
+    if grown != graph::edge::weight(b, s / 2) {
+        return false;
+    }
+    if graph::side::holder(b, o) != 0 {
+        return false;
+    }
     let v = graph::side::end(b, o);
-    full & free & (graph::vertex::virtual_flag(b, v) == 0)
+    graph::vertex::virtual_flag(b, v) == 0
 }
 
 // Whether some side in the boundary of node n reaches a vertex.
@@ -130,7 +135,7 @@ fn grow_scan(b: &mut [i64], t: &mut [i64], n: usize, m: usize) -> GrowProgress
         kept: 0,
         noted: 0,
         pushed: 0,
-        another: false,
+        another: 0,
     };
     while i < l {
         let s = graph::lists::boundary_side(b, n, i);
@@ -174,9 +179,9 @@ pub fn grow_pass(b: &mut [i64], t: &mut [i64], n: usize) -> bool
     if reaches_any(b, n) {
         let m = graph::rows::side_count(b);
         let p = grow_work(b, t, n, m);
-        let another = p.another;
+        let more = p.another;
         finish(b, t, n, m, p);
-        another
+        another::called(more)
     } else {
         false
     }

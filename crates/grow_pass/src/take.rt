@@ -11,13 +11,14 @@ ghost use Rattle.graph.specs.Layout.{stateOf};
 ghost use Rattle.pass.specs.Grow.{takeSide, takeVertex};
 ghost use Rattle.pass.specs.inner.Once.{takeOnce};
 ghost use Rattle.grow_pass.specs.inner.Growing.{growWorkIn, GrowWorking, GrowWorked, OwnKept};
+use pass::another;
 
 // How far a growing pass has come: how many entries each section of its scratch has.
 pub struct GrowProgress {
     pub kept: usize, // sides of the new boundary
     pub noted: usize, // boundary sides that reach a vertex, one for each
     pub pushed: usize, // vertices that go on the overgrown stack
-    pub another: bool, // another pass is called for
+    pub another: usize, // whether another pass is called for, 0 for no
 }
 
 // Side s, at a vertex that is being taken: if free, it is held by node n for the defect node stored as g, and kept.
@@ -41,7 +42,7 @@ fn take_side(
             kept: p.kept + 1,
             noted: p.noted,
             pushed: p.pushed,
-            another: p.another | (w == 0),
+            another: another::called_if(w == 0, p.another),
         }
     } else {
         p

@@ -79,7 +79,13 @@ pub fn is_side(b: &[i64], store: &[i64], n: usize, a: usize, i: usize) -> bool
     ensures { λ r. ⌜ r ≡ ltb (getD (boundaryOf (stateOf (now (b .entry))) n) i 0) (sideCount (stateOf (now (b .entry)))) ⌝ }
 {
     let p = side_place(b, n, a, i);
-    row_words::below(store, p, rows::side_count(b))
+    let m = rows::side_count(b);
+    // With this the compiler knows that m is not negative as a word, and makes one test of two.
+    if m <= 8192 {
+        row_words::below(store, p, m)
+    } else {
+        false
+    }
 }
 
 // Whether entry i and the three behind it are sides. Four at a time take less time for each.

@@ -1,4 +1,5 @@
 -- Laws about the definitions of `pass`.
+pub mod Another
 pub mod Counts
 pub mod Fits
 pub mod GrowSound

@@ -19,7 +19,7 @@ use pass::scratch;
 pub struct ShrinkProgress {
     pub kept: usize, // how many sides are kept
     pub noted: usize, // how many vertices are noted
-    pub another: bool, // whether another pass is called for
+    pub another: usize, // whether another pass is called for, 0 for no
 }
 
 // Side s is kept, once: its mark tells whether it is kept already.

@@ -15,6 +15,7 @@ use graph::edge;
 use graph::side;
 use graph::sides;
 use graph::vertex;
+use pass::another;
 
 // Whether node n holds both sides of the edge of side s, and the edge is full.
 fn closed(b: &[i64], n: usize, s: usize) -> bool
@@ -40,7 +41,7 @@ fn drop_side(b: &mut [i64], t: &mut [i64], m: usize, p: ShrinkProgress, s: usize
     ShrinkProgress {
         kept: q.kept,
         noted: q.noted,
-        another: q.another | empty,
+        another: another::called_if(empty, q.another),
     }
 }
 

@@ -23,6 +23,7 @@ use graph::rows;
 use graph::side;
 use graph::vertex;
 use graph::words;
+use pass::another;
 use store::replace;
 
 // Whether side s has growth 0 and stands at no defect.
@@ -30,9 +31,11 @@ pub fn emptied(b: &[i64], s: usize) -> bool
     requires { ⌜ Formed (now b) × (s < sideCount (stateOf (now b))) ⌝ }
     ensures { λ r. ⌜ r ≡ vertexLeft (stateOf (now (b .entry))) s ⌝ }
 {
+    if side::growth(b, s) != 0 {
+        return false;
+    }
     let v = side::end(b, s);
-    let empty = side::growth(b, s) == 0;
-    empty & (vertex::defect_flag(b, v) == 0)
+    vertex::defect_flag(b, v) == 0
 }
 
 // Whether there is such a side in the boundary of node n.
@@ -142,7 +145,7 @@ fn shrink_work(b: &mut [i64], t: &mut [i64], n: usize, m: usize, z: usize) -> Sh
     let p = ShrinkProgress {
         kept: 0,
         noted: 0,
-        another: false,
+        another: 0,
     };
     let q = tops::drop_tops(b, t, n, m, p, z);
     let r = shrink_scan(b, t, n, m, q);
@@ -157,10 +160,10 @@ fn shrink_all(b: &mut [i64], t: &mut [i64], n: usize, z: usize) -> bool
     let m = rows::side_count(b);
     let p = shrink_work(b, t, n, m, z);
     let o = lists::overgrown_len(b, n);
-    let another = p.another;
+    let more = p.another;
     replace::replace_lists(b, n, t, p.kept, o - z, 0, 0);
     keep::clear(t, m, p);
-    another
+    another::called(more)
 }
 
 // One shrinking pass over node n; whether another is called for. Where nothing goes, nothing is written.

@@ -65,10 +65,11 @@ fn drop_defects(b: &mut [i64])
     ensures { λ r. ⌜ Rowed flagsRow (now (b .entry)) (now (b .exit)) (map (λ x. x % 2) (row (rowsOf (now (b .entry))) flagsRow)) ⌝ }
 {
     let m = rows::vertex_count(b);
+    let a = rows::vertex_place(b, rows::FLAGS, 0);
     let mut v = 0;
     while v < m {
-        let x = rows::vertex_word(b, rows::FLAGS, v);
-        rows::put_vertex(b, rows::FLAGS, v, x % 2);
+        let x = words::word(b, a + v);
+        words::put(b, a + v, x % 2);
         v += 1;
     }
 }
@@ -83,8 +84,7 @@ fn restore_weights(b: &mut [i64])
     let o = rows::original_place(b, 0);
     let mut i = 0;
     while i < m {
-        let x = words::word(b, o + i);
-        words::put(b, a + i, x);
+        words::copy(b, a + i, o + i);
         i += 1;
     }
 }

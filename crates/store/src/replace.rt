@@ -1,15 +1,18 @@
 // Replacing the lists of a node in the store. What must not move is left in its place.
 
 ghost use Prim.Native.Nat.{ℕ, _+_, _<_, _≤_};
-ghost use lib.ListN.{length};
+ghost use mathlib.Core.Path.{_≡_};
+ghost use lib.ListN.{length, getD, set};
+ghost use Rattle.graph.specs.Rows.{storeRow};
 ghost use Rattle.graph.specs.State.{nodeCount, overgrownOf};
 ghost use Rattle.graph.specs.Sound.{entries, entriesOf};
-ghost use Rattle.graph.specs.Word.{numbersAt};
+ghost use Rattle.graph.specs.Word.{numbersAt, wordAt};
 ghost use Rattle.graph.specs.Layout.{stateOf};
 ghost use Rattle.graph.specs.Form.{Laid, Formed};
-ghost use Rattle.graph.specs.inner.Form.{Becomes};
+ghost use Rattle.graph.specs.inner.Form.{Becomes, Rowed};
+ghost use Rattle.graph.specs.inner.Found.{Found};
 ghost use Rattle.graph.specs.inner.Replace.{withLists};
-ghost use Rattle.graph.specs.inner.Lists.{startWord};
+ghost use Rattle.graph.specs.inner.Lists.{startWord, storeOf};
 ghost use Rattle.store.specs.inner.Wrote.{Shifted, Filled, Copied};
 ghost use Rattle.store.specs.inner.Store.{Resized, Stored, Moved, Replaceable};
 use graph::lists;
@@ -17,16 +20,37 @@ use graph::rows;
 use graph::words;
 
 // ---- stretches of the store
+// The store is gone over from its first place on, so that a word costs no look at the header, and words are moved as they stand.
+
+// Word i of the store, which begins at place a, becomes word j.
+fn copy_at(b: &mut [i64], a: usize, i: usize, j: usize)
+    requires { ⌜ Laid (now b) × Found (now b) storeRow 0 a × (i < stateOf (now b) .storeLimit) × (j < stateOf (now b) .storeLimit) ⌝ }
+    ensures { λ r.
+        ⌜ Rowed storeRow (now (b .entry)) (now (b .exit)) (set (storeOf (now (b .entry))) i (getD (storeOf (now (b .entry))) j 0)) ⌝ }
+{
+    words::copy(b, a + i, a + j);
+}
+
+// The same with word j of t.
+fn fill_at(b: &mut [i64], a: usize, i: usize, t: &[i64], j: usize)
+    requires { ⌜ Laid (now b) × Found (now b) storeRow 0 a × (i < stateOf (now b) .storeLimit) × (j < length (now t)) ⌝ }
+    ensures { λ r. ⌜ Rowed storeRow (now (b .entry)) (now (b .exit)) (set (storeOf (now (b .entry))) i (wordAt (now (t .entry)) j)) ⌝ }
+{
+    words::copy_from(b, a + i, t, j);
+}
 
 // The n words at `from` are copied to `to`, which lies before them.
 fn move_down(b: &mut [i64], from: usize, to: usize, n: usize)
     requires { ⌜ Laid (now b) × (to ≤ from) × (from + n ≤ stateOf (now b) .storeLimit) ⌝ }
     ensures { λ r. ⌜ Copied (now (b .entry)) (now (b .exit)) from to n ⌝ }
 {
+    if n == 0 {
+        return;
+    }
+    let a = rows::store_place(b, 0);
     let mut i = 0;
     while i < n {
-        let x = rows::store_word(b, from + i);
-        rows::put_store(b, to + i, x);
+        copy_at(b, a, to + i, from + i);
         i += 1;
     }
 }
@@ -36,11 +60,14 @@ fn move_up(b: &mut [i64], from: usize, to: usize, n: usize)
     requires { ⌜ Laid (now b) × (from ≤ to) × (to + n ≤ stateOf (now b) .storeLimit) ⌝ }
     ensures { λ r. ⌜ Copied (now (b .entry)) (now (b .exit)) from to n ⌝ }
 {
+    if n == 0 {
+        return;
+    }
+    let a = rows::store_place(b, 0);
     let mut i = n;
     while 0 < i {
         i -= 1;
-        let x = rows::store_word(b, from + i);
-        rows::put_store(b, to + i, x);
+        copy_at(b, a, to + i, from + i);
     }
 }
 
@@ -63,10 +90,13 @@ fn fill(b: &mut [i64], t: &[i64], q: usize, at: usize, n: usize)
     requires { ⌜ Laid (now b) × (q + n ≤ length (now t)) × (at + n ≤ stateOf (now b) .storeLimit) ⌝ }
     ensures { λ r. ⌜ Filled (now (b .entry)) (now (b .exit)) (now (t .entry)) q at n ⌝ }
 {
+    if n == 0 {
+        return;
+    }
+    let a = rows::store_place(b, 0);
     let mut i = 0;
     while i < n {
-        let x = words::word(t, q + i);
-        rows::put_store(b, at + i, x);
+        fill_at(b, a, at + i, t, q + i);
         i += 1;
     }
 }
@@ -79,10 +109,14 @@ fn shift_each(b: &mut [i64], lo: usize, hi: usize, add: usize, sub: usize)
         × ((p : ℕ) → lo ≤ p → p < hi → (sub ≤ startWord (now b) p) × (startWord (now b) p ≤ 65536)) ⌝ }
     ensures { λ r. ⌜ Shifted (now (b .entry)) (now (b .exit)) lo hi add sub ⌝ }
 {
+    if hi <= lo {
+        return;
+    }
+    let a = rows::node_place(b, rows::START, 0);
     let mut i = lo;
     while i < hi {
-        let x = rows::node_word(b, rows::START, i);
-        rows::put_node(b, rows::START, i, x + add - sub);
+        let x = words::word(b, a + i);
+        words::put(b, a + i, x + add - sub);
         i += 1;
     }
 }

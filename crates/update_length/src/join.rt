@@ -3,7 +3,7 @@
 ghost use mathlib.Core.Path.{_≡_};
 ghost use Prim.Native.Nat.{_<_};
 ghost use Rattle.update_length.specs.Scan.{withLook, scanAnswer};
-ghost use Rattle.update_length.specs.inner.Length.{lengthEnd, lookOf, roomIn, scanOf, withinIn, Knows};
+ghost use Rattle.update_length.specs.inner.Length.{lengthEnd, lookOf, roomIn, scanOf, withinIn, isOver, Knows};
 use crate::lengths;
 use crate::look::Look;
 use answers::Answer;
@@ -33,6 +33,17 @@ pub fn join(r: Scan, l: Look) -> Scan
             Look::Room(x) => Scan::Within(lengths::lesser(y, x)),
             Look::Meets(a) => Scan::Over(a),
         },
+    }
+}
+
+// Whether a scan has met its answer.
+pub fn is_over(r: Scan) -> bool
+    ensures { λ q. ⌜ q ≡ isOver (scanOf r) ⌝ }
+{
+    match r {
+        Scan::OpenEnded => false,
+        Scan::Within(_) => false,
+        Scan::Over(_) => true,
     }
 }
 

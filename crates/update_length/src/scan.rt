@@ -39,6 +39,9 @@ fn scan_sides(b: &[i64], boundary: &[i64], n: usize, d: usize, start: Scan) -> S
         let s = words::word(boundary, i);
         let l = look::look_side(b, n, d, s);
         r = join::join(r, l);
+        if join::is_over(r) {
+            return r;
+        }
         i += 1;
     }
     r

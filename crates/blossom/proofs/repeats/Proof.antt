@@ -29,9 +29,6 @@ loop-holds c = (met-none 1024 (map toNat (c .args .circle .now)), refl)
 word-requires : tie.Need-word-requires Inv-loop μ-loop
 word-requires c κs = search needs
 
-mul-if1 : tie.Need-mul-if1 Inv-loop μ-loop
-mul-if1 c = let h = small c in search needs
-
 array-read-if1 : tie.Need-array-read-if1 Inv-loop μ-loop
 array-read-if1 c = let h = small c in search needs
 
@@ -42,9 +39,6 @@ returns c =
     let a = w .before .before .before .args in
     met-twice (d .inv .0) (w .word .result) (rw (length-map (a .circle .now) toNat) (w .before .loop-test .taken))
     (w .word .ensures .0 ∙ word-entry (a .circle .now) (d .i)) (rw (d .inv .1) (small w)) (c .if1 .taken)
-
-mul-marks : tie.Need-mul-marks Inv-loop μ-loop
-mul-marks c = let h = small (c .before) in search needs
 
 array-write-marks : tie.Need-array-write-marks Inv-loop μ-loop
 array-write-marks c = let h = small (c .before) in search needs
@@ -76,10 +70,8 @@ repeats-spec =
     μ-loop
     loop-holds
     word-requires
-    mul-if1
     array-read-if1
     returns
-    mul-marks
     array-write-marks
     add-i
     loop-less

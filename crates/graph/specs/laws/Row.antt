@@ -90,13 +90,13 @@ pub rows-put : (b : List ℤ) (k i p x : ℕ) → InRow b k i p → 4 ≤ p → 
 unfolding toNat
 rows-put b k i p x = rows-any b k i p (pos x)
 
-pub sized-put : (b : List ℤ) (p x : ℕ) → Sized b → 4 ≤ p → Sized (set b p (pos x))
-sized-put b p x z h =
-    let w₀ = word-other b p 0 (pos x) (omega arith) in
-    let w₁ = word-other b p 1 (pos x) (omega arith) in
-    let w₂ = word-other b p 2 (pos x) (omega arith) in
-    let w₃ = word-other b p 3 (pos x) (omega arith) in
-    let w₄ = length-set b p (pos x) in
+sized-any : (b : List ℤ) (p : ℕ) (w : ℤ) → Sized b → 4 ≤ p → Sized (set b p w)
+sized-any b p w z h =
+    let w₀ = word-other b p 0 w (omega arith) in
+    let w₁ = word-other b p 1 w (omega arith) in
+    let w₂ = word-other b p 2 w (omega arith) in
+    let w₃ = word-other b p 3 w (omega arith) in
+    let w₄ = length-set b p w in
     record {
       v-min = omega arith;
       v-max = omega arith;
@@ -107,6 +107,9 @@ sized-put b p x z h =
       l-max = omega arith;
       len = omega arith;
     }
+
+pub sized-put : (b : List ℤ) (p x : ℕ) → Sized b → 4 ≤ p → Sized (set b p (pos x))
+sized-put b p x = sized-any b p (pos x)
 
 -- ---- the counts
 
@@ -227,37 +230,45 @@ module _ (b : List ℤ) (z : Sized b) where
 
 -- ---- a write
 
--- a word put at place i of row k, behind the header's sizes and counts
-rowed-at : (b : List ℤ) (k i p x : ℕ) → Laid b → InRow b k i p → 6 ≤ p → Rowed k b (set b p (pos x)) (set (row (rowsOf b) k) i x)
+-- any word at place i of row k, behind the header's sizes and counts
+rowed-at : (b : List ℤ) (k i p : ℕ) (w : ℤ) → Laid b → InRow b k i p → 6 ≤ p → Rowed k b (set b p w) (set (row (rowsOf b) k) i (toNat w))
 unfolding Laid
-rowed-at b k i p x q s h =
-    let w₀ = word-other b p 0 (pos x) (omega arith) in
-    let w₁ = word-other b p 1 (pos x) (omega arith) in
-    let w₂ = word-other b p 2 (pos x) (omega arith) in
-    let w₃ = word-other b p 3 (pos x) (omega arith) in
-    let w₄ = word-other b p 4 (pos x) (omega arith) in
-    let w₅ = word-other b p 5 (pos x) (omega arith) in
-    let z : Sized (set b p (pos x)) = sized-put b p x (q .sized) (omega arith) in
-    let t : Counted (set b p (pos x)) = counted-of (set b p (pos x)) z (omega arith) (omega arith) in
+rowed-at b k i p w q s h =
+    let w₀ = word-other b p 0 w (omega arith) in
+    let w₁ = word-other b p 1 w (omega arith) in
+    let w₂ = word-other b p 2 w (omega arith) in
+    let w₃ = word-other b p 3 w (omega arith) in
+    let w₄ = word-other b p 4 w (omega arith) in
+    let w₅ = word-other b p 5 w (omega arith) in
+    let z : Sized (set b p w) = sized-any b p w (q .sized) (omega arith) in
+    let t : Counted (set b p w) = counted-of (set b p w) z (omega arith) (omega arith) in
     record {
       laid = record { sized = z; counted = t };
-      rows = rows-put b k i p x s (omega arith);
+      rows = rows-any b k i p w s (omega arith);
       vertices = omega arith;
       edges = omega arith;
       sides = omega arith;
       nodes = omega arith;
       node-limit = omega arith;
       store-limit = omega arith;
-      len = length-set b p (pos x);
+      len = length-set b p w;
     }
 
+-- the word at place j of t, as it stands
+pub rowed-copy : (b : List ℤ) (k i p : ℕ) (t : List ℤ) (j : ℕ) → Laid b → Found b k i p
+    → Rowed k b (set b p (getD t j (pos 0))) (set (row (rowsOf b) k) i (wordAt t j))
+unfolding wordAt
+rowed-copy b k i p t j q s = rowed-at b k i p (getD t j (pos 0)) q (s .stands) (omega (arith, s .behind))
+
+-- a number
 pub rowed-put : (b : List ℤ) (k i p x : ℕ) → Laid b → Found b k i p → Rowed k b (set b p (pos x)) (set (row (rowsOf b) k) i x)
-rowed-put b k i p x q s = rowed-at b k i p x q (s .stands) (omega (arith, s .behind))
+unfolding toNat
+rowed-put b k i p x q s = rowed-at b k i p (pos x) q (s .stands) (omega (arith, s .behind))
 
 -- the mark of changed weights, word 6 of the header
 pub rowed-mark : (b : List ℤ) (x : ℕ) → Laid b → Rowed headerRow b (set b 6 (pos x)) (set (row (rowsOf b) headerRow) 6 x)
-unfolding offset
-rowed-mark b x q = rowed-at b 0 6 6 x q (record { place = omega arith; within = omega arith }) (omega arith)
+unfolding offset toNat
+rowed-mark b x q = rowed-at b 0 6 6 (pos x) q (record { place = omega arith; within = omega arith }) (omega arith)
 
 pub state-of-rows : (b : List ℤ) (r : List (List ℕ)) → rowsOf b ≡ r → stateOf b ≡ stateFrom r
 unfolding stateOf

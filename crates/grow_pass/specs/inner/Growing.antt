@@ -9,6 +9,7 @@ use Rattle.graph.specs.Layout.{stackFrom, stateOf}
 use Rattle.graph.specs.Form.{Formed}
 use Rattle.graph.specs.inner.Form.{Becomes}
 use Rattle.pass.specs.Work.{Work}
+use Rattle.pass.specs.inner.Another.{called}
 use Rattle.pass.specs.inner.Scratch.{noteLimit, ScratchHolds}
 use Rattle.pass.specs.inner.Free.{freeCount}
 use Rattle.pass.specs.inner.Own.{OwnSides}
@@ -21,7 +22,7 @@ growWorkIn b t n m p = record {
   kept = numbersAt t 0 (p .kept);
   noted = numbersAt t (2 * m) (p .noted);
   over = stackFrom (numbersAt t m (p .pushed)) ++ overgrownOf (stateOf b) n;
-  another = p .another;
+  another = called (p .another);
 }
 
 -- block and scratch have a work: all else in the scratch is zero

@@ -27,6 +27,7 @@ use Rattle.graph.specs.laws.Row.{becomes-none, becomes-then}
 use Rattle.pass.specs.Work.{Work, onState, keep, note, startPass, finishPass}
 use Rattle.pass.specs.Grow.{reaches, growStep, growScanned, growPass}
 use Rattle.pass.specs.inner.Once.{noteWith, noteFar, growStepOnce, takeOnce, growScannedOnce, growPassOnce, Alike}
+use Rattle.pass.specs.inner.Another.{called}
 use Rattle.pass.specs.inner.Free.{freeCount}
 use Rattle.pass.specs.laws.Counts.{zeros-le, zeros-taken}
 use Rattle.pass.specs.laws.Once.{grow-scanned-sides, grow-scanned-kept, grow-scanned-over, grow-alike}
@@ -163,7 +164,7 @@ keeping-grow-step n w s =
 
 -- at the start nothing is in the scratch
 abbrev pub nothing : GrowProgress
-nothing = record { kept = 0; noted = 0; pushed = 0; another = false }
+nothing = record { kept = 0; noted = 0; pushed = 0; another = 0 }
 
 pub start-working : {b t : List ℤ} {n m : ℕ} → Formed b → n < nodeCount (stateOf b) → sideCount (stateOf b) ≡ m
     → t ≡ scratchOf (stateOf b) → GrowWorking b t n m nothing
@@ -182,7 +183,7 @@ pub start-fits : {b : List ℤ} → Formed b → NotesFit b nothing
 start-fits {b} f = omega (arith, zeros-le (stateOf b .vertices .vertexHolder), formed-shape b f .vertexHolder)
 
 start-work : (b t : List ℤ) (n m : ℕ) → growWorkIn b t n m nothing ≡ startPass (stateOf b) (overgrownOf (stateOf b) n)
-unfolding growWorkIn startPass stackFrom numbersAt
+unfolding growWorkIn startPass stackFrom numbersAt called
 start-work b t n m = refl
 
 -- the whole boundary
@@ -323,12 +324,12 @@ finish-scratch {b} {t} {n} {m} {p} q =
 pub pass-after : {b t b₂ t₂ b₃ t₃ : List ℤ} {n m : ℕ} {r : GrowProgress} → Ready b t n
     → GrowWorked b b₂ t₂ n m r (growPassOnce (stateOf b) n)
     → Becomes b₂ b₃ (finishPass (growWorkIn b₂ t₂ n m r) n) × (t₃ ≡ zeroScratch (length t₂))
-    → AfterPass b b₃ t t₃ n (growPass (stateOf b) n) (r .another)
+    → AfterPass b b₃ t t₃ n (growPass (stateOf b) n) (called (r .another))
 pass-after {b} {b₂ = b₂} {t₂ = t₂} {n = n} {r = r} f x y =
     let a : Alike (growPassOnce (stateOf b) n) (growPass (stateOf b) n) = grow-alike (stateOf b) n in
     let z : length t₂ ≡ scratchSize (stateOf b) =
     omega (arith, x .working .holding .size, x .working .sides, x .block .vertices, x .block .edges, x .working .formed .pairs) in
-    let calls : r .another ≡ growPassOnce (stateOf b) n .another = unfold growWorkIn in ap (λ (w : Work). w .another) (x .work) in
+    let calls : called (r .another) ≡ growPassOnce (stateOf b) n .another = unfold growWorkIn in ap (λ (w : Work). w .another) (x .work) in
     record {
       block = rw (← finish-alike n a) (becomes-then (x .block) (rw (x .work) at (y .0)));
       scratch = y .1 ∙ ap zeroScratch z ∙ sym (f .scratch);

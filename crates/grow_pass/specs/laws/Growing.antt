@@ -17,6 +17,8 @@ use Rattle.graph.specs.Basic.{fold}
 use Rattle.graph.specs.laws.State.{kept-refl, kept-trans, fold-more, fold-done}
 use Rattle.graph.specs.inner.Kept.{SameButHolders}
 use Rattle.pass.specs.Work.{Work, onState, keep, note, push, callAnother}
+use Rattle.pass.specs.inner.Another.{called, calledIf}
+use Rattle.pass.specs.laws.Another.{called-if}
 use Rattle.pass.specs.inner.Scratch.{noteLimit, ScratchHolds}
 use Rattle.pass.specs.laws.Scratch.{hold-first, hold-second, hold-third}
 use Rattle.pass.specs.laws.Passes.{Keeps}
@@ -155,13 +157,13 @@ module _ {b t : List ℤ} {n m : ℕ} {p : GrowProgress} (q : GrowWorking b t n 
 
   -- another pass is called for, if y says so
   pub work-call : (y : Bool)
-      → GrowWorked b b t n m (record { kept = p .kept; noted = p .noted; pushed = p .pushed; another = p .another || y })
+      → GrowWorked b b t n m (record { kept = p .kept; noted = p .noted; pushed = p .pushed; another = calledIf y (p .another) })
       (callAnother (growWorkIn b t n m p) y)
   unfolding growWorkIn callAnother
   work-call y = record {
     block = becomes-none b (stateOf b) (q .formed) refl;
     working = record { formed = q .formed; node = q .node; sides = q .sides; kept = q .kept; noted = q .noted; pushed = q .pushed; holding = q .holding };
-    work = refl;
+    work = rw (called-if y (p .another));
   }
 
   -- the block becomes another, with the nodes as they were
@@ -190,7 +192,7 @@ module _ {b t : List ℤ} {n m : ℕ} {p : GrowProgress} (q : GrowWorking b t n 
               kept = numbersAt t 0 (p .kept);
               noted = numbersAt t (2 * m) (p .noted);
               over = stackFrom (numbersAt t m (p .pushed)) ++ overgrownOf (stateOf b) n;
-              another = p .another;
+              another = called (p .another);
             })
             (x .state));
       }

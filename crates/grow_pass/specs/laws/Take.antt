@@ -19,6 +19,7 @@ use Rattle.graph.specs.laws.Members.{both, all-at}
 use Rattle.graph.specs.laws.Number.{numbers-entry}
 use Rattle.pass.specs.Work.{Work, onState, keep, push, callAnother}
 use Rattle.pass.specs.Grow.{takeSide, takeVertex}
+use Rattle.pass.specs.inner.Another.{calledIf}
 use Rattle.pass.specs.inner.Once.{takeOnce}
 use Rattle.pass.specs.laws.Passes.{Keeps, keeps-take-side, keeps-take-vertex, keeps-on}
 use Rattle.pass.specs.laws.Fits.{own-length, own-snoc, side-holds, side-held, own-take-side, Siding, siding-step, Still, still-take-side}
@@ -53,7 +54,7 @@ module _ {b t : List ℤ} {n m : ℕ} {p : GrowProgress} (q : GrowWorking b t n 
     pub take-free : {b' : List ℤ} (g : ℕ) (y : Bool) → holderAt (stateOf b) s ≡ 0
         → Becomes b b' (heldSide (stateOf b) s n g) → y ≡ eqb (weightOver (stateOf b) s) 0
         → GrowWorked b b' (set t (p .kept) (pos s)) n m
-        (record { kept = p .kept + 1; noted = p .noted; pushed = p .pushed; another = p .another || y })
+        (record { kept = p .kept + 1; noted = p .noted; pushed = p .pushed; another = calledIf y (p .another) })
         (takeSide n g (growWorkIn b t n m p) s)
     take-free {b'} g y z x e =
         let d : State = heldSide (stateOf b) s n g in

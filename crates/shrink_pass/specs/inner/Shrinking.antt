@@ -16,6 +16,7 @@ use Rattle.graph.specs.inner.Form.{Becomes}
 use Rattle.graph.specs.inner.Kept.{SameButHolders}
 use Rattle.pass.specs.Work.{Work, onState}
 use Rattle.pass.specs.Shrink.{closed, dropSide}
+use Rattle.pass.specs.inner.Another.{called}
 use Rattle.pass.specs.inner.Scratch.{noteLimit, ScratchHolds}
 use Rattle.shrink_pass.specs.declared.keep.ShrinkProgress.{ShrinkProgress}
 
@@ -29,7 +30,7 @@ pub record HasShrinkWork (b t : List ℤ) (m : ℕ) (p : ShrinkProgress) (w : Wo
   pub scratch : ScratchHolds t m (noteLimit (stateOf b)) (w .kept) (marks m (w .kept)) (w .noted)
   pub kept : p .kept ≡ length (w .kept)
   pub noted : p .noted ≡ length (w .noted)
-  pub another : p .another ≡ w .another
+  pub another : called (p .another) ≡ w .another
   pub inside : all (λ s. ltb s m) (w .kept) ≡ true
   pub once : distinct (w .kept) ≡ true
   pub ends : all (λ v. ltb v (vertexCount (stateOf b))) (w .noted) ≡ true

@@ -22,6 +22,7 @@ use Rattle.graph.specs.inner.Kept.{SameButHolders}
 use Rattle.graph.specs.laws.Members.{all-member, member-at, distinct-tail}
 use Rattle.pass.specs.Work.{Work, finishPass}
 use Rattle.pass.specs.Shrink.{emptyTops, shrinkPass}
+use Rattle.pass.specs.inner.Another.{called}
 use Rattle.pass.specs.inner.Once.{shrinkPassOnce, Alike}
 use Rattle.pass.specs.laws.Once.{shrink-alike}
 use Rattle.pass.specs.Scratch.{zeroScratch}
@@ -191,7 +192,7 @@ module _ {b₀ t₀ b t : List ℤ} {n m z : ℕ} {p : ShrinkProgress} (r : Read
 
   pub after-shrink : {b' t' : List ℤ} (o : ℕ) → o ≡ length (overgrownOf (stateOf b) n) → Becomes b₀ b (stateOf b)
       → Becomes b b' (withLists (stateOf b) n (numbersAt t 0 (p .kept)) (o - z) (numbersAt t 0 0))
-      → t' ≡ zeroScratch (length t) → AfterPass b₀ b' t₀ t' n (shrinkPass (stateOf b₀) n) (p .another)
+      → t' ≡ zeroScratch (length t) → AfterPass b₀ b' t₀ t' n (shrinkPass (stateOf b₀) n) (called (p .another))
   after-shrink o e first last clear =
       let long : length t ≡ scratchSize (stateOf b₀) = omega (arith, q .scratch .size, size, first .vertices, first .sides, r .formed .pairs) in
       record {

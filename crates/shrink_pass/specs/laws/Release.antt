@@ -17,6 +17,7 @@ use Rattle.graph.specs.laws.State.{kept-free-side, kept-free-vertex}
 use Rattle.graph.specs.inner.Kept.{SameButHolders}
 use Rattle.pass.specs.Work.{onState, keepOnce}
 use Rattle.pass.specs.Shrink.{closed, dropSide, dropStep, releaseSide}
+use Rattle.pass.specs.inner.Another.{calledIf}
 use Rattle.pass.specs.inner.Once.{releaseOnce}
 use Rattle.shrink_pass.specs.inner.Shrinking.{ShrinkWorking, ShrinkWorked, partSide, partVertex}
 use Rattle.shrink_pass.specs.laws.Shrinking.{does-none, does-then, does-same, does-state, does-call}
@@ -41,7 +42,7 @@ module _ {b t : List ℤ} {m : ℕ} {p : ShrinkProgress} (q : ShrinkWorking b t 
   pub does-drop-side : {b' t' : List ℤ} {p' : ShrinkProgress} (s : ℕ) (z : Bool) → Becomes b b' (freeSide (stateOf b) s)
       → z ≡ eqb (weightOver (stateOf b) s) 0
       → (ShrinkWorking b' t m p → ShrinkWorked b' t b' t' m p p' (λ w. keepOnce w (opposite s)))
-      → ShrinkWorked b t b' t' m p (record { kept = p' .kept; noted = p' .noted; another = p' .another || z })
+      → ShrinkWorked b t b' t' m p (record { kept = p' .kept; noted = p' .noted; another = calledIf z (p' .another) })
       (λ w. dropSide w s)
   unfolding dropSide
   does-drop-side s z e k f =

@@ -22,6 +22,7 @@ use Rattle.graph.specs.laws.Members.{distinct-length, all-member, member-at}
 use Rattle.pass.specs.Work.{Work, onState, keep, keepOnce, note, callAnother, startPass}
 use Rattle.pass.specs.Shrink.{belowTops, emptyTops, dropStep, closed, releaseSide, dropped}
 use Rattle.pass.specs.Scratch.{zeroScratch}
+use Rattle.pass.specs.inner.Another.{called}
 use Rattle.pass.specs.inner.Scratch.{noteLimit}
 use Rattle.pass.specs.inner.Free.{freeCount}
 use Rattle.pass.specs.inner.Once.{noteWith, noteEnd, shrinkStepOnce, releaseOnce, shrinkScannedOnce, shrinkPassOnce}
@@ -182,11 +183,11 @@ does-release-noted n d = does-same (λ w. fold (releaseOnce n) w (w .noted)) (λ
 
 -- no side kept, no vertex noted, no other pass called for
 abbrev pub nothing : ShrinkProgress
-nothing = record { kept = 0; noted = 0; another = false }
+nothing = record { kept = 0; noted = 0; another = 0 }
 
 shrink-start : (b t : List ℤ) (m n : ℕ) → Ready b t n → m ≡ sideCount (stateOf b)
     → HasShrinkWork b t m nothing (startPass (stateOf b) (belowTops (overgrownOf (stateOf b) n)))
-unfolding startPass all distinct
+unfolding startPass all distinct called
 shrink-start b t m n r e =
     record {
       state = refl;

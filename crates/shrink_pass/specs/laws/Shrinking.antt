@@ -19,6 +19,8 @@ use Rattle.graph.specs.laws.Row.{becomes-none, becomes-then}
 use Rattle.graph.specs.laws.State.{kept-refl, kept-trans, fold-more, fold-done}
 use Rattle.graph.specs.inner.Kept.{SameButHolders}
 use Rattle.graph.specs.laws.Members.{all-snoc, distinct-snoc, distinct-length}
+use Rattle.pass.specs.inner.Another.{calledIf}
+use Rattle.pass.specs.laws.Another.{called-if}
 use Rattle.pass.specs.Work.{Work, onState, keep, keepOnce, note, callAnother}
 use Rattle.pass.specs.laws.Scratch.{hold-first, hold-third, change-second, second-entry}
 use Rattle.shrink_pass.specs.inner.Shrinking.{marks, HasShrinkWork, ShrinkWorking, ShrinkWorked}
@@ -122,19 +124,19 @@ module _ {b t : List ℤ} {m : ℕ} {p : ShrinkProgress} (q : ShrinkWorking b t 
       }
 
   -- another pass is called for, if z
-  pub does-call : (z : Bool) → ShrinkWorked b t b t m p (record { kept = p .kept; noted = p .noted; another = p .another || z }) (λ w. callAnother w z)
+  pub does-call : (z : Bool) → ShrinkWorked b t b t m p (record { kept = p .kept; noted = p .noted; another = calledIf z (p .another) }) (λ w. callAnother w z)
   unfolding callAnother
   does-call z = still (λ w. callAnother w z) step
     where
       step : (w : Work) → HasShrinkWork b t m p w
-          → HasShrinkWork b t m (record { kept = p .kept; noted = p .noted; another = p .another || z }) (callAnother w z)
+          → HasShrinkWork b t m (record { kept = p .kept; noted = p .noted; another = calledIf z (p .another) }) (callAnother w z)
       step w h =
           record {
             state = h .state;
             scratch = h .scratch;
             kept = h .kept;
             noted = h .noted;
-            another = ap (λ x. x || z) (h .another);
+            another = called-if z (p .another) ∙ ap (λ x. x || z) (h .another);
             inside = h .inside;
             once = h .once;
             ends = h .ends;

@@ -1,16 +1,16 @@
 -- A row is written from its first place on: the places count up, whatever was written of it so far.
-use Prim.Native.Nat.{ℕ, _+_, _*_, _<_}
+use Prim.Native.Nat.{ℕ, _+_, _*_, _<_, _≤_}
 use native.Mathlib.Omega.{arith}
 use mathlib.Core.Path.{_≡_, sym, _∙_}
 use mathlib.Core.List.{List}
 use lib.IntN.{ℤ}
 use Rattle.graph.specs.State.{vertexCount, edgeCount, sideCount}
-use Rattle.graph.specs.Rows.{flagsRow, endRow, weightRow, originalRow}
+use Rattle.graph.specs.Rows.{flagsRow, endRow, weightRow, classRow, storeRow, originalRow}
 use Rattle.graph.specs.Layout.{vOf, eOf, nOf, lOf, stateOf}
 use Rattle.graph.specs.Form.{Laid}
 use Rattle.graph.specs.inner.Form.{Rowed}
 use Rattle.graph.specs.inner.Found.{Found}
-use Rattle.graph.specs.laws.Row.{vertex-found, side-found, edge-found, original-found}
+use Rattle.graph.specs.laws.Row.{vertex-found, side-found, edge-found, node-found, store-found, original-found}
 
 -- a block with a row written has its sizes
 record SameSizes (b₀ b : List ℤ) : Type 0 where
@@ -61,3 +61,32 @@ module _ {k : ℕ} {b₀ b : List ℤ} {w : List ℕ} (q : Laid b₀) (r : Rowed
       let p = original-found b₀ (q .sized) 0 (omega (arith, m, q .counted .edges)) .stands .place in
       let e : a + i ≡ 16 + 4 * vOf b + 11 * eOf b + 8 * nOf b + lOf b + i = omega (arith, f .stands .place, p, s .v, s .e, s .n, s .l) in
       rw e (original-found b (r .laid .sized) i (omega (arith, m, q .counted .edges, s .e)))
+
+  pub node-from : (j i a : ℕ) → j < 7 → i < stateOf b₀ .nodeLimit → Found b₀ (classRow + j) 0 a → Found b (classRow + j) i (a + i)
+  unfolding Laid
+  node-from j i a h m f =
+      let s = same-sizes in
+      let p = node-found b₀ (q .sized) j 0 h (omega (arith, m, q .counted .node-limit)) .stands .place in
+      let e : a + i ≡ 16 + 4 * vOf b + 11 * eOf b + j * nOf b + i = rw (s .v, s .e, s .n) (omega (arith, f .stands .place, p)) in
+      rw e (node-found b (r .laid .sized) j i h (omega (arith, m, q .counted .node-limit, s .n)))
+
+  -- the store begins where it did
+  pub store-begins : (a : ℕ) → 0 < stateOf b₀ .storeLimit → Found b₀ storeRow 0 a → Found b storeRow 0 a
+  unfolding Laid
+  store-begins a m f =
+      let s = same-sizes in
+      let p = store-found b₀ (q .sized) 0 (omega (arith, m, q .counted .store-limit)) .stands .place in
+      let e : a ≡ 16 + 4 * vOf b + 11 * eOf b + 7 * nOf b + 0 = omega (arith, f .stands .place, p, s .v, s .e, s .n) in
+      rw e (store-found b (r .laid .sized) 0 (omega (arith, m, q .counted .store-limit, s .l)))
+
+pub node-max : (b : List ℤ) → Laid b → stateOf b .nodeLimit ≤ 1024
+unfolding Laid
+node-max b q = omega arith
+
+-- word i of the store stands i places behind its first
+pub store-from : (b : List ℤ) (i a : ℕ) → Laid b → i < stateOf b .storeLimit → Found b storeRow 0 a → Found b storeRow i (a + i)
+unfolding Laid
+store-from b i a q m f =
+    let p = store-found b (q .sized) 0 (omega (arith, m, q .counted .store-limit)) .stands .place in
+    let e : a + i ≡ 16 + 4 * vOf b + 11 * eOf b + 7 * nOf b + i = omega (arith, f .stands .place, p) in
+    rw e (store-found b (q .sized) i (omega (arith, m, q .counted .store-limit)))

@@ -1,6 +1,7 @@
 -- How the code of the length answer keeps what the definitions in Scan speak of. A length z is kept as z + 2^42, so that a negative one needs no sign.
 use Prim.Native.Nat.{ℕ, _<_}
 use mathlib.Core.Path.{_≡_}
+use mathlib.Core.Bool.{Bool, true, false}
 use lib.IntN.{ℤ, subℕ}
 use Rattle.update_length.specs.declared.look.Look as LookType
 use Rattle.update_length.specs.declared.look.Look.the-variants.{Skip, Room, Meets}
@@ -56,6 +57,12 @@ unfoldable pub withinIn : ScanType.Scan → ℕ
 withinIn OpenEnded = 0
 withinIn (Within x) = x
 withinIn (Over a) = 0
+
+-- the scan has met its answer
+unfoldable pub isOver : Scan → Bool
+isOver open-ended = false
+isOver (within x) = false
+isOver (over a) = true
 
 -- r stands for k
 pub record Knows (r : ScanType.Scan) (k : Scan) : Type 0 where

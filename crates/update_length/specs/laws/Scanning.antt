@@ -1,19 +1,19 @@
 -- The loops of the length answer, and its limits.
 use Prim.Native.Nat.{ℕ, suc, _+_, _-_, _≤_, _<_, min}
 use native.Mathlib.Omega.{arith}
-use mathlib.Core.Path.{_≡_, refl, sym, _∙_}
+use mathlib.Core.Path.{_≡_, refl, sym, ap, _∙_}
 use mathlib.Core.Logic.{_≢_}
-use mathlib.Core.Bool.{Bool, true, false}
+use mathlib.Core.Bool.{Bool, true, false, true≢false}
 use mathlib.Core.List.{List, [], _∷_, map}
 use lib.IntN.{ℤ, pos}
 use lib.Dec.{eqb}
-use lib.ListN.{length, getD, take, length-map}
+use lib.ListN.{length, getD, take, drop, length-map, take-append-drop}
 use borrow.Author.Tests.{ne-eqb, lt-ltb, le-ltb}
 use Rattle.graph.specs.Basic.{if_then_else_, fold}
 use Rattle.graph.specs.State.{State, Overgrown, blossom, removed, removedPlace, vertexCount, sidesAt, classOf, boundaryOf, weightOver, grownOver}
 use Rattle.graph.specs.Word.{toNat, wordAt}
 use Rattle.graph.specs.Layout.{classFrom, overgrownFrom}
-use Rattle.graph.specs.laws.State.{fold-none, fold-more, fold-done}
+use Rattle.graph.specs.laws.State.{fold-none, fold-more, fold-done, fold-append}
 use Rattle.graph.specs.laws.Number.{word-entry}
 use Rattle.answers.specs.declared.Answer.{Answer}
 use Rattle.answers.specs.declared.MaxUpdateLength.{MaxUpdateLength}
@@ -21,14 +21,26 @@ use Rattle.answers.specs.declared.MaxUpdateLength.the-variants.{BlossomNeedExpa
 use Rattle.update_length.specs.declared.look.Look as LookType
 use Rattle.update_length.specs.declared.join.Scan as ScanType
 use Rattle.update_length.specs.declared.stop.Peers.the-variants.{NoPeer}
-use Rattle.update_length.specs.Scan.{Scan, over, Look, gapOf, look, withLook, scanStep, isEmpty, scanAnswer, scanBoundary, Peers, noPeer, stopStep, stopWith, stopAnswer, shrinkLimit}
-use Rattle.update_length.specs.inner.Length.{lengthEnd, lookOf, scanOf, withinIn, Shows, Knows, peersOf}
+use Rattle.update_length.specs.Scan.{Scan, open-ended, within, over, Look, gapOf, look, withLook, scanStep, isEmpty, scanAnswer, scanBoundary, Peers, noPeer, stopStep, stopWith, stopAnswer, shrinkLimit}
+use Rattle.update_length.specs.inner.Length.{lengthEnd, lookOf, scanOf, withinIn, isOver, Shows, Knows, peersOf}
 
 -- a boundary as a part of the block
 pub empty-is : (l : List ℤ) → isEmpty (map toNat l) ≡ eqb (length l) 0
 unfolding isEmpty
 empty-is [] = refl
 empty-is (x ∷ l) = sym (ne-eqb (suc (length l)) 0 (omega arith))
+
+-- a scan that has met its answer keeps it
+pub scan-over : (c : State) (n d : ℕ) (a : Answer) (l : List ℕ) → fold (scanStep c n d) (over a) l ≡ over a
+unfolding fold scanStep withLook
+scan-over c n d a [] = refl
+scan-over c n d a (s ∷ l) = scan-over c n d a l
+
+over-rest : (c : State) (n d : ℕ) (k : Scan) (l : List ℕ) → isOver k ≡ true → fold (scanStep c n d) k l ≡ k
+unfolding isOver
+over-rest c n d (over a) l h = scan-over c n d a l
+over-rest c n d open-ended l h = absurd (true≢false (sym h))
+over-rest c n d (within x) l h = absurd (true≢false (sym h))
 
 -- ---- the scan: what is known after the first i sides
 
@@ -49,6 +61,17 @@ module _ (c : State) (n d : ℕ) (start : ScanType.Scan) (l : List ℤ) where
       → Knows r (fold (scanStep c n d) (scanOf start) (take i (map toNat l)))
       → Knows r (fold (scanStep c n d) (scanOf start) (map toNat l))
   scan-all i h k = record { what = k .what ∙ fold-done (scanStep c n d) (scanOf start) (map toNat l) i (rw (length-map l toNat) h); fits = k .fits }
+
+  -- what is left changes nothing where the scan has met its answer
+  pub scan-met : (i : ℕ) {r : ScanType.Scan} → isOver (scanOf r) ≡ true
+      → Knows r (fold (scanStep c n d) (scanOf start) (take i (map toNat l)))
+      → Knows r (fold (scanStep c n d) (scanOf start) (map toNat l))
+  scan-met i {r} h k =
+      let m : List ℕ = map toNat l in
+      let e : fold (scanStep c n d) (scanOf start) m ≡ fold (scanStep c n d) (scanOf r) (drop i m) =
+      ap (fold (scanStep c n d) (scanOf start)) (sym (take-append-drop i m)) ∙ fold-append (scanStep c n d) (scanOf start) (take i m) (drop i m)
+      ∙ ap (λ x. fold (scanStep c n d) x (drop i m)) (sym (k .what)) in
+      record { what = sym (e ∙ over-rest c n d (scanOf r) (drop i m) h); fits = k .fits }
 
   -- the answer of a whole boundary
   pub scan-answer : {r : ScanType.Scan} {a : Answer} → map toNat l ≡ boundaryOf c n
@@ -102,12 +125,6 @@ limit-top y [] h = absurd (h refl)
 limit-top y (x ∷ o) h = refl
 
 -- ---- what is known is kept, and what is left
-
--- a scan that has met its answer keeps it
-pub scan-over : (c : State) (n d : ℕ) (a : Answer) (l : List ℕ) → fold (scanStep c n d) (over a) l ≡ over a
-unfolding fold scanStep withLook
-scan-over c n d a [] = refl
-scan-over c n d a (s ∷ l) = scan-over c n d a l
 
 -- where an edge is within its weight, what is left is a plain number
 pub gap-within : (c : State) (s : ℕ) → grownOver c s ≤ weightOver c s → gapOf c s ≡ pos (weightOver c s - grownOver c s)

@@ -18,6 +18,9 @@ finish-requires c κs = let p = c .before .before .before .before .before .befor
     let x = c .before .before .before .before .grow-work .ensures in
     (x .working, pass-room (p .0) (p .1) x)
 
+called-requires : tie.Need-called-requires
+called-requires c κs = search needs
+
 same-length : tie.Need-same-length
 same-length c = search needs
 
@@ -25,9 +28,9 @@ same-length-2 : tie.Need-same-length-2
 same-length-2 c = search needs
 
 returns : tie.Need-returns
-returns c = let w = c .before .before .before .before .before .before .before in
+returns c = let w = c .before .before .before .before .before .before .before .before in
     let s = w .before .before .before .before .before .before .before .before in
-    pass-after (s .pre .0) (w .grow-work .ensures) (c .before .before .finish .ensures)
+    rw (c .called .ensures) (pass-after (s .pre .0) (w .grow-work .ensures) (c .before .before .before .finish .ensures))
 
 same-length-3 : tie.Need-same-length-3
 same-length-3 c = search needs
@@ -43,6 +46,7 @@ grow-pass-spec =
     side-count-requires
     grow-work-requires
     finish-requires
+    called-requires
     same-length
     same-length-2
     returns

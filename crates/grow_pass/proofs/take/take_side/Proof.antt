@@ -20,6 +20,9 @@ put-requires c κs = search needs
 add-t16 : tie.Need-add-t16
 add-t16 c = search needs
 
+called-if-requires : tie.Need-called-if-requires
+called-if-requires c κs = search needs
+
 same-length : tie.Need-same-length
 same-length c = search needs
 
@@ -29,7 +32,7 @@ same-length-2 c = search needs
 returns : tie.Need-returns
 returns c = let s = c .before .before .before .before .before .before .before .before .before .before .before .before .before in
     let e = c .before .before .before .before .before .before .before .before in
-    rw (c .before .before .before .put .ensures)
+    rw (c .before .before .before .put .ensures, c .called-if .ensures)
     (take-free (s .pre .0) (s .pre .1) (s .args .s) (s .pre .2) (s .args .g) (eqb (e .weight .result) 0)
     (sym (e .before .before .before .holder .ensures .0) ∙ e .before .before .if1 .taken)
     (c .before .before .before .before .before .before .hold .ensures) (ap (λ x. eqb x 0) (e .weight .ensures .0)))
@@ -49,6 +52,7 @@ take-side-spec =
     hold-requires
     put-requires
     add-t16
+    called-if-requires
     same-length
     same-length-2
     returns

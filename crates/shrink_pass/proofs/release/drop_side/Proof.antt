@@ -25,6 +25,9 @@ keep-once-requires c κs =
       omega (arith, q .size),
     )
 
+called-if-requires : tie.Need-called-if-requires
+called-if-requires c κs = search needs
+
 same-length : tie.Need-same-length
 same-length c = search needs
 
@@ -33,11 +36,12 @@ same-length-2 c = search needs
 
 returns : tie.Need-returns
 returns c =
-    does-drop-side (c .before .before .before .before .before .before .before .before .before .before .pre .0) _ _
+    rw (c .called-if .ensures)
+    (does-drop-side (c .before .before .before .before .before .before .before .before .before .before .pre .0) _ _
     (c .before .before .before .before .before .free .ensures)
     (ap (λ x. eqb x 0) (c .before .before .before .before .before .before .before .weight .ensures .0))
     (λ k. rw (c .before .before .before .before .before .before .before .before .before .opposite .ensures .0)
-    at (c .before .before .keep-once .ensures _ k))
+    at (c .before .before .keep-once .ensures _ k)))
 
 pub drop-side-spec : {M : Type 1} → statement M
 drop-side-spec =
@@ -47,6 +51,7 @@ drop-side-spec =
     weight-requires
     free-requires
     keep-once-requires
+    called-if-requires
     same-length
     same-length-2
     returns)

@@ -39,6 +39,9 @@ replace-lists-requires c κs =
 clear-requires : tie.Need-clear-requires
 clear-requires c κs = (marked-of (c .before .before .before .before .before .before .before .before .before .shrink-work .ensures .1), omega arith)
 
+called-requires : tie.Need-called-requires
+called-requires c κs = search needs
+
 same-length : tie.Need-same-length
 same-length c = search needs
 
@@ -48,14 +51,13 @@ same-length-2 c = search needs
 returns : tie.Need-returns
 returns c =
     let s =
-    c .before .before .before .before .before .before .before .before .before .before .before .before .before .before .before .before .pre in
+    c .before .before .before .before .before .before .before .before .before .before .before .before .before .before .before .before .before .pre in
     let w =
-    c .before .before .before .before .before .before .before .before .before .before .before .shrink-work .ensures in
-    after-shrink (s .0) (s .1)
-    (c .before .before .before .before .before .before .before .before .before .before .before .before .before .before .side-count .ensures .0)
-    (s .2) (w .1) (c .before .before .before .before .before .before .before .overgrown-len .result)
-    (c .before .before .before .before .before .before .before .overgrown-len .ensures .0) (w .0)
-    (c .before .before .before .before .replace-lists .ensures) (c .before .clear .ensures)
+    c .before .before .before .before .before .before .before .before .before .before .before .before .shrink-work .ensures in
+    rw (c .called .ensures)
+    (after-shrink (s .0) (s .1) (c .before .before .before .before .before .before .before .before .before .before .before .before .before .before .before .side-count .ensures .0)
+    (s .2) (w .1) (c .before .before .before .before .before .before .before .before .overgrown-len .result) (c .before .before .before .before .before .before .before .before .overgrown-len .ensures .0) (w .0)
+    (c .before .before .before .before .before .replace-lists .ensures) (c .before .before .clear .ensures))
 
 pub shrink-all-spec : {M : Type 1} → statement M
 shrink-all-spec =
@@ -67,6 +69,7 @@ shrink-all-spec =
     sub-replace-lists
     replace-lists-requires
     clear-requires
+    called-requires
     same-length
     same-length-2
     returns)

@@ -1,12 +1,13 @@
 use native.Mathlib.Omega.{arith}
-use Prim.Native.Nat.{ℕ, _≤_, _-_}
+use Prim.Native.Nat.{ℕ, _+_, _≤_, _-_}
 use mathlib.Core.Path.{_≡_, ap, _∙_}
 use mathlib.Core.List.{List}
 use lib.ListN.{getD, set, length}
 use Rattle.graph.specs.inner.Form.{Rowed}
+use Rattle.graph.specs.Word.{wordAt}
 use Rattle.graph.specs.Layout.{rowsOf, row}
 use Rattle.graph.specs.Rows.{weightRow, originalRow}
-use Rattle.graph.specs.laws.Row.{rowed-put, rows-get}
+use Rattle.graph.specs.laws.Row.{rowed-copy, rows-get}
 use Rattle.graph.specs.laws.Table.{Tabled, tabled-none, tabled-more, tabled-all, table-itself, edge-row, original-row, rowed-other}
 use Rattle.store.specs.laws.From.{weight-from, original-from}
 use borrow.Author.Needs.{needs}
@@ -31,23 +32,19 @@ original-place-requires c κs = search needs
 loop-holds : tie.Need-loop-holds Inv-loop μ-loop
 loop-holds c = (search needs, tabled-none weightRow _ _ (c .before .before .before .before .before .before .pre))
 
-add-word : tie.Need-add-word Inv-loop μ-loop
-add-word c = search needs
+add-copy : tie.Need-add-copy Inv-loop μ-loop
+add-copy c = search needs
 
-word-requires : tie.Need-word-requires Inv-loop μ-loop
-word-requires c κs =
-    let f = original-from (c .before .before .before .before .before .before .before .before .before .pre) (c .before .before .loop .inv .1) (c .before .before .loop .i) _
-    (omega (arith, c .before .loop-test .taken, c .before .before .before .before .before .before .before .edge-count .ensures .0)) (c .before .before .before .original-place .ensures) in
-    f .within
+add-copy-2 : tie.Need-add-copy-2 Inv-loop μ-loop
+add-copy-2 c = search needs
 
-add-put : tie.Need-add-put Inv-loop μ-loop
-add-put c = search needs
-
-put-requires : tie.Need-put-requires Inv-loop μ-loop
-put-requires c κs =
-    let f = weight-from (c .before .before .before .before .before .before .before .before .before .before .before .pre) (c .before .before .before .before .loop .inv .1) (c .before .before .before .before .loop .i) _
-    (omega (arith, c .before .before .before .loop-test .taken, c .before .before .before .before .before .before .before .before .before .edge-count .ensures .0)) (c .before .before .before .before .before .before .before .edge-place .ensures) in
-    (f .within, c .before .word .ensures .1)
+copy-requires : tie.Need-copy-requires Inv-loop μ-loop
+copy-requires c κs =
+    let l = c .before .before .loop in
+    let s = c .before .before .before .before .before .before .before .before .before in
+    let w = weight-from (s .pre) (l .inv .1) (l .i) _ (omega (arith, c .before .loop-test .taken, c .before .before .before .before .before .before .before .edge-count .ensures .0)) (c .before .before .before .before .before .edge-place .ensures) in
+    let o = original-from (s .pre) (l .inv .1) (l .i) _ (omega (arith, c .before .loop-test .taken, c .before .before .before .before .before .before .before .edge-count .ensures .0)) (c .before .before .before .original-place .ensures) in
+    (w .within, o .within)
 
 add-i : tie.Need-add-i Inv-loop μ-loop
 add-i c = search needs
@@ -57,22 +54,19 @@ loop-less c = search needs
 
 loop-again : tie.Need-loop-again Inv-loop μ-loop
 loop-again c =
-    let s = c .before .before .before .before .before .before .before .before .before .before .before .before .before in
-    let l = c .before .before .before .before .before .before .loop in
-    let w = weight-from (c .before .before .before .before .before .before .before .before .before .before .before .before .before .pre) (c .before .before .before .before .before .before .loop .inv .1) (c .before .before .before .before .before .before .loop .i) _
-    (omega (arith, c .before .before .before .before .before .loop-test .taken, c .before .before .before .before .before .before .before .before .before .before .before .edge-count .ensures .0)) (c .before .before .before .before .before .before .before .before .before .edge-place .ensures) in
-    let o = original-from (c .before .before .before .before .before .before .before .before .before .before .before .before .before .pre) (c .before .before .before .before .before .before .loop .inv .1) (c .before .before .before .before .before .before .loop .i) _
-    (omega (arith, c .before .before .before .before .before .loop-test .taken, c .before .before .before .before .before .before .before .before .before .before .before .edge-count .ensures .0)) (c .before .before .before .before .before .before .before .original-place .ensures) in
+    let l = c .before .before .before .before .loop in
+    let s = c .before .before .before .before .before .before .before .before .before .before .before in
+    let w = weight-from (s .pre) (l .inv .1) (l .i) _ (omega (arith, c .before .before .before .loop-test .taken, c .before .before .before .before .before .before .before .before .before .edge-count .ensures .0)) (c .before .before .before .before .before .before .before .edge-place .ensures) in
+    let o = original-from (s .pre) (l .inv .1) (l .i) _ (omega (arith, c .before .before .before .loop-test .taken, c .before .before .before .before .before .before .before .before .before .edge-count .ensures .0)) (c .before .before .before .before .before .original-place .ensures) in
     let from : List ℕ = row (rowsOf (s .args .b .now)) originalRow in
-    let f : ℕ → ℕ = λ e. getD from e 0 in
     let z =
-    c .before .before .before .word .ensures .0 ∙ rows-get (l .b) originalRow (l .i) _ (o .stands)
-    ∙ ap (λ r. getD r (l .i) 0) (rowed-other originalRow (λ e. omega arith) (l .inv .1)) in
-    let r : Rowed weightRow (l .b) (c .before .put .last .0) (set (row (rowsOf (l .b)) weightRow) (l .i) (c .before .before .before .word .result)) =
-    rw (c .before .put .ensures) (rowed-put (l .b) weightRow (l .i) _ _ (l .inv .1 .laid) w) in (
+    rows-get (l .b) originalRow (l .i) _ (o .stands) ∙ ap (λ r. getD r (l .i) 0) (rowed-other originalRow (λ e. omega arith) (l .inv .1)) in
+    let r : Rowed weightRow (l .b) (c .before .copy .last .0)
+    (set (row (rowsOf (l .b)) weightRow) (l .i) (wordAt (l .b) (c .before .before .before .before .before .original-place .result + l .i))) =
+    rw (c .before .copy .ensures) (rowed-copy (l .b) weightRow (l .i) _ (l .b) _ (l .inv .1 .laid) w) in (
       search needs,
-      tabled-more weightRow (s .args .b .now) (l .b) (c .before .put .last .0) f (l .i) (omega arith) (l .inv .1)
-          (omega (arith, edge-row (s .args .b .now) (s .pre), c .before .before .before .before .before .loop-test .taken, c .before .before .before .before .before .before .before .before .before .before .before .edge-count .ensures .0)) (rw z at r),
+      tabled-more weightRow (s .args .b .now) (l .b) (c .before .copy .last .0) (λ e. getD from e 0) (l .i) (omega arith) (l .inv .1)
+          (omega (arith, edge-row (s .args .b .now) (s .pre), c .before .before .before .loop-test .taken, c .before .before .before .before .before .before .before .before .before .edge-count .ensures .0)) (rw z at r),
     )
 
 same-length : tie.Need-same-length Inv-loop μ-loop
@@ -99,10 +93,9 @@ restore-weights-spec =
     edge-place-requires
     original-place-requires
     loop-holds
-    add-word
-    word-requires
-    add-put
-    put-requires
+    add-copy
+    add-copy-2
+    copy-requires
     add-i
     loop-less
     loop-again

@@ -1,38 +1,48 @@
 use borrow.Author.Needs.{needs}
 use native.Mathlib.Omega.{arith}
-use Prim.Native.Nat.{_+_, _-_, _≤_}
-use mathlib.Core.Path.{_≡_}
+use Prim.Native.Nat.{_+_, _-_, _≤_, _<_}
+use mathlib.Core.Path.{_≡_, refl}
+use Rattle.graph.specs.Rows.{storeRow}
 use Rattle.graph.specs.Layout.{stateOf}
+use Rattle.graph.specs.inner.Found.{Found}
 use Rattle.graph.specs.laws.List.{store-max}
+use Rattle.store.specs.laws.From.{store-begins}
 use Rattle.store.specs.laws.Move.{wrote-none, fill-more}
 use Rattle.store.specs.inner.Wrote.{Filled}
 use Rattle.store.proofs.replace.fill.Statement.{statement}
 use Rattle.store.proofs.replace.fill.Tie as tie
 
 abbrev Inv-loop : tie.InvT-loop
-Inv-loop b₀ t q at n i₀ b i = (i ≤ n) × (stateOf b₀ .storeLimit ≤ 65536) × Filled b₀ b t q at i
+Inv-loop b₀ t q at n a i₀ b i = (i ≤ n) × (stateOf b₀ .storeLimit ≤ 65536) × Filled b₀ b t q at i × Found b storeRow 0 a
 
 abbrev μ-loop : tie.MeasureT-loop
-μ-loop b₀ t q at n i₀ b i = n - i
+μ-loop b₀ t q at n a i₀ b i = n - i
+
+returns : tie.Need-returns Inv-loop μ-loop
+returns c =
+    let s = c .before in
+    wrote-none 18 (s .args .b .now) (s .args .at) (s .args .at + s .args .n) _ (s .pre .0) (λ p x y. absurd (omega arith))
+
+store-place-requires : tie.Need-store-place-requires Inv-loop μ-loop
+store-place-requires c κs = search needs
 
 loop-holds : tie.Need-loop-holds Inv-loop μ-loop
-loop-holds c = (
-  omega arith,
-  store-max (c .args .b .now) (c .pre .0),
-  wrote-none 18 (c .args .b .now) (c .args .at) (c .args .at + 0) _ (c .pre .0) (λ p x y. absurd (omega arith)),
-)
+loop-holds c =
+    let s = c .before .before .before in (
+      omega arith,
+      store-max (s .args .b .now) (s .pre .0),
+      wrote-none 18 (s .args .b .now) (s .args .at) (s .args .at + 0) _ (s .pre .0) (λ p x y. absurd (omega arith)),
+      c .store-place .ensures,
+    )
 
-add-word : tie.Need-add-word Inv-loop μ-loop
-add-word c = search needs
+add-fill-at : tie.Need-add-fill-at Inv-loop μ-loop
+add-fill-at c = search needs
 
-word-requires : tie.Need-word-requires Inv-loop μ-loop
-word-requires c κs = search needs
+add-fill-at-2 : tie.Need-add-fill-at-2 Inv-loop μ-loop
+add-fill-at-2 c = search needs
 
-add-put-store : tie.Need-add-put-store Inv-loop μ-loop
-add-put-store c = search needs
-
-put-store-requires : tie.Need-put-store-requires Inv-loop μ-loop
-put-store-requires c κs = search needs
+fill-at-requires : tie.Need-fill-at-requires Inv-loop μ-loop
+fill-at-requires c κs = search needs
 
 add-i : tie.Need-add-i Inv-loop μ-loop
 add-i c = search needs
@@ -42,19 +52,23 @@ loop-less c = search needs
 
 loop-again : tie.Need-loop-again Inv-loop μ-loop
 loop-again c =
-    let s = c .before .before .before .before .before .before in
-    let a = c .before .before .before .before .before .loop in (
+    let a = c .before .before .before .before .loop in
+    let s = c .before .before .before .before .before .before .before .before in (
       omega arith,
       a .inv .1,
       fill-more (s .pre .0) (s .args .t .now) (s .args .q) (s .args .at) (a .i) _ (a .inv .2) (omega arith)
-          (c .before .before .before .word .ensures .0) (c .before .put-store .ensures),
+          refl (c .before .fill-at .ensures),
+      store-begins (a .inv .2 .still .laid) (c .before .fill-at .ensures) _ (omega arith) (a .inv .3),
     )
 
 same-length : tie.Need-same-length Inv-loop μ-loop
 same-length c = search needs
 
-returns : tie.Need-returns Inv-loop μ-loop
-returns c = let s = c .before .before in let z : c .before .loop .i ≡ s .args .n = omega arith in rw z at (c .before .loop .inv .2)
+returns-2 : tie.Need-returns-2 Inv-loop μ-loop
+returns-2 c =
+    let s = c .before .before .before .before .before in
+    let z : c .before .loop .i ≡ s .args .n = omega arith in
+    rw z at (c .before .loop .inv .2)
 
 pub fill-spec : {M : Type 1} → statement M
 fill-spec =
@@ -62,13 +76,14 @@ fill-spec =
     (tie.spec
     Inv-loop
     μ-loop
+    returns
+    store-place-requires
     loop-holds
-    add-word
-    word-requires
-    add-put-store
-    put-store-requires
+    add-fill-at
+    add-fill-at-2
+    fill-at-requires
     add-i
     loop-less
     loop-again
     same-length
-    returns)
+    returns-2)

@@ -1,38 +1,48 @@
 use borrow.Author.Needs.{needs}
 use native.Mathlib.Omega.{arith}
-use Prim.Native.Nat.{_+_, _-_, _≤_}
-use mathlib.Core.Path.{_≡_}
+use Prim.Native.Nat.{_+_, _-_, _≤_, _<_}
+use mathlib.Core.Path.{_≡_, refl}
+use Rattle.graph.specs.Rows.{storeRow}
 use Rattle.graph.specs.Layout.{stateOf}
+use Rattle.graph.specs.inner.Found.{Found}
 use Rattle.graph.specs.laws.List.{store-max}
+use Rattle.store.specs.laws.From.{store-begins}
 use Rattle.store.specs.laws.Move.{wrote-none, move-down-more}
 use Rattle.store.specs.inner.Wrote.{Copied}
 use Rattle.store.proofs.replace.move_down.Statement.{statement}
 use Rattle.store.proofs.replace.move_down.Tie as tie
 
 abbrev Inv-loop : tie.InvT-loop
-Inv-loop b₀ from to n i₀ b i = (i ≤ n) × (stateOf b₀ .storeLimit ≤ 65536) × Copied b₀ b from to i
+Inv-loop b₀ from to n a i₀ b i = (i ≤ n) × (stateOf b₀ .storeLimit ≤ 65536) × Copied b₀ b from to i × Found b storeRow 0 a
 
 abbrev μ-loop : tie.MeasureT-loop
-μ-loop b₀ from to n i₀ b i = n - i
+μ-loop b₀ from to n a i₀ b i = n - i
+
+returns : tie.Need-returns Inv-loop μ-loop
+returns c =
+    let s = c .before in
+    wrote-none 18 (s .args .b .now) (s .args .to) (s .args .to + s .args .n) _ (s .pre .0) (λ p x y. absurd (omega arith))
+
+store-place-requires : tie.Need-store-place-requires Inv-loop μ-loop
+store-place-requires c κs = search needs
 
 loop-holds : tie.Need-loop-holds Inv-loop μ-loop
-loop-holds c = (
-  omega arith,
-  store-max (c .args .b .now) (c .pre .0),
-  wrote-none 18 (c .args .b .now) (c .args .to) (c .args .to + 0) _ (c .pre .0) (λ p x y. absurd (omega arith)),
-)
+loop-holds c =
+    let s = c .before .before .before in (
+      omega arith,
+      store-max (s .args .b .now) (s .pre .0),
+      wrote-none 18 (s .args .b .now) (s .args .to) (s .args .to + 0) _ (s .pre .0) (λ p x y. absurd (omega arith)),
+      c .store-place .ensures,
+    )
 
-add-store-word : tie.Need-add-store-word Inv-loop μ-loop
-add-store-word c = search needs
+add-copy-at : tie.Need-add-copy-at Inv-loop μ-loop
+add-copy-at c = search needs
 
-store-word-requires : tie.Need-store-word-requires Inv-loop μ-loop
-store-word-requires c κs = search needs
+add-copy-at-2 : tie.Need-add-copy-at-2 Inv-loop μ-loop
+add-copy-at-2 c = search needs
 
-add-put-store : tie.Need-add-put-store Inv-loop μ-loop
-add-put-store c = search needs
-
-put-store-requires : tie.Need-put-store-requires Inv-loop μ-loop
-put-store-requires c κs = search needs
+copy-at-requires : tie.Need-copy-at-requires Inv-loop μ-loop
+copy-at-requires c κs = search needs
 
 add-i : tie.Need-add-i Inv-loop μ-loop
 add-i c = search needs
@@ -42,19 +52,23 @@ loop-less c = search needs
 
 loop-again : tie.Need-loop-again Inv-loop μ-loop
 loop-again c =
-    let s = c .before .before .before .before .before .before .before in
-    let a = c .before .before .before .before .before .before .loop in (
+    let a = c .before .before .before .before .loop in
+    let s = c .before .before .before .before .before .before .before .before in (
       omega arith,
       a .inv .1,
       move-down-more (s .pre .0) (s .args .from) (s .args .to) (a .i) _ (a .inv .2) (s .pre .1) (omega arith)
-          (c .before .before .before .store-word .ensures .0) (c .before .put-store .ensures),
+          refl (c .before .copy-at .ensures),
+      store-begins (a .inv .2 .still .laid) (c .before .copy-at .ensures) _ (omega arith) (a .inv .3),
     )
 
 same-length : tie.Need-same-length Inv-loop μ-loop
 same-length c = search needs
 
-returns : tie.Need-returns Inv-loop μ-loop
-returns c = let s = c .before .before in let z : c .before .loop .i ≡ s .args .n = omega arith in rw z at (c .before .loop .inv .2)
+returns-2 : tie.Need-returns-2 Inv-loop μ-loop
+returns-2 c =
+    let s = c .before .before .before .before .before in
+    let z : c .before .loop .i ≡ s .args .n = omega arith in
+    rw z at (c .before .loop .inv .2)
 
 pub move-down-spec : {M : Type 1} → statement M
 move-down-spec =
@@ -62,13 +76,14 @@ move-down-spec =
     (tie.spec
     Inv-loop
     μ-loop
+    returns
+    store-place-requires
     loop-holds
-    add-store-word
-    store-word-requires
-    add-put-store
-    put-store-requires
+    add-copy-at
+    add-copy-at-2
+    copy-at-requires
     add-i
     loop-less
     loop-again
     same-length
-    returns)
+    returns-2)

@@ -1,7 +1,8 @@
 use Rattle.graph.specs.State.{sideCount}
 use borrow.Author.Needs.{needs}
 use native.Mathlib.Omega.{arith}
-use Prim.Native.Nat.{_-_, _≤_}
+use Prim.Native.Nat.{_+_, _-_, _≤_}
+use mathlib.Core.Path.{sym, _∙_}
 use mathlib.Core.List.{map}
 use lib.ListN.{length, take}
 use Rattle.graph.specs.Basic.{fold}
@@ -10,7 +11,7 @@ use Rattle.graph.specs.Layout.{stateOf}
 use Rattle.update_length.specs.Scan.{scanStep}
 use Rattle.update_length.specs.inner.Length.{scanOf, Knows}
 use Rattle.graph.specs.laws.Number.{word-below}
-use Rattle.update_length.specs.laws.Scanning.{scan-none, scan-more, scan-all}
+use Rattle.update_length.specs.laws.Scanning.{scan-none, scan-more, scan-met, scan-all}
 use Rattle.update_length.proofs.scan.scan_sides.Statement.{statement}
 use Rattle.update_length.proofs.scan.scan_sides.Tie as tie
 
@@ -40,6 +41,19 @@ look-side-requires c κs =
 join-requires : tie.Need-join-requires Inv-loop μ-loop
 join-requires c κs = search needs
 
+is-over-requires : tie.Need-is-over-requires Inv-loop μ-loop
+is-over-requires c κs = search needs
+
+returns : tie.Need-returns Inv-loop μ-loop
+returns c =
+    let a = c .before .before .before .before .before .before .before .args in
+    let q = c .before .before .before .before .before .before .loop in
+    scan-met (stateOf (a .b .now)) (a .n) (a .d) (a .start) (a .boundary .now) (q .i + 1)
+    (sym (c .before .is-over .ensures) ∙ c .if1 .taken)
+    (scan-more (stateOf (a .b .now)) (a .n) (a .d) (a .start) (a .boundary .now) (q .i) _
+    (c .before .before .before .before .before .loop-test .taken) (c .before .before .before .before .word .ensures .0) (q .inv .0)
+    (c .before .before .before .look-side .ensures) (c .before .before .join .ensures))
+
 add-i : tie.Need-add-i Inv-loop μ-loop
 add-i c = search needs
 
@@ -48,16 +62,16 @@ loop-less c = search needs
 
 loop-again : tie.Need-loop-again Inv-loop μ-loop
 loop-again c =
-    let a = c .before .before .before .before .before .args in
-    let q = c .before .before .before .before .loop in (
+    let a = c .before .before .before .before .before .before .before .args in
+    let q = c .before .before .before .before .before .before .loop in (
       scan-more (stateOf (a .b .now)) (a .n) (a .d) (a .start) (a .boundary .now) (q .i) _
-          (c .before .before .before .loop-test .taken) (c .before .before .word .ensures .0) (q .inv .0)
-          (c .before .look-side .ensures) (c .join .ensures),
+          (c .before .before .before .before .before .loop-test .taken) (c .before .before .before .before .word .ensures .0) (q .inv .0)
+          (c .before .before .before .look-side .ensures) (c .before .before .join .ensures),
       omega arith,
     )
 
-returns : tie.Need-returns Inv-loop μ-loop
-returns c =
+returns-2 : tie.Need-returns-2 Inv-loop μ-loop
+returns-2 c =
     let a = c .before .before .args in
     scan-all (stateOf (a .b .now)) (a .n) (a .d) (a .start) (a .boundary .now) (c .before .loop .i) (omega arith)
     (c .before .loop .inv .0)
@@ -72,7 +86,9 @@ scan-sides-spec =
     word-requires
     look-side-requires
     join-requires
+    is-over-requires
+    returns
     add-i
     loop-less
     loop-again
-    returns)
+    returns-2)
