@@ -1,7 +1,6 @@
 // Replacing the lists of a node in the store. What must not move is left in its place.
 
 ghost use Prim.Native.Nat.{ℕ, _+_, _<_, _≤_};
-ghost use mathlib.Core.Path.{_≡_};
 ghost use lib.ListN.{length, getD, set};
 ghost use Rattle.graph.specs.Rows.{storeRow};
 ghost use Rattle.graph.specs.State.{nodeCount, overgrownOf};

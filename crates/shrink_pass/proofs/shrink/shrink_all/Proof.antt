@@ -56,7 +56,8 @@ returns c =
     c .before .before .before .before .before .before .before .before .before .before .before .before .shrink-work .ensures in
     rw (c .called .ensures)
     (after-shrink (s .0) (s .1) (c .before .before .before .before .before .before .before .before .before .before .before .before .before .before .before .side-count .ensures .0)
-    (s .2) (w .1) (c .before .before .before .before .before .before .before .before .overgrown-len .result) (c .before .before .before .before .before .before .before .before .overgrown-len .ensures .0) (w .0)
+    (s .2) (w .1) (c .before .before .before .before .before .before .before .before .overgrown-len .result)
+    (c .before .before .before .before .before .before .before .before .overgrown-len .ensures .0) (w .0)
     (c .before .before .before .before .before .replace-lists .ensures) (c .before .before .clear .ensures))
 
 pub shrink-all-spec : {M : Type 1} → statement M

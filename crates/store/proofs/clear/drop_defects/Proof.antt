@@ -36,7 +36,8 @@ word-requires c κs =
     let l = c .before .before .loop in
     let s = c .before .before .before .before .before .before .before in
     let f = vertex-from (s .pre) (l .inv .1) 0 (l .v) _ (omega arith)
-    (omega (arith, c .before .loop-test .taken, c .before .before .before .before .before .vertex-count .ensures .0)) (c .before .before .before .vertex-place .ensures) in
+    (omega (arith, c .before .loop-test .taken, c .before .before .before .before .before .vertex-count .ensures .0))
+    (c .before .before .before .vertex-place .ensures) in
     f .within
 
 add-put : tie.Need-add-put Inv-loop μ-loop
@@ -47,7 +48,12 @@ put-requires c κs =
     let l = c .before .before .before .before .loop in
     let s = c .before .before .before .before .before .before .before .before .before in
     let f = vertex-from (s .pre) (l .inv .1) 0 (l .v) _ (omega arith)
-    (omega (arith, c .before .before .before .loop-test .taken, c .before .before .before .before .before .before .before .vertex-count .ensures .0)) (c .before .before .before .before .before .vertex-place .ensures) in
+    (omega (
+      arith,
+      c .before .before .before .loop-test .taken,
+      c .before .before .before .before .before .before .before .vertex-count .ensures .0,
+    ))
+    (c .before .before .before .before .before .vertex-place .ensures) in
     (f .within, omega arith)
 
 add-v : tie.Need-add-v Inv-loop μ-loop
@@ -61,11 +67,21 @@ loop-again c =
     let l = c .before .before .before .before .before .before .loop in
     let s = c .before .before .before .before .before .before .before .before .before .before .before in
     let f = vertex-from (s .pre) (l .inv .1) 0 (l .v) _ (omega arith)
-    (omega (arith, c .before .before .before .before .before .loop-test .taken, c .before .before .before .before .before .before .before .before .before .vertex-count .ensures .0)) (c .before .before .before .before .before .before .before .vertex-place .ensures) in
+    (omega (
+      arith,
+      c .before .before .before .before .before .loop-test .taken,
+      c .before .before .before .before .before .before .before .before .before .vertex-count .ensures .0,
+    ))
+    (c .before .before .before .before .before .before .before .vertex-place .ensures) in
     let o : List ℕ = row (rowsOf (s .args .b .now)) flagsRow in
     let g : ℕ → ℕ = λ i. getD o i 0 % 2 in
     let h = vertex-row (s .args .b .now) 0 (s .pre) (omega arith) in
-    let j : l .v < length o = omega (arith, h, c .before .before .before .before .before .loop-test .taken, c .before .before .before .before .before .before .before .before .before .vertex-count .ensures .0) in
+    let j : l .v < length o = omega (
+      arith,
+      h,
+      c .before .before .before .before .before .loop-test .taken,
+      c .before .before .before .before .before .before .before .before .before .vertex-count .ensures .0,
+    ) in
     let z =
     c .before .before .before .word .ensures .0 ∙ rows-get (l .b) flagsRow (l .v) _ (f .stands)
     ∙ tabled-rest flagsRow (s .args .b .now) (l .b) g (l .v) (omega arith) (l .inv .1) j in
@@ -82,7 +98,13 @@ returns c =
     let s = c .before .before .before .before .before .before in
     let o : List ℕ = row (rowsOf (s .args .b .now)) flagsRow in
     let z : length o ≡ l .v =
-    omega (arith, vertex-row (s .args .b .now) 0 (s .pre) (omega arith), c .before .before .before .before .vertex-count .ensures .0, l .inv .0, c .loop-test .left) in
+    omega (
+      arith,
+      vertex-row (s .args .b .now) 0 (s .pre) (omega arith),
+      c .before .before .before .before .vertex-count .ensures .0,
+      l .inv .0,
+      c .loop-test .left,
+    ) in
     rw (← table-list (λ x. x % 2) o, z) (tabled-all flagsRow (s .args .b .now) (l .b) (λ i. getD o i 0 % 2) (l .v) (l .inv .1) (omega (arith, z)))
 
 pub drop-defects-spec : {M : Type 1} → statement M

@@ -42,8 +42,18 @@ copy-requires : tie.Need-copy-requires Inv-loop μ-loop
 copy-requires c κs =
     let l = c .before .before .loop in
     let s = c .before .before .before .before .before .before .before .before .before in
-    let w = weight-from (s .pre) (l .inv .1) (l .i) _ (omega (arith, c .before .loop-test .taken, c .before .before .before .before .before .before .before .edge-count .ensures .0)) (c .before .before .before .before .before .edge-place .ensures) in
-    let o = original-from (s .pre) (l .inv .1) (l .i) _ (omega (arith, c .before .loop-test .taken, c .before .before .before .before .before .before .before .edge-count .ensures .0)) (c .before .before .before .original-place .ensures) in
+    let w = weight-from (s .pre) (l .inv .1) (l .i) _ (omega (
+      arith,
+      c .before .loop-test .taken,
+      c .before .before .before .before .before .before .before .edge-count .ensures .0,
+    ))
+    (c .before .before .before .before .before .edge-place .ensures) in
+    let o = original-from (s .pre) (l .inv .1) (l .i) _ (omega (
+      arith,
+      c .before .loop-test .taken,
+      c .before .before .before .before .before .before .before .edge-count .ensures .0,
+    ))
+    (c .before .before .before .original-place .ensures) in
     (w .within, o .within)
 
 add-i : tie.Need-add-i Inv-loop μ-loop
@@ -56,8 +66,18 @@ loop-again : tie.Need-loop-again Inv-loop μ-loop
 loop-again c =
     let l = c .before .before .before .before .loop in
     let s = c .before .before .before .before .before .before .before .before .before .before .before in
-    let w = weight-from (s .pre) (l .inv .1) (l .i) _ (omega (arith, c .before .before .before .loop-test .taken, c .before .before .before .before .before .before .before .before .before .edge-count .ensures .0)) (c .before .before .before .before .before .before .before .edge-place .ensures) in
-    let o = original-from (s .pre) (l .inv .1) (l .i) _ (omega (arith, c .before .before .before .loop-test .taken, c .before .before .before .before .before .before .before .before .before .edge-count .ensures .0)) (c .before .before .before .before .before .original-place .ensures) in
+    let w = weight-from (s .pre) (l .inv .1) (l .i) _ (omega (
+      arith,
+      c .before .before .before .loop-test .taken,
+      c .before .before .before .before .before .before .before .before .before .edge-count .ensures .0,
+    ))
+    (c .before .before .before .before .before .before .before .edge-place .ensures) in
+    let o = original-from (s .pre) (l .inv .1) (l .i) _ (omega (
+      arith,
+      c .before .before .before .loop-test .taken,
+      c .before .before .before .before .before .before .before .before .before .edge-count .ensures .0,
+    ))
+    (c .before .before .before .before .before .original-place .ensures) in
     let from : List ℕ = row (rowsOf (s .args .b .now)) originalRow in
     let z =
     rows-get (l .b) originalRow (l .i) _ (o .stands) ∙ ap (λ r. getD r (l .i) 0) (rowed-other originalRow (λ e. omega arith) (l .inv .1)) in
@@ -66,7 +86,12 @@ loop-again c =
     rw (c .before .copy .ensures) (rowed-copy (l .b) weightRow (l .i) _ (l .b) _ (l .inv .1 .laid) w) in (
       search needs,
       tabled-more weightRow (s .args .b .now) (l .b) (c .before .copy .last .0) (λ e. getD from e 0) (l .i) (omega arith) (l .inv .1)
-          (omega (arith, edge-row (s .args .b .now) (s .pre), c .before .before .before .loop-test .taken, c .before .before .before .before .before .before .before .before .before .edge-count .ensures .0)) (rw z at r),
+          (omega (
+            arith,
+            edge-row (s .args .b .now) (s .pre),
+            c .before .before .before .loop-test .taken,
+            c .before .before .before .before .before .before .before .before .before .edge-count .ensures .0,
+          )) (rw z at r),
     )
 
 same-length : tie.Need-same-length Inv-loop μ-loop
@@ -78,7 +103,13 @@ returns c =
     let l = c .before .loop in
     let from : List ℕ = row (rowsOf (s .args .b .now)) originalRow in
     let z : length from ≡ l .i =
-    omega (arith, original-row (s .args .b .now) (s .pre), c .before .before .before .before .before .before .edge-count .ensures .0, l .inv .0, c .loop-test .left) in
+    omega (
+      arith,
+      original-row (s .args .b .now) (s .pre),
+      c .before .before .before .before .before .before .edge-count .ensures .0,
+      l .inv .0,
+      c .loop-test .left,
+    ) in
     rw (← table-itself from, z)
     (tabled-all weightRow (s .args .b .now) (l .b) (λ e. getD from e 0) (l .i) (l .inv .1)
     (omega (arith, edge-row (s .args .b .now) (s .pre), original-row (s .args .b .now) (s .pre), z)))

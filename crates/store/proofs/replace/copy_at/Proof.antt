@@ -1,9 +1,5 @@
 use native.Mathlib.Omega.{arith}
 use borrow.Author.Needs.{needs}
-use mathlib.Core.Path.{_≡_}
-use lib.ListN.{getD}
-use Rattle.graph.specs.Word.{wordAt}
-use Rattle.graph.specs.inner.Lists.{storeOf}
 use Rattle.graph.specs.laws.List.{store-max}
 use Rattle.graph.specs.laws.Row.{rowed-copy, rows-get}
 use Rattle.store.specs.laws.From.{store-from}

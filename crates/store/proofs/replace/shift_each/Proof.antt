@@ -29,8 +29,12 @@ node-place-requires c κs = search needs
 
 loop-holds : tie.Need-loop-holds Inv-loop μ-loop
 loop-holds c =
-    let s = c .before .before .before in
-    (omega arith, omega arith, wrote-none 15 (s .args .b .now) (s .args .lo) (s .args .lo) _ (s .pre .0) (λ p x y. absurd (omega arith)), node-max (s .args .b .now) (s .pre .0))
+    let s = c .before .before .before in (
+      omega arith,
+      omega arith,
+      wrote-none 15 (s .args .b .now) (s .args .lo) (s .args .lo) _ (s .pre .0) (λ p x y. absurd (omega arith)),
+      node-max (s .args .b .now) (s .pre .0),
+    )
 
 add-word : tie.Need-add-word Inv-loop μ-loop
 add-word c = search needs
@@ -84,11 +88,13 @@ loop-again : tie.Need-loop-again Inv-loop μ-loop
 loop-again c =
     let a = c .before .before .before .before .before .before .loop in
     let s = c .before .before .before .before .before .before .before .before .before .before in
-    let f = node-from (s .pre .0) (a .inv .2 .still) 4 (a .i) _ (omega arith) (omega arith) (c .before .before .before .before .before .before .before .node-place .ensures) in
+    let f = node-from (s .pre .0) (a .inv .2 .still) 4 (a .i) _ (omega arith) (omega arith)
+    (c .before .before .before .before .before .before .before .node-place .ensures) in
     let n = a .inv .2 .above (a .i) (omega arith) in
     let g = s .pre .4 (a .i) (a .inv .0) (c .before .before .before .before .before .loop-test .taken) in
     let e = c .before .before .before .word .ensures .0 ∙ rows-get (a .b) startRow (a .i) _ (f .stands) in
-    let r : Rowed startRow (a .b) (c .before .put .last .0) (set (row (rowsOf (a .b)) startRow) (a .i) (c .before .before .before .word .result + s .args .add - s .args .sub)) =
+    let r : Rowed startRow (a .b) (c .before .put .last .0) (set (row (rowsOf (a .b)) startRow) (a .i)
+    (c .before .before .before .word .result + s .args .add - s .args .sub)) =
     rw (c .before .put .ensures) (rowed-put (a .b) startRow (a .i) _ _ (a .inv .2 .still .laid) f) in (
       omega arith,
       omega arith,
