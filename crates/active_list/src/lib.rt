@@ -1,3 +1,5 @@
+#![tactic(auto)]
+
 // The active list of a block: who stands in it, who joins it, and its renewal.
 
 ghost use Rattle.std.specs.Prelude.{◌≡◌, true, [], ◌∷◌, ◌++◌, ◌<◌, ◌≤◌, length, get_or, set, take};

@@ -1,3 +1,5 @@
+#![tactic(auto)]
+
 // What a call answers, and an answer as numbers at the front of a lent list.
 
 ghost use Rattle.std.specs.Prelude.{◌≡◌, not, ◌≤◌, length};

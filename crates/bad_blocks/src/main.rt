@@ -1,3 +1,5 @@
+#![tactic(auto)]
+
 // What wrong lent memory gets. A sound block of 2 vertices, 1 edge, 1 of 2 nodes and a store of 4 words is spoiled in one way at a time; each
 // line says how and which refusal that is: 1 for a wrong length or size, 2 for a block that is not sound, 0 for none.
 

@@ -1,3 +1,5 @@
+#![tactic(auto)]
+
 // Insertion of a blossom.
 
 ghost use Rattle.std.specs.Prelude.{◌≡◌, ◌≢◌, not, true, false, ◌&&◌, map, ◌+◌, ◌<◌, ltb, length};

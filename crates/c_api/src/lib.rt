@@ -1,3 +1,5 @@
+#![tactic(auto)]
+
 // The calls on lent memory, exported for C. The host lends a list for the answer too: what is told stands at its front, in numbers,
 // and each call gives back how many. A list of two to four words is of a wrong length: refused 1, and nothing is called. One that is shorter has no
 // room even for that: nothing happens, and 0 is given back.

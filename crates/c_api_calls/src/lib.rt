@@ -1,3 +1,5 @@
+#![tactic(auto)]
+
 // Many calls on one block, exported for C. Memory is tested before the first of them, and then only where it is not certain that a call
 // kept the block sound.
 

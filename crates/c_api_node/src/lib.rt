@@ -1,3 +1,5 @@
+#![tactic(auto)]
+
 // Reading a node, exported for C as the calls of `c_api` are: what is told stands at the front of the answer list, in
 // numbers. Its class is the case of the answer, so that five numbers tell all of it.
 

@@ -1,3 +1,5 @@
+#![tactic(auto)]
+
 // Opening a blossom, exported for C as the calls of `c_api` are: what is told stands at the front of the answer list, in
 // numbers.
 

@@ -1,3 +1,5 @@
+#![tactic(auto)]
+
 // The calls on all clusters, exported for C as the calls of `c_api` are: what is told stands at the front of the answer list, in numbers.
 
 ghost use Rattle.std.specs.Prelude.{◌≤◌, length};

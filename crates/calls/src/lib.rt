@@ -1,3 +1,5 @@
+#![tactic(auto)]
+
 // The calls of the dual module on a sound block, with their refusals. What each answers is defined in specs/.
 
 pub mod refuse; // what refuses a call on a node

@@ -1,3 +1,5 @@
+#![tactic(auto)]
+
 // The program: records from standard input, lines to standard output. It reads what is there, up to a buffer, runs every whole record in it, writes
 // their lines, and only then reads again. Each record is the same step as in the exported call (record_step::one_record).
 

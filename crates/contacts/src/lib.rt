@@ -1,3 +1,5 @@
+#![tactic(auto)]
+
 // Contacts: the full edges that join two clusters, or a cluster and a virtual vertex, on a sound block.
 
 ghost use Rattle.std.specs.Prelude.{◌≡◌, true, ◌+◌, ◌*◌, ◌<◌, ◌≤◌, pos, length, set};

@@ -1,3 +1,5 @@
+#![tactic(auto)]
+
 // The calls on memory that a host lends. Block and scratch are tested first (refusals 1 and 2), and nothing is written before that; the
 // call itself is in module `sound`.
 

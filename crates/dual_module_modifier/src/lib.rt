@@ -1,3 +1,5 @@
+#![tactic(auto)]
+
 // A change of weights on memory that a host lends. Block, scratch and list are tested first (refusals 1 and 2), then what
 // refuses the change (3, 4, 16); until then nothing is written.
 

@@ -1,3 +1,5 @@
+#![tactic(auto)]
+
 // A node read on memory that a host lends. Block and scratch are tested first (refusals 1 and 2); the call itself is in module `sound`.
 // Nothing is written.
 

@@ -1,3 +1,5 @@
+#![tactic(auto)]
+
 // The calls that only read block and scratch, on memory that a host lends. Both are tested first (refusals 1 and 2), with the
 // length of a lent list; the call without a list is in module `sound`.
 

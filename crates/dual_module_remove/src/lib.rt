@@ -1,3 +1,5 @@
+#![tactic(auto)]
+
 // Opening a blossom on memory that a host lends. Block and scratch are tested first (refusals 1 and 2), then what refuses
 // the opening before it prepares (3, 6, 15, 9); until then nothing is written. Then the scratch is set to zero and the
 // core runs.

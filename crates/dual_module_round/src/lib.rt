@@ -1,3 +1,5 @@
+#![tactic(auto)]
+
 // The calls on all clusters, on memory that a host lends. A trial is worked on a second block, which becomes the block's copy first; at its end the
 // block is copied back to the second one where a node was refused, and the second to the block else.
 

@@ -1,3 +1,5 @@
+#![tactic(auto)]
+
 // A change of weights for one shot, on a sound block: what refuses it, and the weights that the edges take.
 
 ghost use Rattle.std.specs.Prelude.{◌≡◌, true, ◌<◌, length};

@@ -1,3 +1,5 @@
+#![tactic(auto)]
+
 // The gap of an edge: inner, over or left.
 
 ghost use Rattle.std.specs.Prelude.{◌≡◌, ◌<◌};

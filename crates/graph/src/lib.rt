@@ -1,3 +1,5 @@
+#![tactic(auto)]
+
 // The graph and everything that is stored of it in a block of words: reading and writing.
 
 pub mod words; // the only place that sees a signed number

@@ -1,3 +1,5 @@
+#![tactic(auto)]
+
 // The soundness test of the graph, and of the numbers that are stored of each vertex and each side, in three loops.
 
 ghost use Rattle.std.specs.Prelude.{◌≡◌, ◌&&◌, ◌*◌};

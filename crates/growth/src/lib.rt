@@ -1,3 +1,5 @@
+#![tactic(auto)]
+
 // Growth of a prepared node: what refuses it, and the growth itself.
 
 ghost use Rattle.std.specs.Prelude.{◌≡◌, true, map, ltb, ◌+◌, ◌<◌, ◌≤◌};

@@ -1,3 +1,5 @@
+#![tactic(auto)]
+
 // The call for a host: records in, lines out.
 
 ghost use Rattle.std.specs.Prelude.{◌≡◌, ◌+◌, ◌<◌, ◌≤◌, length};

@@ -1,3 +1,5 @@
+#![tactic(auto)]
+
 // The soundness test of the nodes: their numbers, their lists, the active list, and removed blossoms.
 
 pub mod active; // the active list

@@ -1,3 +1,5 @@
+#![tactic(auto)]
+
 // Lent memory: a graph is opened in it. The definitions are in crate `graph`.
 
 pub mod given; // the words that the host gives with a graph

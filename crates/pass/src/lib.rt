@@ -1,3 +1,5 @@
+#![tactic(auto)]
+
 // What the passes that prepare a node share. The definitions of all passes are in specs/.
 
 pub mod another; // whether another pass is called for

@@ -1,3 +1,5 @@
+#![tactic(auto)]
+
 // Preparation of a node: passes until none is called for.
 
 ghost use Rattle.std.specs.Prelude.{◌+◌, ◌≤◌};

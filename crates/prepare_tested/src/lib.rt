@@ -1,3 +1,5 @@
+#![tactic(auto)]
+
 // Preparation of a node with a test beside it: whether a sound state is certainly left sound.
 
 ghost use Rattle.std.specs.Prelude.{◌≡◌, ◌&&◌, ◌||◌, ◌+◌, ◌≤◌, eqb};

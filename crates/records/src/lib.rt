@@ -1,3 +1,5 @@
+#![tactic(auto)]
+
 // Records in, lines out. The definitions are in specs/.
 
 pub mod bytes; // numbers of bytes

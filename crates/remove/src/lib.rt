@@ -1,3 +1,5 @@
+#![tactic(auto)]
+
 // Opening a blossom, on a sound block with a scratch that is all zero.
 
 ghost use Rattle.std.specs.Prelude.{◌≡◌, ◌&&◌, ◌<◌, eqb};

@@ -1,3 +1,5 @@
+#![tactic(auto)]
+
 // Replays record streams. Standard input has frames: the bytes of records and of lines (4 bytes each, little-endian), then the records, then the
 // lines that they must give. Prints how many frames were replayed, and how many of them gave other lines.
 

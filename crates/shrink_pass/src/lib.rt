@@ -1,3 +1,5 @@
+#![tactic(auto)]
+
 // One pass of a shrinking preparation.
 
 pub mod keep; // sides are kept once, vertices noted

@@ -1,3 +1,5 @@
+#![tactic(auto)]
+
 // The program: for each small patch, by its number from 1 on, whether each of its vertices reaches vertex 3.
 
 ghost use Rattle.std.specs.Prelude.{◌≡◌, false, [], ◌∷◌, ◌≤◌, length, take};

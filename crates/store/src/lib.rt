@@ -1,3 +1,5 @@
+#![tactic(auto)]
+
 // What changes the nodes of a block and the store of their lists. The definitions are in crate `graph`.
 
 pub mod clear; // clearing a block

@@ -1,3 +1,5 @@
+#![tactic(auto)]
+
 // A table from another decoder: graph, defects, dual variables, growths, and the distances from each defect to every vertex get yes or no.
 // When it is yes is defined in specs/Verdict.
 

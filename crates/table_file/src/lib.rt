@@ -1,3 +1,5 @@
+#![tactic(auto)]
+
 // A table in a file: its sizes, how many words it has, and its verdict as a number. docs/TABLE-FILE.md has the form of a file.
 
 ghost use Rattle.std.specs.Prelude.{◌≡◌, ◌≤◌};

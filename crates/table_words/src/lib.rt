@@ -1,3 +1,5 @@
+#![tactic(auto)]
+
 // What a lab hands over: the words of a table from another decoder, and marks on the vertices of its graph.
 
 pub mod words; // reading the words that are handed over

@@ -1,3 +1,5 @@
+#![tactic(auto)]
+
 // The program: tables from other decoders, one after another from standard input, and for each a line with its verdict. The rows of distances
 // are read one at a time. docs/TABLE-FILE.md has the form of a file.
 

@@ -1,3 +1,5 @@
+#![tactic(auto)]
+
 // How far a node may grow: the scan of its boundary.
 
 pub mod lengths; // lengths, signed and halved

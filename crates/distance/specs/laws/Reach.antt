@@ -42,7 +42,7 @@ module _ (g : WeightedGraph) (ok : WellFormed g) (m : List ℕ) (r : ReachMarks 
 
   module _ (all : AllSpread g m) where
     -- the mark of its first vertex is at the last one of a walk
-    along : {u n : ℕ} (a : ℕ) → Walk g a u n → HasMark m a → HasMark m u
+    along : (a : ℕ) {u n : ℕ} → Walk g a u n → HasMark m a → HasMark m u
     along a trivial k = k
     along a (step s h p) k = all s h (along a p k)
 

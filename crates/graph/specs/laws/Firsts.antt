@@ -1,7 +1,7 @@
 -- The active list beside one to which a node is pushed whenever it may be new: the same list with the first of equal entries kept.
 use Rattle.std.specs.Prelude.{ℕ, ◌≡◌, refl, Bool, not, eqb}
 use Rattle.std.proofs.Math.Decide.{ℕ_discrete as dec_eq}
-use Rattle.std.proofs.Common.{ap, ◌∙◌, eq-eqb, ne_eqb}
+use Rattle.std.proofs.Common.{ap, ◌∙◌, sym, subst, eq-eqb, ne_eqb}
 use Rattle.std.proofs.Math.Logic.{by_cases}
 use Rattle.std.proofs.Math.Bool.{true, false}
 use mathlib.Core.List.{List, [], ◌∷◌, ◌++◌, append-nil}
@@ -51,7 +51,7 @@ pushed-joins (x ∷ l) n = ap (λ (k : List ℕ). x ∷ only (other x) k) (unfol
     step x n k =
         by_cases (dec_eq n x)
         (λ e.
-        let i : member n (x ∷ only (other x) k) ≡ true = rw e (member-head x (only (other x) k)) in
+        let i : member n (x ∷ only (other x) k) ≡ true = subst (λ (y : ℕ). member y (x ∷ only (other x) k) ≡ true) (sym e) (member-head x (only (other x) k)) in
         let no : only (other x) (n ∷ []) ≡ [] = unfold only in (rw (eq-eqb n x e) refl) in
         by-test (member n k)
         (λ h. unfold joined_to in (rw (i, h) refl))

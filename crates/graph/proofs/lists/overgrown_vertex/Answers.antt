@@ -1,0 +1,10 @@
+use native.Mathlib.Omega.{arith}
+use mathlib.Core.Path.{ap}
+use Rattle.graph.specs.State.{Overgrown}
+use Rattle.graph.specs.Layout.{overgrown_from}
+use borrow.Author.Rules.{rules}
+use Rattle.graph.proofs.lists.overgrown_vertex.Goals as goal
+
+pub returns : goal.returns
+unfolding overgrown_from
+returns c = (ap (λ (o : Overgrown). o.vertex) c.overgrown_word.ensures.0, omega arith)

@@ -1,0 +1,6 @@
+use Rattle.graph.specs.laws.SidesAt.{rising-of}
+use borrow.Author.Rules.{rules}
+use Rattle.graph.proofs.sides.sides_len.Goals as goal
+
+pub stretch_len-requires : goal.stretch_len-requires
+stretch_len-requires c = (c.requires.0.laid, rising-of c.args.b.now c.requires.0.wired, c.requires.1)

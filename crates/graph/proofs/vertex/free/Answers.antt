@@ -1,0 +1,8 @@
+use Rattle.graph.specs.State.{free_vertex}
+use Rattle.graph.specs.laws.Row.{becomes-then}
+use borrow.Author.Rules.{rules}
+use Rattle.graph.proofs.vertex.free.Goals as goal
+
+pub returns : goal.returns
+unfolding free_vertex
+returns c = let p = c.set_holder.ensures in becomes-then p (rw p.state at c.set_grandson.ensures)
