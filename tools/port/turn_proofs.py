@@ -17,25 +17,6 @@ NAME = r"[^\s(){}.;,@\"«»]+"
 PATH = re.compile(rf"(?<![^\s(){{}};,@\"«»←])([A-Za-z]\w*)((?:\.{NAME})+)")
 
 
-LENT = {}
-
-
-def read_lent(top):
-    """Of each function of the repository the parameters that it takes by &mut."""
-    for folder, dirs, fs in os.walk(os.path.join(top, "crates")):
-        dirs[:] = [d for d in dirs if d not in ("out", "proofs", "specs")]
-        for f in fs:
-            if not f.endswith(".rt"):
-                continue
-            crate = os.path.relpath(folder, os.path.join(top, "crates")).split(os.sep)[0]
-            text = open(os.path.join(folder, f), encoding="utf-8").read()
-            for m in re.finditer(r"\bfn (\w+)(?:<[^>]*>)?\(([^)]*)\)", text):
-                names = re.findall(r"(\w+): &(?:'\w+ )?mut\b", m[2])
-                names = (["self"] if re.search(r"&mut self", m[2]) else []) + names
-                mod = [] if f in ("lib.rt", "main.rt") else [f[:-3]]
-                LENT["::".join([crate] + mod + [m[1]])] = names
-
-
 def alike(name):
     return re.sub(r"[-_]", "", name).lower()
 
@@ -72,7 +53,9 @@ def blocks(text):
 
 
 class Body:
-    def __init__(self, rows, place, said, alias=None):
+    def __init__(self, rows, place, said, alias=None, helpers=None):
+        self.helpers = helpers or {}
+        self.deeper = 0
         self.rows, self.place, self.said = rows, place, said
         self.alias = dict(alias or {})
 
@@ -103,6 +86,7 @@ class Body:
         place = self.rows.up(place, up)
         if not fields:
             return "c"
+        fields[0] = {"pre": "requires"}.get(fields[0], fields[0])
         f = fields[0]
         if f == "type-inv":
             fields[0] = "type_inv"
@@ -115,22 +99,41 @@ class Body:
         fields = ["type_inv" if x == "type-inv" else x for x in fields]
         if fields[0] in ("args", "ranges") and len(fields) > 1:
             fields[1] = fields[1].replace("-", "_")
-        if len(fields) > 2 and fields[1] in ("new", "auto") and fields[2].isdigit():
-            fields[2] = self.lent(fields[0], int(fields[2])) or fields[2]
+        if len(fields) > 2 and fields[1] in ("new", "auto") and fields[2] in "01":
+            k = fields.index("0", 2)
+            fields[2:k + 1] = [self.lent(fields[0], k - 2) or fields[k]]
         return ".".join(["c"] + fields)
 
     def lent(self, step, n):
-        """The n-th parameter that the function called at this step takes by &mut."""
+        """The parameter at place n of the function called at this step."""
         for p in self.rows.data["places"]:
             if p[2][1] == step and p[3]:
-                names = LENT.get(p[3].split("<")[0]) or LENT.get("::".join(p[3].split("::")[-2:])) or []
+                names = self.rows.data["params"].get(p[3]) or []
                 return names[n] if n < len(names) else None
         return None
 
+    def helped(self, m):
+        """A call of a helper at a place above: its argument is the record of that place."""
+        if m[2] not in self.alias:
+            return m[0]
+        k, place = 0, self.place
+        while place is not None and place != self.helpers[m[1]]:
+            k, place = k + 1, self.rows.up(place, 1)
+        if place is None:
+            self.said.append(f"no way to {self.helpers[m[1]]} for {m[0]}")
+            return m[0]
+        return m[1] + " \1" + ".before" * (k + self.deeper)
+
     def turn(self, text):
         """Turns paths, and notes what a let binds to a place."""
+        for m in re.finditer(rf"\blet ({NAME}) =\s+([a-zA-Z]\w*)((?:\.before)*)\s+in\b", text):
+            if m[2] in self.alias:
+                self.alias[m[1]] = self.rows.up(self.alias[m[2]], m[3].count(".before"))
+        if self.helpers:
+            names = "|".join(map(re.escape, self.helpers))
+            text = re.sub(rf"(?<![\w.'-])({names}) (\w+)((?:\.before)*)(?![\w.'-])", self.helped, text)
         out, at = [], 0
-        for m in re.finditer(rf"\blet ({NAME}) = ([a-zA-Z]\w*)((?:\.before)*) in\b", text):
+        for m in re.finditer(rf"\blet ({NAME}) =\s+([a-zA-Z]\w*)((?:\.before)*)\s+in\b", text):
             if m[2] in self.alias:
                 out.append(PATH.sub(self.path, text[at:m.start()]))
                 self.alias[m[1]] = self.rows.up(self.alias[m[2]], m[3].count(".before"))
@@ -139,7 +142,7 @@ class Body:
                     at += 1
                 out.append("")
         out.append(PATH.sub(self.path, text[at:]))
-        text = "".join(out)
+        text = "".join(out).replace("c\2", "c")
         for a in self.alias:
             if a != "c":
                 text = re.sub(rf"(?<![\w.'-]){re.escape(a)}(?![\w'.-])", "c", text)
@@ -149,6 +152,7 @@ class Body:
 def turn(path, function, crate, rows, said):
     text = open(path, encoding="utf-8").read()
     bs = blocks(text)
+    helpers = {}
     uses, answers, invariants, others = [], [], [], []
     i = 0
     heads = {}
@@ -207,13 +211,13 @@ def turn(path, function, crate, rows, said):
                 kept.append(o)
                 continue
             new = rows.data["places_by_name"][k]
-            b = Body(rows, places[k][0], said, {m[2]: places[k][0]})
-            o = o.replace(f"tie.{m[3]}", new)
-            sig, nl, eqs = o.partition("\n")
-            o = b.turn(sig) + nl + b.turn(eqs)
+            o = re.sub(rf"tie\.{re.escape(m[3])}((?: (?:invariant|decreases)-loop\d*)*)", new, o)
+            at = next(i for i in range(len(o)) if re.match(rf"\n(?:unfolding|{re.escape(m[1])})(?![^\s])", o[i:]))
+            turned = [Body(rows, places[k][0], said, {m[2]: places[k][0]}, helpers).turn(x) for x in (o[:at], o[at:])]
+            o = "".join(turned).replace("\1", "c")
             if m[2] != "c":
                 o = re.sub(rf"(?<![\w.'-]){re.escape(m[2])}(?![\w'-])", "c", o)
-            helpers[m[1]] = new
+            helpers[m[1]] = places[k][0]
             line = f"use Rattle.{crate}.proofs.{'.'.join(function)}.Goals.{{{new}}}"
             uses += [] if line in uses else [line]
         kept.append(o)
@@ -256,10 +260,9 @@ def turn(path, function, crate, rows, said):
             for v in args[1:]:
                 if re.search(rf"(?<![\w'-]){re.escape(v)}(?![\w'-])", rest):
                     said_here.append(f"uses {v}")
-            b = Body(rows, place, said_here, {args[0]: place} if args else {})
-            turned = b.turn(rest)
-            for h, at in helpers.items():
-                turned = re.sub(rf"(?<![\w.'-]){re.escape(h)} c(?![\w.'-])", f"{h} (goal.at.{new} c).{at}", turned)
+            b = Body(rows, place, said_here, {args[0]: place} if args else {}, helpers)
+            b.deeper = int(rows.needs[k][0].startswith("element_copy_out"))
+            turned = b.turn(rest).replace("\1", "c")
             if args and args[0] != "c":
                 turned = re.sub(rf"(?<![\w.'-]){re.escape(args[0])}(?![\w'-])", "c", turned)
             lines.append(f"{new} {'c' if args else ''} =".replace("  ", " ") + turned)
@@ -288,7 +291,7 @@ def invariants_text(uses, inv, rows, mod, said, function):
             said.append(f"{function}: no loop for {what}")
             continue
         loop = loops[number - 1]
-        new = loop["name"] if isinstance(loop, dict) else loop[1]
+        new = loop[0][1]
         for g in group[1:]:
             m = re.match(rf"{re.escape(name)}((?:\s+[^\s=]+)*?)\s*=(?=\s)", g)
             if not m:
@@ -301,17 +304,16 @@ def invariants_text(uses, inv, rows, mod, said, function):
 
 
 def turned_names(args, body, k, rows, said, function):
-    last = args[-1:] and args
-    changed = {a for a in args if a + SUBS in args}
-    for a in args:
-        if a.endswith(SUBS):
-            new = "l.initial." + a[:-1].replace("-", "_")
-        elif a == "_":
-            continue
-        else:
-            new = "l." + a.replace("-", "_")
-        body = re.sub(rf"(?<![^\s(){{}};,@←]){re.escape(a)}(?![^\s(){{}}.;,])", "\0" + new, body)
-    return body.replace("\0", "")
+    variables, changed = rows.data["loops"][k][1], rows.data["changed"][k]
+    moving = [v for v, c in zip(variables, changed) if c]
+    if len(args) == len(variables) + len(moving):
+        to = ["l.initial." + v if c else "l." + v for v, c in zip(variables, changed)] + ["l." + v for v in moving]
+        pairs = list(zip(args, to))
+    else:
+        said.append(f"{function}: {args} for {variables} {changed}")
+        pairs = [(a, "l.initial." + a[:-1] if a.endswith(SUBS) else "l." + a.replace("-", "_")) for a in args]
+    table = {a: t for a, t in pairs if a != "_"}
+    return re.sub(rf"(?<![^\s(){{}};,@←])({NAME})", lambda m: table.get(m[1], m[1]), body)
 
 
 def main(argv):
@@ -319,7 +321,6 @@ def main(argv):
     name = os.path.basename(crate)
     only = argv[2:]
     said = []
-    read_lent(os.path.dirname(os.path.dirname(crate)))
     by = {}
     for key, data in names.items():
         m = re.match(rf"Rattle-{name}-proofs\.(.*)\.Lts[^.]*$", key)
@@ -339,7 +340,7 @@ def main(argv):
         path = os.path.join(folder, "Proof.antt")
         uses, out, inv, others, mod, loops = turn(path, function, name, rows, said)
         os.remove(path)
-        it = invariants_text(uses, inv, rows, mod, said, key)
+        it = invariants_text([u for u in uses if not u.startswith(f"use {mod}.Goals.")], inv, rows, mod, said, key)
         if it:
             with open(os.path.join(folder, "Invariants.antt"), "w") as f:
                 f.write(it)

@@ -11,7 +11,7 @@ ghost use Rattle.answers.specs.Numbers.{length_numbers, answer_numbers, Tells};
 use graph::words;
 
 // How far a node may grow, or what stands in its way: the Rust's MaxUpdateLength. Nodes and vertices are plain numbers.
-#[derive(Drop)]
+#[derive(Clone, Copy)]
 pub enum MaxUpdateLength {
     NonZeroGrow(i64, bool), // the node may grow so far; whether its boundary is empty
     Unlimited(bool), // NonZeroGrow of Weight::MAX: no limit; whether the boundary is empty
@@ -23,7 +23,7 @@ pub enum MaxUpdateLength {
 }
 
 // What a call answers. A later call whose answer is none of these has an enum of its own.
-#[derive(Drop)]
+#[derive(Clone, Copy)]
 pub enum Answer {
     Length(MaxUpdateLength),
     Done,

@@ -212,7 +212,7 @@ fn join_members(b: &mut [i64], t: &mut [i64], circle: &[i64], n: usize) -> usize
 }
 
 // How many sides a circle has joined, and whether the preparation of its members certainly left a sound state sound.
-#[derive(Drop)]
+#[derive(Clone, Copy)]
 pub struct CircleSides {
     pub count: usize,
     pub kept: bool,

@@ -13,7 +13,7 @@ use dual_module::sound::Known;
 use graph::words;
 
 // What is known after a call: whether the block is certainly sound, and whether the scratch is all zero.
-#[derive(Drop)]
+#[derive(Clone, Copy)]
 pub struct After {
     pub kept: bool,
     pub zero: bool,

@@ -16,14 +16,14 @@ pub mod each; // a call of a list, kind by kind
 pub mod kinds; // the call that four words are
 
 // What a list of calls answers.
-#[derive(Drop)]
+#[derive(Clone, Copy)]
 pub enum CallsAnswer {
     Made(usize, usize), // how many calls were made, and how often memory was tested
     Refused(usize), // the number of the refusal
 }
 
 // Where a list of calls stands: how many were made, how often memory was tested, what refuses it, and what is known of it.
-#[derive(Drop)]
+#[derive(Clone, Copy)]
 pub struct Standing {
     pub made: usize,
     pub tests: usize,

@@ -11,7 +11,7 @@ ghost use Rattle.calls.specs.Occupied.{vertex_decides, is_held, read_until_held,
 use graph::{side, sides, vertex};
 
 // What the test found, and how many sides it read.
-#[derive(Drop)]
+#[derive(Clone, Copy)]
 pub struct Looked {
     pub occupied: bool,
     pub read: usize,

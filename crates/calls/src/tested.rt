@@ -16,7 +16,7 @@ use graph::{node, words};
 use update_length::scan;
 
 // An answer, and whether a sound block was certainly kept sound.
-#[derive(Drop)]
+#[derive(Clone, Copy)]
 pub struct Tested {
     pub answer: Answer,
     pub kept: bool,

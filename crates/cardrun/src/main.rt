@@ -102,7 +102,7 @@ fn write_out(lines: &[u8], n: usize)
 }
 
 // Where a run stands, and where its next record begins.
-#[derive(Drop)]
+#[derive(Clone, Copy)]
 struct Place {
     run: Run,
     at: usize,

@@ -17,7 +17,7 @@ use graph::{node, words};
 
 // A call on memory that has passed the tests: its answer, whether the block is certainly sound after it, and whether the scratch is known
 // to be all zero.
-#[derive(Drop)]
+#[derive(Clone, Copy)]
 pub struct Known {
     pub answer: Answer,
     pub kept: bool,

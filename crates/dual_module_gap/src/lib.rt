@@ -10,7 +10,7 @@ use gap::Gap;
 pub mod sound; // the call behind the tests
 
 // What is told of an edge.
-#[derive(Drop)]
+#[derive(Clone, Copy)]
 pub enum GapAnswer {
     Found(Gap),
     Refused(usize),

@@ -8,7 +8,7 @@ ghost use Rattle.dual_module_node.specs.ReadNode.{ReadNodeCalled};
 pub mod sound; // the call behind the tests
 
 // What is told of a node. A parent is the blossom that the node lies in, as its number + 1, or 0 for none.
-#[derive(Drop)]
+#[derive(Clone, Copy)]
 pub enum NodeRead {
     Defect(usize, usize, usize, usize), // its vertex, grow state, parent and dual variable
     Blossom(usize, usize, usize, usize), // its first member, grow state, parent and dual variable

@@ -11,7 +11,7 @@ use calls::read;
 pub mod sound; // the call behind the tests
 
 // An answer, and how many numbers were written.
-#[derive(Drop)]
+#[derive(Clone, Copy)]
 pub struct Counted {
     pub answer: Answer,
     pub count: usize,

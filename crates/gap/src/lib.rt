@@ -11,7 +11,7 @@ ghost use Rattle.gap.specs.Gap.{is_inner, edge_gap};
 use graph::{edge, side};
 
 // What is left of an edge.
-#[derive(Drop)]
+#[derive(Clone, Copy)]
 pub enum Gap {
     Inner, // one node holds both sides
     Over(usize), // the growths exceed the weight by this

@@ -8,7 +8,7 @@ pub const DOWN: usize = 0;
 
 pub const UP: usize = 1;
 
-#[derive(Drop)]
+#[derive(Clone, Copy)]
 pub struct DualNode {
     pub class: usize, // a defect's vertex, or V + the first member of a blossom
     pub state: usize, // 0 Stay, 1 Grow, 2 Shrink

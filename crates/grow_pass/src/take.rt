@@ -12,7 +12,7 @@ ghost use Rattle.grow_pass.specs.inner.Growing.{grow_work_in, GrowWorking, GrowW
 use pass::another;
 
 // How far a growing pass has come: how many entries each section of its scratch has.
-#[derive(Drop)]
+#[derive(Clone, Copy)]
 pub struct GrowProgress {
     pub kept: usize, // sides of the new boundary
     pub noted: usize, // boundary sides that reach a vertex, one for each

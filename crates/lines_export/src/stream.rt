@@ -11,7 +11,7 @@ use records::bytes;
 use records::lines::Out;
 
 // Where a run stands after a record, how far its lines go, and where the next record begins.
-#[derive(Drop)]
+#[derive(Clone, Copy)]
 pub struct Step {
     pub run: Run,
     pub out: Out,

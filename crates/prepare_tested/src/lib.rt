@@ -15,7 +15,7 @@ pub mod own; // before a pass: what goes is the node's own
 pub mod held; // after the last pass: what is listed is held
 
 // How many passes a preparation has made, and whether a sound state was certainly left sound.
-#[derive(Drop)]
+#[derive(Clone, Copy)]
 pub struct Preparation {
     pub passes: usize,
     pub kept: bool,

@@ -9,7 +9,7 @@ use records::lines::Out;
 use records::setup::Setup;
 use records::told;
 
-#[derive(Drop)]
+#[derive(Clone, Copy)]
 pub struct Run {
     pub stage: usize, // 0 no record so far, 1 before the opening, 2 opened, 3 ended
     pub record: usize, // how many records were read
@@ -17,7 +17,7 @@ pub struct Run {
 }
 
 // Where a run stands after a record, and how far its lines go.
-#[derive(Drop)]
+#[derive(Clone, Copy)]
 pub struct After {
     pub run: Run,
     pub out: Out,

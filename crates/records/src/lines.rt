@@ -8,7 +8,7 @@ ghost use Rattle.records.specs.Write.{Written, LinesPut};
 use crate::text;
 
 // How many bytes are written, and whether a line did not fit.
-#[derive(Drop)]
+#[derive(Clone, Copy)]
 pub struct Out {
     pub at: usize,
     pub full: bool,

@@ -9,7 +9,7 @@ ghost use Rattle.records.specs.Setup.{from_sizes, counted_edge, stored_edge, edg
 use crate::bytes;
 use graph::words;
 
-#[derive(Drop)]
+#[derive(Clone, Copy)]
 pub struct Setup {
     pub v: usize,
     pub e: usize,

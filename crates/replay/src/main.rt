@@ -62,7 +62,7 @@ fn differs(x: usize) -> usize
 }
 
 // How many frames were read, and how many of them gave other lines.
-#[derive(Drop)]
+#[derive(Clone, Copy)]
 struct Count {
     frames: usize,
     differ: usize,

@@ -7,7 +7,7 @@ pub mod weights; // their weights, and the edges with them
 pub mod open; // the refusals and the call
 
 // What an opening from a sheet answers.
-#[derive(Drop)]
+#[derive(Clone, Copy)]
 pub enum SheetOpened {
     Opened(usize), // how many positive values became 0
     Refused(usize), // the number of the refusal

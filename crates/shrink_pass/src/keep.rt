@@ -13,7 +13,7 @@ use graph::words;
 use pass::scratch;
 
 // What the loops of a shrinking pass hand on.
-#[derive(Drop)]
+#[derive(Clone, Copy)]
 pub struct ShrinkProgress {
     pub kept: usize, // how many sides are kept
     pub noted: usize, // how many vertices are noted

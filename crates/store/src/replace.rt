@@ -142,7 +142,7 @@ fn put_sizes(b: &mut [i64], n: usize, c: usize, k: usize, o: usize, y: usize)
 // ---- the lists of a node
 
 // The lists of a node as they stand in the store.
-#[derive(Drop)]
+#[derive(Clone, Copy)]
 struct Place {
     start: usize, // where they start
     boundary: usize, // how many words the boundary has
@@ -151,7 +151,7 @@ struct Place {
 }
 
 // What they become.
-#[derive(Drop)]
+#[derive(Clone, Copy)]
 struct Change {
     boundary: usize, // how many words of the scratch, from 0 on, are the boundary
     stays: usize, // how many words of the stack, the lowest, stay

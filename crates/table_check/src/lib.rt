@@ -8,7 +8,7 @@ pub mod check; // the call
 pub mod stream; // the same row by row
 
 // The answer.
-#[derive(Drop)]
+#[derive(Clone, Copy)]
 pub enum Verdict {
     Yes,
     No,

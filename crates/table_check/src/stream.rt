@@ -10,7 +10,7 @@ use table_rows::rows;
 use table_words::words;
 
 // What is known after some rows; the vertices that a defect covers are marked in a list.
-#[derive(Drop)]
+#[derive(Clone, Copy)]
 pub struct Known {
     pub in_range: bool, // every number so far is
     pub passed: bool, // every test so far did

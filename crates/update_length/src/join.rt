@@ -9,7 +9,7 @@ use crate::look::Look;
 use answers::{Answer, MaxUpdateLength};
 
 // What a scan knows so far.
-#[derive(Drop)]
+#[derive(Clone, Copy)]
 pub enum Scan {
     OpenEnded, // no limit
     Within(usize), // the smallest length

@@ -16,7 +16,7 @@ use graph::dual_node::UP;
 use graph::{edge, node, side, vertex};
 
 // What one side says.
-#[derive(Drop)]
+#[derive(Clone, Copy)]
 pub enum Look {
     Skip,
     Room(usize), // a length that is left

@@ -14,7 +14,7 @@ use answers::MaxUpdateLength;
 use graph::{edge, node, rows, side, sides};
 
 // The Grow peers met at a defect's vertex.
-#[derive(Drop)]
+#[derive(Clone, Copy)]
 pub enum Peers {
     NoPeer,
     Peer(usize, usize), // a node and its grandson

@@ -1,0 +1,35 @@
+use Rattle.block_rows.specs.laws.Rows.{side-part, side-part-fits}
+use Rattle.graph.specs.laws.Row.{times_below}
+use Prim.Native.Nat.{◌+◌, ◌-◌, ◌*◌}
+use mathlib.Core.Path.{◌≡◌}
+use native.Mathlib.Omega.{arith}
+use borrow.Author.Rules.{rules}
+use Rattle.block_rows.proofs.parts.side_row.Goals as goal
+
+pub overflow_mul-a-2 : goal.overflow_mul-a-2
+overflow_mul-a-2 c = let p = times_below c.args.k c.side_count-n.result (omega arith) in omega (arith, p)
+
+pub overflow_add-a-2 : goal.overflow_add-a-2
+overflow_add-a-2 c = let p = times_below c.args.k c.side_count-n.result (omega arith) in omega (arith, p)
+
+pub overflow_add-e : goal.overflow_add-e
+overflow_add-e c = let p = times_below c.args.k c.side_count-n.result (omega arith) in omega (arith, p)
+
+pub offset_bounds-b-a : goal.offset_bounds-b-a
+offset_bounds-b-a c = let p = times_below c.args.k c.side_count-n.result (omega arith) in omega (arith, p)
+
+pub slice_bounds-result-end : goal.slice_bounds-result-end
+slice_bounds-result-end c =
+    let f =
+    side-part-fits c.args.b.now c.requires.0 c.vertex_count-v.result c.vertex_count-v.ensures.0 c.args.k
+    c.side_count-n.result c.requires.1 c.side_count-n.ensures.0 in
+    search rules
+
+pub returns : goal.returns
+returns c =
+    let n = c.side_count-n.result in
+    let a = 16 + 4 * c.vertex_count-v.result + c.args.k * n in
+    let z : a + n - a ≡ n = omega arith in
+    rw z
+    (side-part c.args.b.now c.requires.0 c.vertex_count-v.result c.vertex_count-v.ensures.0 c.args.k n c.requires.1
+    c.side_count-n.ensures.0)

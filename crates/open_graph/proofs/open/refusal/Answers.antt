@@ -1,0 +1,26 @@
+use mathlib.Core.Path.{◌≡◌}
+use mathlib.Core.Bool.{true, false, ◌&&◌}
+use lib.Dec.{eqb}
+use Rattle.graph.specs.Open.{sizes_ok}
+use Rattle.graph.specs.Opening.{edges_in}
+use Rattle.open_graph.specs.laws.Open.{first-passed, first-refusal}
+use borrow.Author.Rules.{rules}
+use Rattle.open_graph.proofs.open.refusal.Goals as goal
+
+pub lengths_refusal-requires : goal.lengths_refusal-requires
+lengths_refusal-requires c =
+    let a = c.args in
+    let z : sizes_ok a.v a.e a.n a.l && eqb (edges_in a.edges.now) a.e ≡ true = cc in
+    first-passed a.v a.e a.n a.l a.edges.now z
+
+pub returns-then-sizes_ok-edges_in : goal.returns-then-sizes_ok-edges_in
+returns-then-sizes_ok-edges_in c =
+    let a = c.args in
+    let z : sizes_ok a.v a.e a.n a.l && eqb (edges_in a.edges.now) a.e ≡ true = cc in
+    rw (first-refusal a.v a.e a.n a.l a.edges.now _ _, z) c.lengths_refusal.ensures
+
+pub returns-else-sizes_ok-edges_in : goal.returns-else-sizes_ok-edges_in
+returns-else-sizes_ok-edges_in c =
+    let a = c.args in
+    let z : sizes_ok a.v a.e a.n a.l && eqb (edges_in a.edges.now) a.e ≡ false = cc in
+    rw (first-refusal a.v a.e a.n a.l a.edges.now _ _, z)
