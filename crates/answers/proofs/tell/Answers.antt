@@ -1,0 +1,29 @@
+use mathlib.Core.Path.{sym, ap}
+use Rattle.answers.specs.Numbers.{answer_numbers}
+use Rattle.answers.specs.laws.Numbers.{tells_as}
+use borrow.Author.Rules.{rules}
+use Rattle.answers.proofs.tell.Goals as goal
+
+pub returns-in-Length : goal.returns-in-Length
+unfolding answer_numbers
+returns-in-Length c = tells_as c.tell_length.ensures (ap answer_numbers (sym c.a-1.given.1))
+
+pub returns-in-Done : goal.returns-in-Done
+unfolding answer_numbers
+returns-in-Done c = tells_as c.front.ensures (ap answer_numbers (sym c.enum_told-1.given.1))
+
+pub returns-in-Node : goal.returns-in-Node
+unfolding answer_numbers
+returns-in-Node c = tells_as c.front-in-Node.ensures (ap answer_numbers (sym c.a-in-Node-1.given.1))
+
+pub returns-in-Prepared : goal.returns-in-Prepared
+unfolding answer_numbers
+returns-in-Prepared c = tells_as c.front-in-Prepared.ensures (ap answer_numbers (sym c.a-in-Prepared-1.given.1))
+
+pub returns-in-Vertex : goal.returns-in-Vertex
+unfolding answer_numbers
+returns-in-Vertex c = tells_as c.front-in-Vertex.ensures (ap answer_numbers (sym c.a-in-Vertex-1.given.1))
+
+pub returns-in-Refused : goal.returns-in-Refused
+unfolding answer_numbers
+returns-in-Refused c = tells_as c.front-in-Refused.ensures (ap answer_numbers (sym c.a-in-Refused-1.given.1))

@@ -1,0 +1,13 @@
+use borrow.Author.Rules.{rules}
+use native.Mathlib.Omega.{arith}
+use Rattle.graph.specs.State.{down}
+use Rattle.graph.specs.Layout.{state_of}
+use Rattle.pass.specs.laws.Preparing.{remaining, preparing-falls, preparing-all}
+use Rattle.prepare_tested.specs.laws.Testing.{Testing, testing-none, testing-more, testing-all}
+use Rattle.prepare_tested.proofs.prepare_tested.Given as goal
+
+abbrev pub invariant-loop-more : goal.invariant-loop-more
+invariant-loop-more l = Testing l.initial.b l.b l.initial.t l.t l.n l.passes l.more l.freed_own
+
+abbrev pub decreases-loop-more : goal.decreases-loop-more
+decreases-loop-more l = remaining l.more down (state_of l.b)

@@ -1,0 +1,7 @@
+use Rattle.pass.specs.Shrink.{closed}
+use borrow.Author.Rules.{rules}
+use Rattle.shrink_pass.proofs.release.closed.Goals as goal
+
+pub returns : goal.returns
+unfolding closed
+returns c = cc

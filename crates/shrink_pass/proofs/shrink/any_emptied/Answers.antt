@@ -1,0 +1,34 @@
+use borrow.Author.Rules.{rules}
+use native.Mathlib.Omega.{arith}
+use Prim.Native.Nat.{◌-◌, ◌≤◌}
+use mathlib.Core.Path.{◌≡◌, refl, sym, ◌∙◌}
+use lib.ListN.{drop}
+use Rattle.graph.specs.Basic.{any}
+use Rattle.graph.specs.State.{boundary_of}
+use Rattle.graph.specs.Layout.{state_of}
+use Rattle.shrink_pass.specs.inner.Shrinking.{vertex_left}
+use Rattle.graph.specs.laws.Members.{any_here, any-on, any-end}
+use Rattle.shrink_pass.proofs.shrink.any_emptied.Goals as goal
+
+pub loop-i-init : goal.loop-i-init
+loop-i-init c = (omega arith, refl)
+
+pub returns-then-emptied : goal.returns-then-emptied
+returns-then-emptied c = let d = c.loop-i in
+    let a = c.args in
+    any_here (vertex_left (state_of a.b.now)) (boundary_of (state_of a.b.now) a.n) d.i d.invariant.1
+    (omega arith)
+    (rw c.boundary_side-s.ensures.0 at (sym c.emptied.ensures ∙ c.if-emptied.true))
+
+pub loop-i-preserved : goal.loop-i-preserved
+loop-i-preserved c = let d = c.loop-i in
+    let a = c.args in (
+      omega arith,
+      any-on (vertex_left (state_of a.b.now)) (boundary_of (state_of a.b.now) a.n) d.i d.invariant.1 (omega arith)
+          (rw c.boundary_side-s.ensures.0 at (sym c.emptied.ensures ∙ c.if-emptied.false)),
+    )
+
+pub returns : goal.returns
+returns c = let d = c.loop-i in
+    let a = c.args in
+    any-end (vertex_left (state_of a.b.now)) (boundary_of (state_of a.b.now) a.n) d.i d.invariant.1 (omega arith)

@@ -1,0 +1,8 @@
+use Rattle.store.specs.laws.Clear.{vertices-rewritten}
+use borrow.Author.Rules.{rules}
+use Rattle.store.proofs.clear.clear_vertices.Goals as goal
+
+pub returns : goal.returns
+returns c =
+    vertices-rewritten _ _ _ _ c.drop_defects.ensures
+    c.zero_vertices.ensures c.zero_vertices-2.ensures
