@@ -30,6 +30,8 @@ class Rows:
         self.at = [a[0] for a in data["asked_at"]]
         self.places = {p[0]: p for p in data["places"]}
 
+    code = ""
+
     def up(self, place, n):
         for _ in range(n):
             place = self.places[place][1] if place in self.places else None
@@ -65,7 +67,7 @@ class Body:
     def found(self, place, field):
         for p in self.rows.above(place):
             old, new = p[2]
-            if old and alike(old) == alike(field):
+            if old and alike(old) in (alike(field), alike(field.replace("_lem", "").replace("_Is", "_"))):
                 return new
         # the same name with a count that the place needs no more, or further down
         stem = re.sub(r"\d+$", "", alike(field))
@@ -88,9 +90,9 @@ class Body:
             return "c"
         fields[0] = {"pre": "requires"}.get(fields[0], fields[0])
         f = fields[0]
-        if f == "type-inv":
-            fields[0] = "type_inv"
-        elif f not in ("args", "requires", "ranges", "utf8", "type_inv", "auto"):
+        if f in ("type-inv", "well-formed"):
+            fields[0] = f.replace("-", "_")
+        elif f not in ("args", "requires", "ranges", "utf8", "type_inv", "well_formed", "auto"):
             new = self.step(place, f, m[0])
             if new is None:
                 self.said.append(f"no step for {m[0]}")
@@ -102,7 +104,25 @@ class Body:
         if len(fields) > 2 and fields[1] in ("new", "auto") and fields[2] in "01":
             k = fields.index("0", 2)
             fields[2:k + 1] = [self.lent(fields[0], k - 2) or fields[k]]
+        if len(fields) > 1 and fields[1] == "given":
+            fields = self.given(fields, place, m[0])
         return ".".join(["c"] + fields)
+
+    def given(self, fields, place, said):
+        """What an arm gives: 'is', and the parts of the variant by the pattern's names."""
+        arm = re.search(r"-in-([A-Z]\w*?)-\d+$", fields[0])
+        variant = arm[1] if arm else next((p[2][1][3:] for p in self.rows.above(self.place) if p[2][1].startswith("in-")), None)
+        if variant is None or len(fields) < 3:
+            self.said.append(f"no arm for {said}")
+            return fields
+        if fields[2] == "1":
+            return [f"in-{variant}", "is"] + fields[3:]
+        k = fields.index("0", 3) if "0" in fields[3:] else len(fields) - 1
+        found = re.search(rf"\b{variant}\(([^()]*)\)\s*(?:=>|=)", self.rows.code)
+        names = [x.strip() for x in found[1].split(",")] if found else []
+        n = k - 3
+        name = names[n] if n < len(names) and names[n] != "_" else f"field-{n}"
+        return [f"in-{variant}", name] + fields[k + 1:]
 
     def lent(self, step, n):
         """The parameter at place n of the function called at this step."""
@@ -129,6 +149,18 @@ class Body:
         for m in re.finditer(rf"\blet ({NAME}) =\s+([a-zA-Z]\w*)((?:\.before)*)\s+in\b", text):
             if m[2] in self.alias:
                 self.alias[m[1]] = self.rows.up(self.alias[m[2]], m[3].count(".before"))
+        for m in list(re.finditer(rf"\blet ({NAME}) =\s+([a-zA-Z]\w*(?:\.[^\s.()]+)*\.given)\s+in\b\s*", text)):
+            if m[2].split(".")[0] in self.alias:
+                text = text.replace(m[0], "")
+                text = re.sub(rf"(?<![\w.'-]){re.escape(m[1])}\.(?=[01])", m[2].replace("\\", "") + ".", text)
+        for m in re.finditer(rf"\blet ({NAME}) =\s+([a-zA-Z]\w*)((?:\.before)*)\.({NAME})\s+in\b", text):
+            if m[2] in self.alias:
+                step = self.step(self.rows.up(self.alias[m[2]], m[3].count(".before")), m[4], m[0])
+                def lent(x, step=step):
+                    k = len(x[3].split("."))
+                    return f"{x[1]}.{x[2]}." + (self.lent(step, k - 1) or x[3])
+                if step:
+                    text = re.sub(rf"(?<![\w.'-])({re.escape(m[1])})\.(new|auto)\.((?:1\.)*0)(?![\w'-])", lent, text)
         if self.helpers:
             names = "|".join(map(re.escape, self.helpers))
             text = re.sub(rf"(?<![\w.'-])({names}) (\w+)((?:\.before)*)(?![\w.'-])", self.helped, text)
@@ -143,6 +175,8 @@ class Body:
                 out.append("")
         out.append(PATH.sub(self.path, text[at:]))
         text = "".join(out).replace("c\2", "c")
+        # the test of an 'if' that says 'not' tells of what it denies
+        text = re.sub(r"not-(false|true) _ (c\.if-not-[^ ()]*\.\1)", r"\2", text)
         for a in self.alias:
             if a != "c":
                 text = re.sub(rf"(?<![\w.'-]){re.escape(a)}(?![\w'.-])", "c", text)
@@ -153,6 +187,11 @@ def turn(path, function, crate, rows, said):
     text = open(path, encoding="utf-8").read()
     bs = blocks(text)
     helpers = {}
+    if "to_z-of_z (sfits_of" in text:
+        text = text.replace("to_z-of_z (sfits_of", "to_z-of_z {w = w64} (sfits_of")
+        if not re.search(r"mir\.Syntax\.\{[^}]*w64", text):
+            text = "use mir.Syntax.{w64}\n" + text
+        bs = blocks(text)
     uses, answers, invariants, others = [], [], [], []
     i = 0
     heads = {}
@@ -316,6 +355,17 @@ def turned_names(args, body, k, rows, said, function):
     return re.sub(rf"(?<![^\s(){{}};,@←])({NAME})", lambda m: table.get(m[1], m[1]), body)
 
 
+def code_of(crate, function):
+    """The text of a function."""
+    for folder, _, fs in os.walk(os.path.join(crate, "src")):
+        for f in fs:
+            text = open(os.path.join(folder, f), encoding="utf-8").read()
+            m = re.search(rf"^( *)(?:pub )?(?:extern \"C\" )?fn {re.escape(function[-1])}\b.*?^\1\}}", text, re.S | re.M)
+            if m and (f[:-3] in function or f in ("lib.rt", "main.rt") or len(fs) == 1):
+                return m[0]
+    return ""
+
+
 def main(argv):
     names, crate = json.load(open(argv[0])), os.path.abspath(argv[1])
     name = os.path.basename(crate)
@@ -337,6 +387,7 @@ def main(argv):
             said.append(f"{key}: no names")
             continue
         rows = Rows(by[key])
+        rows.code = code_of(crate, function)
         path = os.path.join(folder, "Proof.antt")
         uses, out, inv, others, mod, loops = turn(path, function, name, rows, said)
         os.remove(path)

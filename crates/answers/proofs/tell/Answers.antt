@@ -6,24 +6,24 @@ use Rattle.answers.proofs.tell.Goals as goal
 
 pub returns-in-Length : goal.returns-in-Length
 unfolding answer_numbers
-returns-in-Length c = tells_as c.tell_length.ensures (ap answer_numbers (sym c.a-1.given.1))
+returns-in-Length c = tells_as c.tell_length.ensures (ap answer_numbers (sym c.in-Length.is))
 
 pub returns-in-Done : goal.returns-in-Done
 unfolding answer_numbers
-returns-in-Done c = tells_as c.front.ensures (ap answer_numbers (sym c.enum_told-1.given.1))
+returns-in-Done c = tells_as c.front.ensures (ap answer_numbers (sym c.in-Done.is))
 
 pub returns-in-Node : goal.returns-in-Node
 unfolding answer_numbers
-returns-in-Node c = tells_as c.front-in-Node.ensures (ap answer_numbers (sym c.a-in-Node-1.given.1))
+returns-in-Node c = tells_as c.front-in-Node.ensures (ap answer_numbers (sym c.in-Node.is))
 
 pub returns-in-Prepared : goal.returns-in-Prepared
 unfolding answer_numbers
-returns-in-Prepared c = tells_as c.front-in-Prepared.ensures (ap answer_numbers (sym c.a-in-Prepared-1.given.1))
+returns-in-Prepared c = tells_as c.front-in-Prepared.ensures (ap answer_numbers (sym c.in-Prepared.is))
 
 pub returns-in-Vertex : goal.returns-in-Vertex
 unfolding answer_numbers
-returns-in-Vertex c = tells_as c.front-in-Vertex.ensures (ap answer_numbers (sym c.a-in-Vertex-1.given.1))
+returns-in-Vertex c = tells_as c.front-in-Vertex.ensures (ap answer_numbers (sym c.in-Vertex.is))
 
 pub returns-in-Refused : goal.returns-in-Refused
 unfolding answer_numbers
-returns-in-Refused c = tells_as c.front-in-Refused.ensures (ap answer_numbers (sym c.a-in-Refused-1.given.1))
+returns-in-Refused c = tells_as c.front-in-Refused.ensures (ap answer_numbers (sym c.in-Refused.is))

@@ -1,6 +1,7 @@
 use mathlib.Core.Path.{sym, ap, ◌∙◌}
 use mathlib.Core.List.{[], ◌∷◌}
 use mir.Facts.{to_z-of_z}
+use mir.Syntax.{w64}
 use Rattle.answers.specs.declared.MaxUpdateLength.TheVariants.{NonZeroGrow}
 use Rattle.answers.specs.Numbers.{length_numbers}
 use Rattle.answers.specs.laws.Numbers.{tells_as}
@@ -10,33 +11,33 @@ use Rattle.answers.proofs.tell_length.Goals as goal
 pub returns-in-NonZeroGrow : goal.returns-in-NonZeroGrow
 returns-in-NonZeroGrow c =
     tells_as c.free.ensures
-    (ap (λ z. length_numbers (NonZeroGrow z c.m-1.given.0.1.0))
-    (to_z-of_z (sfits_of (rw c.m-1.given.1 at c.well-formed.1.0).1.1.1.1.0.1))
-    ∙ ap length_numbers (sym c.m-1.given.1))
+    (ap (λ z. length_numbers (NonZeroGrow z c.in-NonZeroGrow.e))
+    (to_z-of_z {w = w64} (sfits_of (rw c.in-NonZeroGrow.is at c.well_formed.1.0).1.1.1.1.0.1))
+    ∙ ap length_numbers (sym c.in-NonZeroGrow.is))
 
 pub returns-in-Unlimited : goal.returns-in-Unlimited
 unfolding length_numbers
 returns-in-Unlimited c =
     tells_as c.front.ensures
     (ap (λ f. 1 ∷ f ∷ []) c.flag.ensures.0
-    ∙ ap length_numbers (sym c.m-in-Unlimited-1.given.1))
+    ∙ ap length_numbers (sym c.in-Unlimited.is))
 
 pub returns-in-Conflicting : goal.returns-in-Conflicting
 unfolding length_numbers
-returns-in-Conflicting c = tells_as c.front-in-Conflicting.ensures (ap length_numbers (sym c.m-in-Conflicting-1.given.1))
+returns-in-Conflicting c = tells_as c.front-in-Conflicting.ensures (ap length_numbers (sym c.in-Conflicting.is))
 
 pub returns-in-TouchingVirtual : goal.returns-in-TouchingVirtual
 unfolding length_numbers
-returns-in-TouchingVirtual c = tells_as c.front-in-TouchingVirtual.ensures (ap length_numbers (sym c.m-in-TouchingVirtual-1.given.1))
+returns-in-TouchingVirtual c = tells_as c.front-in-TouchingVirtual.ensures (ap length_numbers (sym c.in-TouchingVirtual.is))
 
 pub returns-in-BlossomNeedExpand : goal.returns-in-BlossomNeedExpand
 unfolding length_numbers
-returns-in-BlossomNeedExpand c = tells_as c.front-in-BlossomNeedExpand.ensures (ap length_numbers (sym c.m-in-BlossomNeedExpand-1.given.1))
+returns-in-BlossomNeedExpand c = tells_as c.front-in-BlossomNeedExpand.ensures (ap length_numbers (sym c.in-BlossomNeedExpand.is))
 
 pub returns-in-VertexShrinkStop : goal.returns-in-VertexShrinkStop
 unfolding length_numbers
-returns-in-VertexShrinkStop c = tells_as c.front-in-VertexShrinkStop.ensures (ap length_numbers (sym c.m-in-VertexShrinkStop-1.given.1))
+returns-in-VertexShrinkStop c = tells_as c.front-in-VertexShrinkStop.ensures (ap length_numbers (sym c.in-VertexShrinkStop.is))
 
 pub returns-in-VertexShrinkStopPeer : goal.returns-in-VertexShrinkStopPeer
 unfolding length_numbers
-returns-in-VertexShrinkStopPeer c = tells_as c.front-in-VertexShrinkStopPeer.ensures (ap length_numbers (sym c.m-in-VertexShrinkStopPeer-1.given.1))
+returns-in-VertexShrinkStopPeer c = tells_as c.front-in-VertexShrinkStopPeer.ensures (ap length_numbers (sym c.in-VertexShrinkStopPeer.is))

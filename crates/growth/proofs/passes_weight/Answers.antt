@@ -20,15 +20,13 @@ returns-in-Inner c =
 pub returns-in-Over : goal.returns-in-Over
 returns-in-Over c =
     let a = c.args in
-    let x = c.enum_told-in-Over-1.given in
-    let e = over-side (state_of a.b.now) a.s x.0.0 (sym x.1 ∙ c.edge_gap.ensures) in
+    let e = over-side (state_of a.b.now) a.s c.in-Over.field-0 (sym c.in-Over.is ∙ c.edge_gap.ensures) in
     passes-other (state_of a.b.now) a.n a.l a.s c.opposite-o.ensures.0 c.holder.ensures.0
-    c.if-holder-n.false (passes_over _ _ x.0.0 _ e.0 e.1)
+    c.if-holder-n.false (passes_over _ _ c.in-Over.field-0 _ e.0 e.1)
 
 pub returns-in-Left : goal.returns-in-Left
 returns-in-Left c =
     let a = c.args in
-    let x = c.x-1.given in
-    let e = left-side (state_of a.b.now) a.s x.0.0 (sym x.1 ∙ c.edge_gap.ensures) in
+    let e = left-side (state_of a.b.now) a.s c.in-Left.x (sym c.in-Left.is ∙ c.edge_gap.ensures) in
     passes-other (state_of a.b.now) a.n a.l a.s c.opposite-o.ensures.0 c.holder.ensures.0
     c.if-holder-n.false (passes-left _ _ _ _ e)

@@ -28,6 +28,7 @@ no_edge = record { left = 0; right = 0; weight = 0 }
 
 -- what all entries pass, an entry passes
 pub all-entry : {A : Type 0} (p : A → Bool) {x : A} {l : List A} → all p l ≡ true → Memᴰ x l → p x ≡ true
+all-entry {A = A} p {l = []} h m = elim m [ ]
 all-entry p {l = y ∷ ys} h (Memᴰ.head e) = rw e (all_first p y ys h)
 all-entry p {l = y ∷ ys} h (Memᴰ.tail m) = all-entry p (all_others p y ys h) m
 

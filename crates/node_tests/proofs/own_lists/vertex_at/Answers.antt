@@ -12,7 +12,7 @@ use Rattle.node_tests.proofs.own_lists.vertex_at.Goals as goal
 
 pub number-requires : goal.number-requires
 number-requires c = let b = c.args.b.now in
-    let p = c.entry_IsPlace in
+    let p = c.entry_place in
     let x = get_or (store_of b) p.result 0 in
     let e : over_sound (state_of b) (overgrown_from x) ≡ true = rw p.ensures.0 c.requires.5 in
     let h = entry-word (state_of b) x e in
@@ -20,7 +20,7 @@ number-requires c = let b = c.args.b.now in
 
 pub returns : goal.returns
 returns c = let b = c.args.b.now in
-    let p = c.entry_IsPlace in
+    let p = c.entry_place in
     let x = get_or (store_of b) p.result 0 in
     let e : over_sound (state_of b) (overgrown_from x) ≡ true = rw p.ensures.0 c.requires.5 in
     let f = c.number.ensures ∙ c.requires.4.words p.result p.ensures.1 in

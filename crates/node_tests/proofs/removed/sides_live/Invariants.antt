@@ -12,7 +12,7 @@ use borrow.Author.Rules.{rules}
 use Rattle.node_tests.proofs.removed.sides_live.Given as goal
 
 abbrev pub invariant-loop-s : goal.invariant-loop-s
-invariant-loop-s l = (l.s ≤ l.c) × (all_below (λ l.s. live_or_none (state_of l.b) (holder_at (state_of l.b) l.s)) l.s ≡ true)
+invariant-loop-s l = (l.s ≤ l.c) × (all_below (λ x. live_or_none (state_of l.b) (holder_at (state_of l.b) x)) l.s ≡ true)
 
 abbrev pub decreases-loop-s : goal.decreases-loop-s
 decreases-loop-s l = l.c - l.s

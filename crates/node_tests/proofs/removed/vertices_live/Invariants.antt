@@ -12,7 +12,7 @@ use borrow.Author.Rules.{rules}
 use Rattle.node_tests.proofs.removed.vertices_live.Given as goal
 
 abbrev pub invariant-loop-v : goal.invariant-loop-v
-invariant-loop-v l = (l.v ≤ l.c) × (all_below (λ l.v. live_or_none (state_of l.b) (vertex_holder_at (state_of l.b) l.v)) l.v ≡ true)
+invariant-loop-v l = (l.v ≤ l.c) × (all_below (λ x. live_or_none (state_of l.b) (vertex_holder_at (state_of l.b) x)) l.v ≡ true)
 
 abbrev pub decreases-loop-v : goal.decreases-loop-v
 decreases-loop-v l = l.c - l.v

@@ -22,19 +22,19 @@ use Rattle.sheet.proofs.open.refusal.Goals as goal
 
 sized : (c : Else-not-sizes_ok-edges_in) → let a = c.args in
     sizes_ok a.v a.e a.n a.l && eqb (edges_in a.edges.now) a.e ≡ true
-sized c = rw (← c.sizes_ok.ensures, ← c.edges_in.ensures) (not-false _ c.if-not-sizes_ok-edges_in.false)
+sized c = rw (← c.sizes_ok.ensures, ← c.edges_in.ensures) c.if-not-sizes_ok-edges_in.false
 
 fitting : (c : Else-not-lengths_fit) → let a = c.args in
     fits a.b.now a.t.now a.v a.e a.n a.l && eqb (length a.sheet.now) a.e ≡ true
-fitting c = sym c.lengths_fit.ensures ∙ not-false _ c.if-not-lengths_fit.false
+fitting c = sym c.lengths_fit.ensures ∙ c.if-not-lengths_fit.false
 
 vertices : (c : Else-not-virtuals_ok) → let a = c.args in
     all (λ x. ltb x a.v) (virtuals_from a.virtuals.now) ≡ true
-vertices c = sym c.virtuals_ok.ensures ∙ not-false _ c.if-not-virtuals_ok.false
+vertices c = sym c.virtuals_ok.ensures ∙ c.if-not-virtuals_ok.false
 
 ended : (c : Else-not-edges-e) → let a = c.args in
     eqb (length a.edges.now) (3 * a.e) && all (ends_ok a.v) (edges_from a.edges.now) ≡ true
-ended c = rw (← c.ends_ok.ensures) (not-false _ c.if-not-edges-e.false)
+ended c = rw (← c.ends_ok.ensures) c.if-not-edges-e.false
 
 small : (c : Else-not-virtuals_ok) → let a = c.args in
     (a.e ≤ 4096) × (edges_in a.edges.now ≡ a.e)
@@ -49,7 +49,7 @@ unfolding sheet_refusal
 returns-then-not-sizes_ok-edges_in c =
     let a = c.args in
     let z : sizes_ok a.v a.e a.n a.l && eqb (edges_in a.edges.now) a.e ≡ false =
-    rw (← c.sizes_ok.ensures, ← c.edges_in.ensures) (not-true _ c.if-not-sizes_ok-edges_in.true) in
+    rw (← c.sizes_ok.ensures, ← c.edges_in.ensures) c.if-not-sizes_ok-edges_in.true in
     rw z
 
 pub lengths_fit-requires : goal.lengths_fit-requires
@@ -57,12 +57,12 @@ lengths_fit-requires c = let a = c.args in (first-passed a.v a.e a.n a.l a.edges
 
 pub returns-then-not-lengths_fit : goal.returns-then-not-lengths_fit
 unfolding sheet_refusal
-returns-then-not-lengths_fit c = rw (sized c.before.before, sym c.lengths_fit.ensures ∙ not-true _ c.if-not-lengths_fit.true)
+returns-then-not-lengths_fit c = rw (sized c.before.before, sym c.lengths_fit.ensures ∙ c.if-not-lengths_fit.true)
 
 pub returns-then-not-virtuals_ok : goal.returns-then-not-virtuals_ok
 unfolding sheet_refusal
 returns-then-not-virtuals_ok c =
-    rw (sized c.before.before.before.before, fitting c.before.before, sym c.virtuals_ok.ensures ∙ not-true _ c.if-not-virtuals_ok.true)
+    rw (sized c.before.before.before.before, fitting c.before.before, sym c.virtuals_ok.ensures ∙ c.if-not-virtuals_ok.true)
 
 pub overflow_mul-e : goal.overflow_mul-e
 overflow_mul-e c = let s = small c in omega arith
@@ -75,7 +75,7 @@ unfolding sheet_refusal
 returns-then-not-edges-e c =
     let a = c.args in
     let z : eqb (length a.edges.now) (3 * a.e) && all (ends_ok a.v) (edges_from a.edges.now) ≡ false =
-    rw (← c.ends_ok.ensures) (not-true _ c.if-not-edges-e.true) in
+    rw (← c.ends_ok.ensures) c.if-not-edges-e.true in
     rw (sized c.before.before.before.before.before.before, fitting c.before.before.before.before, vertices c.before.before, z)
 
 pub returns-then-sheet_ok : goal.returns-then-sheet_ok

@@ -19,7 +19,7 @@ loop-s-preserved c =
       search rules,
       marks-more _ _ _ c.loop-s.s c.loop-s.invariant.1 c.precedes_at-t.ensures
           c.near.ensures.0 k.ensures,
-      k.auto.0 ∙ c.loop-s.invariant.2,
+      k.auto.m ∙ c.loop-s.invariant.2,
     )
 
 pub returns : goal.returns
