@@ -1,0 +1,20 @@
+use mir.Syntax.{w64}
+use borrow.Author.Rules.{sfits_of, rules}
+use mathlib.Core.Path.{◌∙◌}
+use mir.Facts.{to_z-of_z}
+use Rattle.update_length.specs.laws.Length.{answer-open, answer-within, answer-over, within-is}
+use Rattle.update_length.proofs.join.scan_answer.Goals as goal
+
+pub signed-requires : goal.signed-requires
+signed-requires c = within-is c.in-Within.is c.requires
+
+pub returns-in-OpenEnded : goal.returns-in-OpenEnded
+returns-in-OpenEnded c = answer-open c.args.empty c.in-OpenEnded.is
+
+pub returns-in-Within : goal.returns-in-Within
+returns-in-Within c =
+    answer-within c.args.empty c.in-Within.is
+    (to_z-of_z {w = w64} (sfits_of c.signed.type_inv) ∙ c.signed.ensures)
+
+pub returns-in-Over : goal.returns-in-Over
+returns-in-Over c = answer-over c.args.empty c.in-Over.is
