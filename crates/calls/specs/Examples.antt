@@ -1,6 +1,6 @@
 -- The worked examples P1 to P9 (SPECIFICATION 13.1), as one theorem over a list of cases: the answers to the calls, and
 -- the tables.
-use Rattle.core.specs.Prelude.{◌≡◌, ℕ, true, false, List, [], ◌∷◌, ◌++◌, map, pos, negsuc}
+use Rattle.std.specs.Prelude.{◌≡◌, ℕ, true, false, List, [], ◌∷◌, ◌++◌, map, pos, negsuc}
 use Rattle.std.specs.Prelude.{refl}
 use Rattle.graph.specs.State.{State}
 use Rattle.graph.specs.Open.{Edge, opened}

@@ -1,6 +1,6 @@
 -- Whether a call keeps a sound state sound. Only a preparation for shrinking can lose it, on states that no calls reach; a refused call
 -- changes nothing.
-use Rattle.core.specs.Prelude.{ℕ, Bool, true, false, not, ◌&&◌, ◌||◌, List, [], ◌∷◌, ℤ, pos, negsuc, ◌==◌, nat_lt}
+use Rattle.std.specs.Prelude.{ℕ, Bool, true, false, not, ◌&&◌, ◌||◌, List, [], ◌∷◌, ℤ, pos, negsuc, ◌==◌, nat_lt}
 use Rattle.graph.specs.State.{State, grow_state_of, stay, up, down}
 use Rattle.pass.specs.KeepsSound.{keeps_sound}
 use Rattle.answers.specs.declared.Answer.{Answer}

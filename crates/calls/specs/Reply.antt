@@ -1,5 +1,5 @@
 -- Words and numbers at the front of a lent list.
-use Rattle.core.specs.Prelude.{ℕ, List, ◌++◌, map, length, drop, ℤ, pos}
+use Rattle.std.specs.Prelude.{ℕ, List, ◌++◌, map, length, drop, ℤ, pos}
 
 -- t with the words ws over its front
 unfoldable pub over_front : List ℤ → List ℤ → List ℤ

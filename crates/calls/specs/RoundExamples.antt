@@ -1,5 +1,5 @@
 -- Worked examples of a round for all clusters, as one theorem over a list of cases.
-use Rattle.core.specs.Prelude.{◌≡◌, true, false, List, [], ◌∷◌, map, pos, negsuc}
+use Rattle.std.specs.Prelude.{◌≡◌, true, false, List, [], ◌∷◌, map, pos, negsuc}
 use Rattle.std.specs.Prelude.{refl}
 use Rattle.graph.specs.State.{State, defect_vertex}
 use Rattle.graph.specs.Open.{opened}

@@ -1,5 +1,5 @@
 -- What follows from the definitions of the calls, of every state; each proof cites a law.
-use Rattle.core.specs.Prelude.{◌≡◌, ℕ, ◌+◌, ◌-◌, ◌*◌, ◌<◌, ◌≤◌, true, false, ◌≢◌, List, length}
+use Rattle.std.specs.Prelude.{◌≡◌, ℕ, ◌+◌, ◌-◌, ◌*◌, ◌<◌, ◌≤◌, true, false, ◌≢◌, List, length}
 use Rattle.std.proofs.Common.{mul-le-mul, arith, sym, ◌∙◌}
 use Rattle.graph.specs.Basic.{any}
 use Rattle.graph.specs.State.{State, vertex_count, side_count, sides_at}

@@ -1,6 +1,6 @@
 // Advance: a node grows by all of its own length answer.
 
-ghost use Rattle.core.specs.Prelude.{◌≡◌, ◌≤◌, not, ◌==◌};
+ghost use Rattle.std.specs.Prelude.{◌≡◌, ◌≤◌, not, ◌==◌};
 ghost use Rattle.graph.specs.State.{stay, grow_state_of};
 ghost use Rattle.graph.specs.Layout.{state_of};
 ghost use Rattle.graph.specs.Form.{Formed};

@@ -1,6 +1,6 @@
 // Insertion of a defect.
 
-ghost use Rattle.core.specs.Prelude.{◌≡◌, ◌+◌, ◌<◌, length};
+ghost use Rattle.std.specs.Prelude.{◌≡◌, ◌+◌, ◌<◌, length};
 ghost use Rattle.graph.specs.Basic.{fold};
 ghost use Rattle.graph.specs.State.{vertex_count, sides_at, with_defect, held_vertex};
 ghost use Rattle.graph.specs.Layout.{state_of};

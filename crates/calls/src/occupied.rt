@@ -1,6 +1,6 @@
 // The test for refusal 5: it looks at the vertex, then at its sides by rising edge, and ends with the first held one.
 
-ghost use Rattle.core.specs.Prelude.{◌≡◌, ◌<◌};
+ghost use Rattle.std.specs.Prelude.{◌≡◌, ◌<◌};
 ghost use Rattle.graph.specs.Basic.{any};
 ghost use Rattle.graph.specs.State.{vertex_count, sides_at};
 ghost use Rattle.graph.specs.Layout.{state_of};

@@ -1,6 +1,6 @@
 // Reading: the growth of every side, and the representative vertex of a node.
 
-ghost use Rattle.core.specs.Prelude.{◌≡◌, ◌<◌, ◌≤◌, true, length};
+ghost use Rattle.std.specs.Prelude.{◌≡◌, ◌<◌, ◌≤◌, true, length};
 ghost use Rattle.graph.specs.State.{side_count, node_count};
 ghost use Rattle.graph.specs.Sound.{sound};
 ghost use Rattle.graph.specs.Layout.{state_of};

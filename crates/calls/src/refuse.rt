@@ -1,6 +1,6 @@
 // Refusals of a call on a node, on a block in form: 0 or the number.
 
-ghost use Rattle.core.specs.Prelude.{◌≡◌, ◌+◌, ◌*◌, ◌<◌, ◌≤◌, ◌&&◌, [], ◌∷◌, nat_lt};
+ghost use Rattle.std.specs.Prelude.{◌≡◌, ◌+◌, ◌*◌, ◌<◌, ◌≤◌, ◌&&◌, [], ◌∷◌, nat_lt};
 ghost use Rattle.graph.specs.State.{vertex_count, side_count, node_count};
 ghost use Rattle.graph.specs.Sound.{entries_of};
 ghost use Rattle.graph.specs.Layout.{state_of};

@@ -1,7 +1,7 @@
 // The calls that prepare, on a sound block with a scratch that is all zero. Where it is asked for, each tells beside its answer whether the
 // block was certainly kept sound; where not, nothing is tested.
 
-ghost use Rattle.core.specs.Prelude.{◌≡◌, ◌≤◌, true, false, ◌&&◌};
+ghost use Rattle.std.specs.Prelude.{◌≡◌, ◌≤◌, true, false, ◌&&◌};
 ghost use Rattle.std.specs.Int.Signed.{non_neg};
 ghost use Rattle.graph.specs.Layout.{state_of};
 ghost use Rattle.graph.specs.Word.{word_limit};
@@ -9,7 +9,7 @@ ghost use Rattle.calls.specs.inner.Reply.{Replies, along, MemoryPreparable, Usab
 ghost use Rattle.calls.specs.Keeps.{prepare_keeps, length_keeps, toward_keeps, grow_keeps, moves_keeps, advance_keeps};
 ghost use Rattle.calls.specs.Calls.{prepare_dual_node_growth, max_update_length, grow_toward, grow_dual_node, toward, advance_by, advance};
 
-use crate::{advance, core, refuse};
+use crate::{advance, core_calls, refuse};
 use answers::{Answer, MaxUpdateLength};
 use graph::dual_node::{DOWN, UP};
 use graph::{node, words};
@@ -95,7 +95,7 @@ pub fn compute_maximum_update_length_dual_node(
     if first {
         return length_prepared(b, t, n, d, ask);
     }
-    let answer = core::length_unprepared(b, n, d);
+    let answer = core_calls::length_unprepared(b, n, d);
     Tested {
         answer: answer,
         kept: ask,
@@ -116,7 +116,7 @@ pub fn grow_toward(b: &mut [i64], t: &mut [i64], n: usize, d: usize, l: usize, a
         };
     }
     let p = prepare_tested::prepare_asked(b, t, n, d, ask);
-    let answer = core::grow_prepared(b, n, d, l);
+    let answer = core_calls::grow_prepared(b, n, d, l);
     Tested {
         answer: answer,
         kept: p.kept,
@@ -138,7 +138,7 @@ pub fn grow_along(
 {
     let l = words::magnitude(length);
     if l == 0 {
-        let answer = core::grow_none(b, n, d, length);
+        let answer = core_calls::grow_none(b, n, d, length);
         return Tested {
             answer: answer,
             kept: ask,

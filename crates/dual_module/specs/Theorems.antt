@@ -1,5 +1,5 @@
 -- What follows from the promises of the public calls; each proof cites a law.
-use Rattle.core.specs.Prelude.{ℕ, ◌+◌, ◌≤◌, ◌≢◌, List, map, ℤ}
+use Rattle.std.specs.Prelude.{ℕ, ◌+◌, ◌≤◌, ◌≢◌, List, map, ℤ}
 use Rattle.std.proofs.Common.{sym, ap, ◌∙◌}
 use Rattle.graph.specs.Word.{to_nat}
 use Rattle.graph.specs.Layout.{state_of}

@@ -3,7 +3,7 @@
 // The calls on memory that a host lends. Block and scratch are tested first (refusals 1 and 2), and nothing is written before that; the
 // call itself is in module `sound`.
 
-ghost use Rattle.core.specs.Prelude.{◌≡◌, length};
+ghost use Rattle.std.specs.Prelude.{◌≡◌, length};
 ghost use Rattle.pass.specs.Scratch.{zero_scratch};
 ghost use Rattle.dual_module.specs.Called.{StateCalled, PrepareCalled, LengthCalled, GrowCalled, AdvanceCalled, ClearCalled};
 

@@ -2,7 +2,7 @@
 // nothing is written. A call that prepares needs a scratch that is all zero, and tells, where asked, whether the block is certainly sound
 // after it.
 
-ghost use Rattle.core.specs.Prelude.{◌≡◌, true, ◌&&◌, length};
+ghost use Rattle.std.specs.Prelude.{◌≡◌, true, ◌&&◌, length};
 ghost use Rattle.graph.specs.Layout.{state_of, memory_refusal};
 ghost use Rattle.pass.specs.Scratch.{zero_scratch};
 ghost use Rattle.calls.specs.Keeps.{prepare_keeps, length_keeps, grow_keeps, advance_keeps};
@@ -11,7 +11,7 @@ ghost use Rattle.dual_module.specs.Called.{StateCalled, PrepareCalled, LengthCal
 
 use answers::Answer;
 use calls::tested::Tested;
-use calls::{advance, core, refuse, tested};
+use calls::{advance, core_calls, refuse, tested};
 use graph::dual_node::UP;
 use graph::{node, words};
 
@@ -67,7 +67,7 @@ pub fn set_grow_state(b: &mut [i64], t: &[i64], n: usize, x: usize) -> Answer
     if j != 0 {
         return Answer::Refused(j);
     }
-    core::set_grow_state(b, n, x)
+    core_calls::set_grow_state(b, n, x)
 }
 
 // Node n is prepared to grow in direction d.
@@ -113,7 +113,7 @@ pub fn compute_maximum_update_length_dual_node(
         clear_unless(t, zero);
         return after_core(tested::length_prepared(b, t, n, d, ask));
     }
-    as_before(core::length_unprepared(b, n, d), ask, zero)
+    as_before(core_calls::length_unprepared(b, n, d), ask, zero)
 }
 
 // Node n grows by a length: below 0 it shrinks.
@@ -130,7 +130,7 @@ pub fn grow_dual_node(
         × (result.kept ≡ (ask && grow_keeps (state_of b.old) n length)) × KnownZero result.zero t.new }
 {
     if words::magnitude(length) == 0 {
-        return as_before(core::grow_none(b, n, 1, length), ask, zero);
+        return as_before(core_calls::grow_none(b, n, 1, length), ask, zero);
     }
     let j = refuse::node_refusal(b, n, false, true);
     if j != 0 {
@@ -162,5 +162,5 @@ pub fn clear(b: &mut [i64], t: &[i64]) -> Answer
     requires { memory_refusal b.old t.now ≡ 0 }
     ensures { ClearCalled b.old t.now b.new result }
 {
-    core::clear_all(b)
+    core_calls::clear_all(b)
 }

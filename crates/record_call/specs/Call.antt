@@ -1,5 +1,5 @@
 -- A body that asks for a call, and a call on an opened block.
-use Rattle.core.specs.Prelude.{◌≡◌, ℕ, ◌≤◌, true, List, length, ℤ}
+use Rattle.std.specs.Prelude.{◌≡◌, ℕ, ◌≤◌, true, List, length, ℤ}
 use Rattle.graph.specs.State.{vertex_count, edge_count}
 use Rattle.graph.specs.Layout.{state_of}
 use Rattle.graph.specs.Form.{Formed}

@@ -1,6 +1,6 @@
 // A circle that is too long to be accepted: what refuses it, without words for its entries.
 
-ghost use Rattle.core.specs.Prelude.{◌≡◌, ◌-◌, ◌/◌, ◌<◌, false, ◌≢◌, length};
+ghost use Rattle.std.specs.Prelude.{◌≡◌, ◌-◌, ◌/◌, ◌<◌, false, ◌≢◌, length};
 ghost use Rattle.graph.specs.Layout.{state_of};
 ghost use Rattle.graph.specs.Form.{Formed};
 ghost use Rattle.calls.specs.Insert.{blossom_refusal};

@@ -1,13 +1,13 @@
 // The call that a record asks for, on an opened block.
 
-ghost use Rattle.core.specs.Prelude.{◌≡◌, ◌+◌, ◌-◌, ◌*◌, ◌/◌, ◌≤◌, map, length, take, ◌≢◌};
+ghost use Rattle.std.specs.Prelude.{◌≡◌, ◌+◌, ◌-◌, ◌*◌, ◌/◌, ◌≤◌, map, length, take, ◌≢◌};
 ghost use Rattle.graph.specs.Word.{to_nat};
 ghost use Rattle.records.specs.Record.{fields};
 ghost use Rattle.record_call.specs.Call.{call_in, OfKind, Opened, Answers};
 
 use crate::long_circle;
 use answers::Answer;
-use calls::{advance, core, defect};
+use calls::{advance, core_calls, defect};
 use graph::words;
 use records::bytes;
 
@@ -56,22 +56,22 @@ pub fn call(b: &mut [i64], t: &mut [i64], kind: usize, body: &[u8]) -> Answer
     match kind {
         4 => defect::insert_defect(b, t, bytes::field(body, 0), bytes::field(body, 1)),
         5 => blossom(b, t, body),
-        6 => core::set_grow_state(b, bytes::field(body, 0), bytes::field(body, 1)),
-        7 => core::prepare_dual_node_growth(b, t, bytes::field(body, 0), bytes::field(body, 1)),
-        8 => core::compute_maximum_update_length_dual_node(
+        6 => core_calls::set_grow_state(b, bytes::field(body, 0), bytes::field(body, 1)),
+        7 => core_calls::prepare_dual_node_growth(b, t, bytes::field(body, 0), bytes::field(body, 1)),
+        8 => core_calls::compute_maximum_update_length_dual_node(
             b,
             t,
             bytes::field(body, 0),
             bytes::field(body, 1),
             bytes::field(body, 2) == 1,
         ),
-        9 => core::grow_dual_node(
+        9 => core_calls::grow_dual_node(
             b,
             t,
             bytes::field(body, 0),
             bytes::signed(bytes::field(body, 1)),
         ),
         11 => advance::advance(b, t, bytes::field(body, 0)),
-        _ => core::clear_all(b),
+        _ => core_calls::clear_all(b),
     }
 }

@@ -1,5 +1,5 @@
 -- A trial of length l over the active nodes: a preparation of all where l is 0, else a round by l (SPECIFICATION 14.3).
-use Rattle.core.specs.Prelude.{ℕ, zero, suc}
+use Rattle.std.specs.Prelude.{ℕ, zero, suc}
 use Rattle.graph.specs.State.{State, down, up}
 use Rattle.answers.specs.Answer.{Reply}
 use Rattle.calls.specs.Round.{Tried, in_turn, preparing, moving}

@@ -1,6 +1,6 @@
 // A trial over the active nodes: the list is renewed, then each Shrink node is prepared or moved, then each Grow node.
 
-ghost use Rattle.core.specs.Prelude.{◌≡◌, ◌<◌, ◌≤◌, true, ◌||◌, length};
+ghost use Rattle.std.specs.Prelude.{◌≡◌, ◌<◌, ◌≤◌, true, ◌||◌, length};
 ghost use Rattle.graph.specs.State.{shrinking};
 ghost use Rattle.graph.specs.Active.{active_in};
 ghost use Rattle.graph.specs.Sound.{active_sound, state_sound};
@@ -14,7 +14,7 @@ ghost use Rattle.round_trial.specs.inner.Step.{node_call_at, grown_from, TriedTo
 ghost use Rattle.graph.specs.Word.{word_limit};
 
 use answers::Answer;
-use calls::{advance, core};
+use calls::{advance, core_calls};
 use graph::{node, rows};
 
 // The number of a refusal; 0 for every other answer.
@@ -37,10 +37,10 @@ fn call_node(b: &mut [i64], t: &mut [i64], n: usize, d: usize, l: usize) -> usiz
     ensures { TriedTo b.old b.new result (tried_by (node_call l d (state_of b.old) n)) × (t.new ≡ t.old) }
 {
     if l == 0 {
-        let a = core::prepare_toward(b, t, n, d);
+        let a = core_calls::prepare_toward(b, t, n, d);
         return refusal_of(a);
     }
-    let a = core::grow_toward(b, t, n, d, l);
+    let a = core_calls::grow_toward(b, t, n, d, l);
     refusal_of(a)
 }
 

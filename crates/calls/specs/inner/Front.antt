@@ -1,5 +1,5 @@
 -- What stands at the front of a scratch while a node is inserted.
-use Rattle.core.specs.Prelude.{ℕ, List, [], ℤ}
+use Rattle.std.specs.Prelude.{ℕ, List, [], ℤ}
 use Rattle.graph.specs.State.{State, side_count}
 use Rattle.pass.specs.inner.Scratch.{note_limit, ScratchHolds}
 

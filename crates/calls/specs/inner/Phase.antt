@@ -1,5 +1,5 @@
 -- What holds of a state between the calls of a round.
-use Rattle.core.specs.Prelude.{◌≡◌, ℕ, ◌*◌, ◌<◌, true, nat_lt}
+use Rattle.std.specs.Prelude.{◌≡◌, ℕ, ◌*◌, ◌<◌, true, nat_lt}
 use Rattle.graph.specs.Basic.{all}
 use Rattle.graph.specs.State.{State, edge_count, node_count, sides_at, parent_of}
 use Rattle.graph.specs.inner.Readable.{Readable}

@@ -1,5 +1,5 @@
 -- What a call asks of the memory that is lent to it, and what it leaves there.
-use Rattle.core.specs.Prelude.{◌≡◌, ℕ, ◌<◌, true, List, length, ℤ, neg_ℤ, ◌==◌}
+use Rattle.std.specs.Prelude.{◌≡◌, ℕ, ◌<◌, true, List, length, ℤ, neg_ℤ, ◌==◌}
 use Rattle.graph.specs.Basic.{if◌then◌else◌}
 use Rattle.graph.specs.State.{up, vertex_count, edge_count, side_count, node_count, parent_of}
 use Rattle.graph.specs.Sound.{sound}

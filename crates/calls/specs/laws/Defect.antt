@@ -1,5 +1,5 @@
 -- Laws of the insertion of a defect.
-use Rattle.core.specs.Prelude.{◌≡◌, ℕ, ◌+◌, ◌<◌, ◌≤◌, true, false, not, ◌||◌, ◌≢◌, List, [], ◌∷◌, ◌++◌, length, take, ℤ, pos, ◌==◌, nat_le, nat_lt, slice_index, slice_set}
+use Rattle.std.specs.Prelude.{◌≡◌, ℕ, ◌+◌, ◌<◌, ◌≤◌, true, false, not, ◌||◌, ◌≢◌, List, [], ◌∷◌, ◌++◌, length, take, ℤ, pos, ◌==◌, nat_le, nat_lt, slice_index, slice_set}
 use Rattle.std.proofs.Common.{add-one, arith, sym, ◌∙◌, take-suc, take_all}
 use Rattle.std.proofs.Math.Path.{refl, ap, subst}
 use Rattle.std.proofs.Math.Seq.{length-take-le}

@@ -1,5 +1,5 @@
 -- What advance makes of a length answer: growth by its limit, or the answer handed back.
-use Rattle.core.specs.Prelude.{◌≡◌, ℕ, Bool, false, ℤ}
+use Rattle.std.specs.Prelude.{◌≡◌, ℕ, Bool, false, ℤ}
 use Rattle.std.proofs.Common.{sym, subst}
 use Rattle.graph.specs.State.{State}
 use Rattle.answers.specs.declared.Answer.{Answer}

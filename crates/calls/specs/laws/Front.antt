@@ -1,5 +1,5 @@
 -- Laws of what stands at the front of a scratch: nothing where it is all zero, and the same seen from a block of the same counts.
-use Rattle.core.specs.Prelude.{◌≡◌, ℕ, List, [], ℤ}
+use Rattle.std.specs.Prelude.{◌≡◌, ℕ, List, [], ℤ}
 use Rattle.std.proofs.Common.{sym, ap, ◌∙◌}
 use Rattle.graph.specs.State.{State}
 use Rattle.graph.specs.Layout.{state_of}

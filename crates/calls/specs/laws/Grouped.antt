@@ -1,5 +1,5 @@
 -- What answers say together is never a refusal.
-use Rattle.core.specs.Prelude.{◌≡◌, Bool, false, List, ℤ}
+use Rattle.std.specs.Prelude.{◌≡◌, Bool, false, List, ℤ}
 use Rattle.std.specs.Prelude.{refl}
 use Rattle.std.proofs.Common.{ap, ◌∙◌}
 use Rattle.graph.specs.Basic.{all}

@@ -1,5 +1,5 @@
 -- Laws of the tests that tell whether a call keeps a sound state sound: what each asks, case by case.
-use Rattle.core.specs.Prelude.{◌≡◌, ℕ, zero, suc, ◌≤◌, Bool, true, false, ◌&&◌, ◌||◌, ◌≢◌, [], ◌∷◌, ℤ, pos, negsuc, ◌==◌, nat_lt, unsigned_abs}
+use Rattle.std.specs.Prelude.{◌≡◌, ℕ, zero, suc, ◌≤◌, Bool, true, false, ◌&&◌, ◌||◌, ◌≢◌, [], ◌∷◌, ℤ, pos, negsuc, ◌==◌, nat_lt, unsigned_abs}
 use Rattle.std.proofs.Common.{arith, sym, ◌∙◌}
 use Rattle.std.specs.Prelude.{refl}
 use Rattle.std.proofs.Math.Path.{ap}

@@ -1,6 +1,6 @@
 -- What a trial has on every sound state, reached or not. While Shrink nodes are moved the state may lose its soundness, but it can be read, and every
 -- outermost node can be shrunk. Once it is tested again, Grow nodes are moved on sound states.
-use Rattle.core.specs.Prelude.{◌≡◌, ℕ, ◌-◌, ◌*◌, ◌<◌, ◌≤◌, true, false, ltb, ◌≢◌, List, [], ◌∷◌, map, length, nat_lt, slice_index, slice_index_or, slice_set}
+use Rattle.std.specs.Prelude.{◌≡◌, ℕ, ◌-◌, ◌*◌, ◌<◌, ◌≤◌, true, false, ltb, ◌≢◌, List, [], ◌∷◌, map, length, nat_lt, slice_index, slice_index_or, slice_set}
 use Rattle.std.proofs.Common.{arith, ap, ◌∙◌, get_or-set_same, get_or-set_other, ltb-true}
 use Rattle.std.proofs.Math.Decide.{ℕ_discrete as dec_eq, dec_lt}
 use Rattle.std.specs.Prelude.{refl}

@@ -1,5 +1,5 @@
 -- A sound state can be read for the length answer, and so can the state that a preparation of it leaves, in either direction.
-use Rattle.core.specs.Prelude.{◌≡◌, ℕ, ◌*◌, ◌<◌, ◌≤◌, true, false, ◌≢◌, List, [], ◌∷◌, length, ℤ, nat_lt, slice_index}
+use Rattle.std.specs.Prelude.{◌≡◌, ℕ, ◌*◌, ◌<◌, ◌≤◌, true, false, ◌≢◌, List, [], ◌∷◌, length, ℤ, nat_lt, slice_index}
 use Rattle.std.proofs.Common.{arith, sym, ne_eqb}
 use Rattle.std.proofs.Math.Decide.{ℕ_discrete as dec_eq, dec_lt}
 use Rattle.std.proofs.Math.ListN.{get_or-eq_default}

@@ -1,5 +1,5 @@
 -- The call that opens a blossom: what it leaves on every state, what 15 says, and that without the blossom it changes nothing.
-use Rattle.core.specs.Prelude.{◌≡◌, ℕ, false, ◌≢◌, ◌⊎◌, [], ◌∷◌}
+use Rattle.std.specs.Prelude.{◌≡◌, ℕ, false, ◌≢◌, ◌⊎◌, [], ◌∷◌}
 use Rattle.std.proofs.Common.{arith, ◌∙◌, inl, inr, eq-eqb}
 use Rattle.std.proofs.Math.Decide.{ℕ_discrete as dec_eq}
 use Rattle.std.specs.Prelude.{refl}

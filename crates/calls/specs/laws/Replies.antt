@@ -1,5 +1,5 @@
 -- What the calls on a node leave: a refusal with nothing changed, or the state that is defined.
-use Rattle.core.specs.Prelude.{◌≡◌, ℕ, zero, suc, ◌<◌, ◌≤◌, Bool, true, false, ◌&&◌, ◌≢◌, List, [], ◌∷◌, ℤ, pos, negsuc, ◌==◌, nat_lt, unsigned_abs}
+use Rattle.std.specs.Prelude.{◌≡◌, ℕ, zero, suc, ◌<◌, ◌≤◌, Bool, true, false, ◌&&◌, ◌≢◌, List, [], ◌∷◌, ℤ, pos, negsuc, ◌==◌, nat_lt, unsigned_abs}
 use Rattle.std.proofs.Common.{arith, sym, ◌∙◌, eq-eqb, ne_eqb}
 use Rattle.std.proofs.Math.Decide.{ℕ_discrete as dec_eq}
 use Rattle.std.proofs.Math.Path.{refl, ap}

@@ -1,5 +1,5 @@
 -- What a trial over the active nodes leaves: whatever renewal and each node's call keep.
-use Rattle.core.specs.Prelude.{◌≡◌, ℕ, true, not, ◌||◌, List, [], ◌∷◌, ◌==◌}
+use Rattle.std.specs.Prelude.{◌≡◌, ℕ, true, not, ◌||◌, List, [], ◌∷◌, ◌==◌}
 use Rattle.std.proofs.Common.{arith, sym, ◌∙◌}
 use Rattle.std.proofs.Math.Path.{refl, ap}
 use borrow.Author.Tests.{eqb-true, eqb-false}

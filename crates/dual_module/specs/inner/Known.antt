@@ -1,5 +1,5 @@
 -- What is known of lent memory from one call to the next.
-use Rattle.core.specs.Prelude.{◌≡◌, Bool, true, List, length, ℤ}
+use Rattle.std.specs.Prelude.{◌≡◌, Bool, true, List, length, ℤ}
 use Rattle.pass.specs.Scratch.{zero_scratch}
 
 -- where it is said so, the scratch is all zero

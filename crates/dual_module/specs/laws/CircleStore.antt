@@ -1,5 +1,5 @@
 -- Where the definition does not refuse a circle by 9, neither does the call.
-use Rattle.core.specs.Prelude.{ℕ, ◌≢◌, List, ℤ}
+use Rattle.std.specs.Prelude.{ℕ, ◌≢◌, List, ℤ}
 use Rattle.std.proofs.Common.{arith}
 use Rattle.graph.specs.Layout.{state_of, block_sound, memory_fits, block_refusal, memory_refusal}
 use Rattle.graph.specs.laws.State.{if-both}

@@ -1,5 +1,5 @@
 -- Calls on memory that has passed the tests: what they leave, and what is known of it.
-use Rattle.core.specs.Prelude.{◌≡◌, ℕ, Bool, true, false, not, ◌&&◌, ◌≢◌, List, [], ◌∷◌, length, ℤ, pos, negsuc, ◌==◌, unsigned_abs}
+use Rattle.std.specs.Prelude.{◌≡◌, ℕ, Bool, true, false, not, ◌&&◌, ◌≢◌, List, [], ◌∷◌, length, ℤ, pos, negsuc, ◌==◌, unsigned_abs}
 use Rattle.std.proofs.Common.{arith, sym, ap, ◌∙◌}
 use Rattle.std.specs.Prelude.{refl}
 use Rattle.std.proofs.lemmas.List.{length-replicate}

@@ -1,5 +1,5 @@
 -- What refuses a circle that is too long to be accepted, entry by entry.
-use Rattle.core.specs.Prelude.{ℕ, Bool, ◌||◌, List}
+use Rattle.std.specs.Prelude.{ℕ, Bool, ◌||◌, List}
 use Rattle.graph.specs.Basic.{if◌then◌else◌, any}
 use Rattle.graph.specs.State.{State}
 use Rattle.calls.specs.Refuse.{bad_node, in_blossom}

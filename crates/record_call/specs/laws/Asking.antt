@@ -1,5 +1,5 @@
 -- A record that asks for a call: which call it is, and what the call on an opened block leaves.
-use Rattle.core.specs.Prelude.{◌≡◌, ℕ, suc, ◌+◌, ◌-◌, ◌*◌, ◌/◌, ◌<◌, ◌≤◌, true, false, leb, List, [], ◌∷◌, ◌++◌, map, length, take, ℤ, pos, ◌==◌, ◌≢◌, nat_le, slice_index, slice_set}
+use Rattle.std.specs.Prelude.{◌≡◌, ℕ, suc, ◌+◌, ◌-◌, ◌*◌, ◌/◌, ◌<◌, ◌≤◌, true, false, leb, List, [], ◌∷◌, ◌++◌, map, length, take, ℤ, pos, ◌==◌, ◌≢◌, nat_le, slice_index, slice_set}
 use Rattle.std.proofs.Common.{add-one, arith, ◌∙◌, append-nil, take-suc-set, eqb-true}
 use Rattle.std.proofs.Math.Path.{refl, sym, ap}
 use Rattle.graph.specs.Word.{to_nat}

@@ -1,5 +1,5 @@
 -- The two parts of the trial together.
-use Rattle.core.specs.Prelude.{◌≡◌, ℕ, suc, Bool, true, false, ◌||◌, ◌≢◌, List, [], ◌∷◌, length, ℤ}
+use Rattle.std.specs.Prelude.{◌≡◌, ℕ, suc, Bool, true, false, ◌||◌, ◌≢◌, List, [], ◌∷◌, length, ℤ}
 use Rattle.std.proofs.Common.{arith, sym, ◌∙◌, ne_eqb}
 use Rattle.std.proofs.Math.Path.{refl, ap}
 use Rattle.graph.specs.Basic.{if◌then◌else◌, fold}

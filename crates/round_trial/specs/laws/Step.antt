@@ -1,5 +1,5 @@
 -- The trial node by node: what a call leaves alone, that the memory stays fit for the next one, and the loop over the active list.
-use Rattle.core.specs.Prelude.{◌≡◌, ℕ, zero, suc, ◌≤◌, Bool, true, false, ◌≢◌, List, [], ◌∷◌, length, ℤ, ◌==◌, nat_lt, slice_index}
+use Rattle.std.specs.Prelude.{◌≡◌, ℕ, zero, suc, ◌≤◌, Bool, true, false, ◌≢◌, List, [], ◌∷◌, length, ℤ, ◌==◌, nat_lt, slice_index}
 use Rattle.std.proofs.Common.{arith, sym, ◌∙◌}
 use Rattle.std.proofs.Math.Decide.{ℕ_discrete as dec_eq}
 use Rattle.std.proofs.Math.Path.{refl, ap}

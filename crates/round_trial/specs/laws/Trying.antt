@@ -1,5 +1,5 @@
 -- The loop of one part of the trial: entries to come give what is left of it; a refusal ends it.
-use Rattle.core.specs.Prelude.{◌≡◌, ℕ, ◌+◌, ◌<◌, ◌≤◌, Bool, true, false, ◌≢◌, List, [], ◌∷◌, length, drop, ℤ, ◌==◌, nat_lt, slice_index}
+use Rattle.std.specs.Prelude.{◌≡◌, ℕ, ◌+◌, ◌<◌, ◌≤◌, Bool, true, false, ◌≢◌, List, [], ◌∷◌, length, drop, ℤ, ◌==◌, nat_lt, slice_index}
 use Rattle.std.proofs.Common.{add-one, sym, ap, ◌∙◌, drop_of_length-le}
 use Rattle.std.proofs.Math.Path.{refl}
 use Rattle.std.proofs.Math.Seq.{drop-cons}

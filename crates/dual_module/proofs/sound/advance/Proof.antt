@@ -42,8 +42,8 @@ advance-requires c κs =
     let s = c.before.before.before.before.before.before.before.before.before.before.before in
     passed-usable s.args.b.now s.args.t.now s.requires.0 c.before.before.before.clear-unless.ensures
 
-after-core-requires : tie.Need-after-core-requires
-after-core-requires c κs = search rules
+after_core-requires : tie.Need-after_core-requires
+after_core-requires c κs = search rules
 
 same-length-2 : tie.Need-same-length-2
 same-length-2 c = search rules
@@ -57,7 +57,7 @@ returns-2 c =
     let s = f.before.before.before.before.before.before in
     let p = c.before.before.before.advance.ensures in
     let g = sym f.before.before.before.before.moves.ensures ∙ f.before.before.before.if1.true in
-    known-done s.args.b.now s.args.t.now s.requires.0 c.after-core.ensures
+    known-done s.args.b.now s.args.t.now s.requires.0 c.after_core.ensures
     (advance-writes (state_of s.args.b.now) s.args.n g
     ∙ test-so f.before.node-refusal.ensures f.if2.false)
     c.before.before.before.before.before.before.before.clear-unless.ensures p.1 p.2 p.0
@@ -94,7 +94,7 @@ advance-spec =
     returns
     clear-unless-requires
     advance-requires
-    after-core-requires
+    after_core-requires
     same-length-2
     same-length-3
     returns-2

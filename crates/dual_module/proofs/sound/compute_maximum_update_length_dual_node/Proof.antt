@@ -1,5 +1,5 @@
 use mathlib.Core.Path.{◌∙◌}
-use Rattle.core.specs.Prelude.{true}
+use Rattle.std.specs.Prelude.{true}
 use Rattle.graph.specs.Layout.{state_of}
 use Rattle.memory_tests.specs.laws.Memory.{memory-accepted}
 use Rattle.dual_module.specs.laws.Called.{test-so, test-not, length-writes, length-still}
@@ -41,8 +41,8 @@ length-prepared-requires c κs =
     let s = c.before.before.before.before.before.before.before.before.before in
     passed-usable s.args.b.now s.args.t.now s.requires.0 c.before.before.before.clear-unless.ensures
 
-after-core-requires : tie.Need-after-core-requires
-after-core-requires c κs = search rules
+after_core-requires : tie.Need-after_core-requires
+after_core-requires c κs = search rules
 
 same-length-2 : tie.Need-same-length-2
 same-length-2 c = search rules
@@ -56,7 +56,7 @@ returns-2 c =
     let s = e.before.before.before.before in
     let p = c.before.before.before.length-prepared.ensures in
     let f = e.before.before.before.if1.true in
-    known-done s.args.b.now s.args.t.now s.requires.0 c.after-core.ensures
+    known-done s.args.b.now s.args.t.now s.requires.0 c.after_core.ensures
     (length-writes (state_of s.args.b.now) s.args.n s.args.d f
     ∙ test-so e.before.node-refusal.ensures e.if2.false)
     c.before.before.before.before.before.before.before.clear-unless.ensures p.1 (rw f p.3) (rw f p.0)
@@ -91,7 +91,7 @@ compute-maximum-update-length-dual-node-spec =
     returns
     clear-unless-requires
     length-prepared-requires
-    after-core-requires
+    after_core-requires
     same-length-2
     same-length-3
     returns-2

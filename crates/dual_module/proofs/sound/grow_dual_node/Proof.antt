@@ -1,4 +1,4 @@
-use Rattle.core.specs.Prelude.{◌≡◌, ◌≢◌, nat_abs}
+use Rattle.std.specs.Prelude.{◌≡◌, ◌≢◌, nat_abs}
 use mathlib.Core.Path.{sym, ap, ◌∙◌}
 use mir.Facts.{to_z-of_z}
 use Rattle.graph.specs.Layout.{state_of}
@@ -66,8 +66,8 @@ grow-dual-node-requires c κs =
     let s = c.before.before.before.before.before.before.before.before.before.before in
     passed-usable s.args.b.now s.args.t.now s.requires.0 c.before.before.before.clear-unless.ensures
 
-after-core-requires : tie.Need-after-core-requires
-after-core-requires c κs = search rules
+after_core-requires : tie.Need-after_core-requires
+after_core-requires c κs = search rules
 
 same-length-3 : tie.Need-same-length-3
 same-length-3 c = search rules
@@ -83,7 +83,7 @@ returns-3 c =
     let q : nat_abs s.args.length ≢ 0 =
     λ q. f.before.before.before.if1.false
     (f.before.before.before.before.magnitude.ensures.0 ∙ ap nat_abs (to_z-of_z s.ranges.length) ∙ q) in
-    known-done s.args.b.now s.args.t.now s.requires.0 c.after-core.ensures
+    known-done s.args.b.now s.args.t.now s.requires.0 c.after_core.ensures
     (grow-writes (state_of s.args.b.now) s.args.n s.args.length q
     ∙ test-so f.before.node-refusal.ensures f.if2.false)
     c.before.before.before.before.before.before.before.clear-unless.ensures p.1 (rw (to_z-of_z s.ranges.length) at p.2)
@@ -104,7 +104,7 @@ grow-dual-node-spec =
     returns-2
     clear-unless-requires
     grow-dual-node-requires
-    after-core-requires
+    after_core-requires
     same-length-3
     same-length-4
     returns-3)

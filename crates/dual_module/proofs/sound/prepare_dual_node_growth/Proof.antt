@@ -38,8 +38,8 @@ prepare-dual-node-growth-requires c κs =
     let s = c.before.before.before.before.before.before.before.before in
     passed-usable s.args.b.now s.args.t.now s.requires.0 c.before.before.before.clear-unless.ensures
 
-after-core-requires : tie.Need-after-core-requires
-after-core-requires c κs = search rules
+after_core-requires : tie.Need-after_core-requires
+after_core-requires c κs = search rules
 
 same-length-2 : tie.Need-same-length-2
 same-length-2 c = search rules
@@ -53,7 +53,7 @@ returns-2 c =
     let f = c.before.before.before.before.before.before.before.before.before in
     let s = f.before.before.before in
     let p = c.before.before.before.prepare-dual-node-growth.ensures in
-    known-done s.args.b.now s.args.t.now s.requires.0 c.after-core.ensures (test-so f.before.node-refusal.ensures f.if1.false)
+    known-done s.args.b.now s.args.t.now s.requires.0 c.after_core.ensures (test-so f.before.node-refusal.ensures f.if1.false)
     c.before.before.before.before.before.before.before.clear-unless.ensures p.1 p.2 p.0
 
 pub prepare-dual-node-growth-spec : {M : Type 1} → statement M
@@ -66,7 +66,7 @@ prepare-dual-node-growth-spec =
     returns
     clear-unless-requires
     prepare-dual-node-growth-requires
-    after-core-requires
+    after_core-requires
     same-length-2
     same-length-3
     returns-2)

@@ -40,8 +40,8 @@ insert-blossom-requires c κs =
     let s = c.before.before.before.before.before.before.before.before in
     passed-usable s.args.b.now s.args.t.now s.requires.0 c.before.before.before.clear-unless.ensures
 
-after-core-requires : tie.Need-after-core-requires
-after-core-requires c κs = search rules
+after_core-requires : tie.Need-after_core-requires
+after_core-requires c κs = search rules
 
 same-length-2 : tie.Need-same-length-2
 same-length-2 c = search rules
@@ -55,7 +55,7 @@ returns-2 c =
     let f = c.before.before.before.before.before.before.before.before.before in
     let s = f.before.before.before in
     let p = c.before.before.before.insert-blossom.ensures in
-    known-done-insert s.args.b.now s.args.t.now s.requires.0 c.after-core.ensures (test-so f.before.blossom-refusal.ensures f.if1.false)
+    known-done-insert s.args.b.now s.args.t.now s.requires.0 c.after_core.ensures (test-so f.before.blossom-refusal.ensures f.if1.false)
     c.before.before.before.before.before.before.before.clear-unless.ensures p.1 p.2 p.0
 
 pub insert-blossom-spec : {M : Type 1} → statement M
@@ -68,7 +68,7 @@ insert-blossom-spec =
     returns
     clear-unless-requires
     insert-blossom-requires
-    after-core-requires
+    after_core-requires
     same-length-2
     same-length-3
     returns-2)

@@ -1,6 +1,6 @@
 use borrow.Author.Rules.{rules}
 use native.Mathlib.Omega.{arith}
-use Rattle.core.specs.Prelude.{◌≡◌, ◌+◌, ◌-◌, ◌≤◌, ◌++◌, map, length, take}
+use Rattle.std.specs.Prelude.{◌≡◌, ◌+◌, ◌-◌, ◌≤◌, ◌++◌, map, length, take}
 use Rattle.graph.specs.Word.{to_nat}
 use Rattle.records.specs.Record.{fields}
 use Rattle.record_call.specs.laws.Asking.{circle-length, circle-none, circle-more, circle-all}

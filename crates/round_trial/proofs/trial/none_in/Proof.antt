@@ -1,4 +1,4 @@
-use Rattle.core.specs.Prelude.{◌≡◌, ◌-◌, eqb, drop}
+use Rattle.std.specs.Prelude.{◌≡◌, ◌-◌, eqb, drop}
 use mathlib.Core.Path.{sym, ap, ◌∙◌, refl}
 use Rattle.round_trial.specs.laws.Trying.{none-yes, none-no, none_more, entry-node}
 use Rattle.calls.specs.Round.{none_of}

@@ -1,4 +1,4 @@
-use Rattle.core.specs.Prelude.{◌-◌, length}
+use Rattle.std.specs.Prelude.{◌-◌, length}
 use mathlib.Core.Path.{ap, ◌∙◌}
 use Rattle.round_trial.specs.laws.Trying.{Trying, trying-none, trying-more, trying-stop, trying-all}
 use native.Mathlib.Omega.{arith}

@@ -1,0 +1,8 @@
+use mathlib.Core.Path.{refl}
+use Rattle.calls.specs.Calls.{clear}
+use borrow.Author.Rules.{rules}
+use Rattle.calls.proofs.core_calls.clear_all.Goals as goal
+
+pub returns : goal.returns
+unfolding clear
+returns c = let p = c.clear.ensures in (refl, p.state, p)

@@ -1,0 +1,6 @@
+use Rattle.calls.specs.laws.Replies.{usable-steady}
+use borrow.Author.Rules.{rules}
+use Rattle.calls.proofs.core_calls.prepare_dual_node_growth.Goals as goal
+
+pub prepare_toward-requires : goal.prepare_toward-requires
+prepare_toward-requires c = usable-steady c.requires c.args.n c.args.d

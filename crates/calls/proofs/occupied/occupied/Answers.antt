@@ -1,0 +1,18 @@
+use mathlib.Core.Path.{sym, ◌∙◌}
+use Rattle.graph.specs.Layout.{state_of}
+use Rattle.calls.specs.laws.Occupied.{decides-occupied, decides-read, sides-occupied, sides-read}
+use borrow.Author.Rules.{rules}
+use Rattle.calls.proofs.occupied.occupied.Goals as goal
+
+pub returns-then-vertex_decides : goal.returns-then-vertex_decides
+returns-then-vertex_decides c =
+    let a = c.args in
+    let h = sym c.vertex_decides.ensures ∙ c.if-vertex_decides.true in
+    (decides-occupied (state_of a.b.now) a.v h, decides-read (state_of a.b.now) a.v h)
+
+pub returns-else-vertex_decides : goal.returns-else-vertex_decides
+returns-else-vertex_decides c =
+    let a = c.args in
+    let h = sym c.vertex_decides.ensures ∙ c.if-vertex_decides.false in
+    let r = c.held_side.ensures in
+    (r.0 ∙ sides-occupied (state_of a.b.now) a.v h, r.1 ∙ sides-read (state_of a.b.now) a.v h)

@@ -1,0 +1,7 @@
+use Rattle.calls.specs.Refuse.{in_blossom}
+use borrow.Author.Rules.{rules}
+use Rattle.calls.proofs.refuse.in_blossom.Goals as goal
+
+pub returns : goal.returns
+unfolding in_blossom
+returns c = rw c.parent.ensures.0

@@ -1,0 +1,15 @@
+use native.Mathlib.Omega.{arith}
+use mathlib.Core.Path.{refl}
+use mir.Facts.{to_z-of_z}
+use Rattle.calls.specs.laws.Replies.{usable-steady, along-up}
+use borrow.Author.Rules.{rules}
+use Rattle.calls.proofs.tested.grow_dual_node.Goals as goal
+
+pub grow_along-requires : goal.grow_along-requires
+grow_along-requires c = (usable-steady c.requires c.args.n 1, omega arith, λ e. refl)
+
+pub returns : goal.returns
+returns c =
+    let g = c.grow_along.ensures in
+    let e = along-up c.args.length in
+    (rw (to_z-of_z c.ranges.length, e) at g.0, g.1, rw (to_z-of_z c.ranges.length, e) at g.2)
