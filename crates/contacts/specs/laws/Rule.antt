@@ -76,11 +76,16 @@ same-contact c x p = rw (← p.left-node, ← p.right-node) refl
 
 -- ---- the list
 
+-- a contact in a list is its first or stands behind it
+among-split : {P : Type 0} (x y : Contact) (l : List Contact) → AmongContacts x (y ∷ l) → (y ≡ x → P) → (AmongContacts x l → P) → P
+among-split x y l first k h = k refl
+among-split x y l (later a) k h = h a
+
 -- a contact in the list is that of an edge
 module _ (f : ℕ → Contact) where
   among-map : {P : Type 0} (x : Contact) (l : List ℕ) → AmongContacts x (map f l) → ((e : ℕ) → member e l ≡ true → f e ≡ x → P) → P
-  among-map x (e ∷ l) first k = k e (member-head e l) refl
-  among-map x (e ∷ l) (later a) k = among-map x l a (λ i m q. k i (member-tail i e l m) q)
+  among-map {P = P} x [] a k = elim a [ ]
+  among-map x (e ∷ l) a k = among-split x (f e) (map f l) a (λ q. k e (member-head e l) q) (λ b. among-map x l b (λ i m q. k i (member-tail i e l m) q))
 
   map-among : (e : ℕ) (l : List ℕ) → member e l ≡ true → AmongContacts (f e) (map f l)
   map-among e [] m = member-nil e m
@@ -105,11 +110,11 @@ is_among c x p =
 
 wider : {m k : ℕ} (n : ℕ) (l : List Contact) → m ≤ n → EdgesRise m k l → EdgesRise n k l
 wider {m} {k} n [] h (none b) = none {k = k} (omega arith)
-wider n (x ∷ l) h (next b r) = next b (wider n l h r)
+wider {m = m} {k = k} n (x ∷ l) h (next b r) = next b (wider {k = x.edge + 1} n l h r)
 
 rise-snoc : {m k : ℕ} (l : List Contact) (x : Contact) → m ≤ x.edge → EdgesRise m k l → EdgesRise (x.edge + 1) k (l ++ (x ∷ []))
 rise-snoc {m} {k} [] x h (none b) = next {k = k} {x = x} (omega arith) (none {k = x.edge + 1} (omega arith))
-rise-snoc (y ∷ l) x h (next b r) = next b (rise-snoc l x h r)
+rise-snoc {m = m} {k = k} (y ∷ l) x h (next b r) = next b (rise-snoc {k = y.edge + 1} l x h r)
 
 one_more : (c : State) (e : ℕ) → EdgesRise e 0 (contacts_below c e) → EdgesRise (e + 1) 0 (contacts_below c (e + 1))
 unfolding contact_of

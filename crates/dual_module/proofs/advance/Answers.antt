@@ -1,0 +1,12 @@
+use mathlib.Core.Path.{sym, ◌∙◌}
+use Rattle.dual_module.specs.laws.Called.{lent-refused-scratch}
+use Rattle.dual_module.specs.laws.Sound.{known-none}
+use borrow.Author.Rules.{rules}
+use Rattle.dual_module.proofs.advance.Goals as goal
+
+pub returns-then-k-ne0 : goal.returns-then-k-ne0
+returns-then-k-ne0 c =
+    lent-refused-scratch c.refusal-k.ensures c.if-k-ne0.true c.args.b.now c.args.t.now _ _
+
+pub advance-requires : goal.advance-requires
+advance-requires c = (sym c.refusal-k.ensures ∙ c.if-k-ne0.false, known-none _)

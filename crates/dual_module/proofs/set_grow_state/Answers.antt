@@ -1,0 +1,7 @@
+use Rattle.dual_module.specs.laws.Called.{lent-refused}
+use borrow.Author.Rules.{rules}
+use Rattle.dual_module.proofs.set_grow_state.Goals as goal
+
+pub returns-then-k-ne0 : goal.returns-then-k-ne0
+returns-then-k-ne0 c =
+    lent-refused c.refusal-k.ensures c.if-k-ne0.true c.args.b.now _ _

@@ -1,0 +1,7 @@
+use Rattle.remove.specs.laws.Opened.{member-returned}
+use borrow.Author.Rules.{rules}
+use Rattle.remove.proofs.opened.return_member.Goals as goal
+
+pub returns : goal.returns
+returns c =
+    member-returned c.args.m c.set_holders.ensures c.set_parent.ensures
