@@ -62,18 +62,20 @@ class Body:
         self.alias = dict(alias or {})
 
     def step(self, place, field, want):
-        return self.found(place, field) or self.found(self.place, field)
+        """Today's name of a step: of one with this name at the place or above, else below, else of one that a count tells apart."""
+        for whole in (True, False):
+            for at in (place, self.place):
+                new = self.found(at, field, whole)
+                if new:
+                    return new
+        return None
 
-    def found(self, place, field):
+    def found(self, place, field, whole):
+        wanted = {alike(field), alike(field.replace("_lem", "").replace("_Is", "_"))}
+        wanted = wanted if whole else {re.sub(r"\d+$", "", w) for w in wanted}
         for p in self.rows.above(place):
             old, new = p[2]
-            if old and alike(old) in (alike(field), alike(field.replace("_lem", "").replace("_Is", "_"))):
-                return new
-        # the same name with a count that the place needs no more, or further down
-        stem = re.sub(r"\d+$", "", alike(field))
-        for p in self.rows.above(place):
-            old, new = p[2]
-            if old and re.sub(r"\d+$", "", alike(old)) == stem:
+            if old and (alike(old) if whole else re.sub(r"\d+$", "", alike(old))) in wanted:
                 return new
         return None
 

@@ -262,7 +262,7 @@ call-past c s (LoadEdgeModifier pairs) = weights-past c s pairs
 pub after-past : {log : ℕ → State} (c : State) → PastInvariant log c → (ks : List Call) → PastInvariant (after_log c ks log) (after c ks)
 unfolding after after_log
 after-past c g [] = g
-after-past c g (k ∷ ks) = after-past (respond c k).state (call-past c g k) ks
+after-past {log = log} c g (k ∷ ks) = after-past {log = logged c k log} (respond c k).state (call-past c g k) ks
 
 pub reachable-past : (c : State) (r : Reachable c) → PastInvariant (log_of c r) c
 unfolding log_of
