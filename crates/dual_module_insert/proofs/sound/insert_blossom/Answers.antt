@@ -1,0 +1,35 @@
+use mathlib.Core.List.{map}
+use Rattle.graph.specs.Word.{to_nat}
+use Rattle.graph.specs.Layout.{state_of}
+use Rattle.memory_tests.specs.laws.Memory.{memory-accepted}
+use Rattle.dual_module.specs.Called.{blossom_writes}
+use Rattle.dual_module.specs.laws.Called.{lendable-usable, test-so, test-not}
+use Rattle.dual_module.specs.laws.Sound.{passed-usable, known-same-insert, known-done-insert}
+use Rattle.blossom.specs.laws.Blossom.{blossom-refused}
+use Rattle.blossom.specs.laws.Keeps.{blossom-refused-passes}
+use borrow.Author.Rules.{rules}
+use Rattle.dual_module_insert.proofs.sound.insert_blossom.Goals as goal
+
+pub blossom_refusal-j-requires : goal.blossom_refusal-j-requires
+blossom_refusal-j-requires c =
+    (memory-accepted c.args.b.now c.args.t.now c.requires.0).formed
+
+pub returns-then-j-ne0 : goal.returns-then-j-ne0
+unfolding blossom_writes
+returns-then-j-ne0 c =
+    let e = c.blossom_refusal-j.ensures in
+    known-same-insert c.args.b.now c.args.t.now c.requires.0 c.as_before.ensures c.requires.1 (test-not e c.if-j-ne0.true)
+    (blossom-refused-passes (state_of c.args.b.now) c.args.x (map to_nat c.args.circle.now) _ e c.if-j-ne0.true)
+    (blossom-refused (lendable-usable (memory-accepted c.args.b.now c.args.t.now c.requires.0)) c.args.x _ (map to_nat c.args.circle.now) e
+    c.if-j-ne0.true)
+
+pub insert_blossom-requires : goal.insert_blossom-requires
+insert_blossom-requires c =
+    passed-usable c.args.b.now c.args.t.now c.requires.0 c.clear_unless.ensures
+
+pub returns : goal.returns
+unfolding blossom_writes
+returns c =
+    let p = c.insert_blossom.ensures in
+    known-done-insert c.args.b.now c.args.t.now c.requires.0 c.after_core.ensures (test-so c.blossom_refusal-j.ensures c.if-j-ne0.false)
+    c.clear_unless.ensures p.1 p.2 p.0
