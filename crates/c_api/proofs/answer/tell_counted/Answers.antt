@@ -1,12 +1,8 @@
 use Prim.Native.Nat.{ℕ}
 use mathlib.Core.Path.{◌≡◌, refl, sym, ap}
-use mathlib.Core.List.{[], ◌∷◌}
-use types.Run.{OneOf, miss}
-use denote.Enum.Declared.{tag_of}
 use Rattle.answers.specs.declared.Answer.{Answer}
 use Rattle.answers.specs.declared.Answer.TheVariants.{Length, Done, Node, Prepared, Vertex, Refused}
 use Rattle.answers.specs.Answer.{is_done}
-use Rattle.answers.specs.contracts.Answer as Kinds
 use Rattle.c_api.specs.Words.{answer_numbers, count_numbers}
 use Rattle.c_api.specs.laws.Words.{tells_as}
 use borrow.Author.Rules.{rules}
@@ -14,10 +10,10 @@ use Rattle.c_api.proofs.answer.tell_counted.Goals as goal
 
 -- an answer of another case is told as it is
 
-others : (a : Answer) (n : ℕ) → OneOf (0 ∷ 2 ∷ 3 ∷ 4 ∷ 5 ∷ []) (tag_of Kinds.the_type a) → count_numbers a n ≡ answer_numbers a
+others : (a : Answer) (n : ℕ) → (a ≡ Done → ⊥) → count_numbers a n ≡ answer_numbers a
 unfolding count_numbers is_done
 others (Length m) n h = refl
-others Done n h = absurd (miss (0 ∷ 2 ∷ 3 ∷ 4 ∷ 5 ∷ []) 1 tt h)
+others Done n h = absurd (h refl)
 others (Node m) n h = refl
 others (Prepared k) n h = refl
 others (Vertex v) n h = refl
@@ -31,4 +27,4 @@ returns-in-Done c =
 pub returns-in_default : goal.returns-in_default
 returns-in_default c =
     let a = c.args.c in
-    tells_as c.tell.ensures (sym (others a.answer a.count c.in_default.keys2))
+    tells_as c.tell.ensures (sym (others a.answer a.count c.in_default.not-Done))

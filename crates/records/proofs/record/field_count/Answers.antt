@@ -1,3 +1,4 @@
+use native.Mathlib.Omega.{arith}
 use mathlib.Core.Path.{sym}
 use Rattle.records.specs.laws.Decode.{fields-none}
 use Rattle.records.specs.Record.{field_counts}
@@ -45,8 +46,6 @@ returns-in-11 c = cc
 
 pub returns-in_default : goal.returns-in_default
 returns-in_default c =
-    let m = c.in_default.rest in
     sym
-    (fields-none c.args.kind m.0.0.0.0.0.0.0.0.0.1 m.0.0.0.0.0.0.0.0.1
-    m.0.0.0.0.0.0.0.1 m.0.0.0.0.0.0.1 m.0.0.0.0.0.1 m.0.0.0.0.1 m.0.0.0.1
-    m.0.0.1 m.0.1 m.1)
+    (fields-none c.args.kind (omega arith) (omega arith) (omega arith) (omega arith) (omega arith) (omega arith)
+    (omega arith) (omega arith) (omega arith) (omega arith))
