@@ -1,0 +1,13 @@
+use Rattle.c_api.specs.laws.Words.{told-short, told-all}
+use mathlib.Core.Path.{refl}
+use borrow.Author.Rules.{rules}
+use Rattle.c_api_round.proofs.fb_group_max_update_length.Goals as goal
+
+pub returns-then-answer-lt5 : goal.returns-then-answer-lt5
+returns-then-answer-lt5 c = told-short c.if-answer-lt5.true c.refuse_short.ensures ((refl, refl, refl), refl)
+
+pub returns : goal.returns
+returns c =
+    told-all (search rules) _
+    c.compute_maximum_update_length-g.ensures
+    c.tell_group.ensures

@@ -1,0 +1,17 @@
+use mir.Facts.{to_z-of_z}
+use Rattle.c_api.specs.laws.Words.{told-short, told-all}
+use mathlib.Core.Path.{refl}
+use borrow.Author.Rules.{rules}
+use Rattle.c_api_round.proofs.fb_grow_all.Goals as goal
+
+pub returns-then-answer-lt5 : goal.returns-then-answer-lt5
+returns-then-answer-lt5 c = told-short c.if-answer-lt5.true c.refuse_short.ensures (refl, refl, refl)
+
+pub returns : goal.returns
+returns c =
+    told-all (search rules) _
+    (rw
+    (to_z-of_z
+    c.ranges.length)
+    at c.grow-a.ensures)
+    c.tell.ensures
