@@ -5,7 +5,5 @@ pub mod Nearest
 pub mod Reach
 pub mod Table
 pub mod Feasible
-pub mod Theorems
 pub mod Opens
 pub mod Examples
-pub mod laws

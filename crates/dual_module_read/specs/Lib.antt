@@ -1,3 +1,2 @@
--- What the contracts of `dual_module_read` cite; its laws are in laws/.
+-- What the contracts of `dual_module_read` cite; its laws are in proofs/laws/.
 pub mod Read
-pub mod laws

@@ -1,5 +1,4 @@
--- What the contracts of `growth` cite: the definitions; their laws are in laws/.
+-- What the contracts of `growth` cite: the definitions; their laws are in proofs/laws/.
 pub mod Growth
 pub mod Opens
 pub mod inner
-pub mod laws

@@ -13,7 +13,7 @@ use Rattle.table_theorem.specs.History.{no_blossoms}
 use Rattle.table_theorem.specs.Runs.{Run}
 use Rattle.table_theorem.specs.Opens.{everything}
 use Rattle.length_theorem.specs.Meaning.{run_graph, dual_is, growing_length, DefectAt, ConflictMeans, Tight, with-node}
-use Rattle.length_theorem.specs.Theorems.{conflict-is-tight}
+use Rattle.length_theorem.proofs.Theorems.{conflict-is-tight}
 
 -- ---- graph P with a middle edge of weight w; N 4, L 40
 

@@ -17,13 +17,13 @@ use Rattle.answers.specs.Answer.{says}
 use Rattle.update_length.specs.laws.Long.{long_as}
 use Rattle.calls.specs.Insert.{occupied, defect_refusal}
 use Rattle.calls.specs.Occupied.{vertex_decides, sides_read}
-use Rattle.calls.specs.Theorems.{none_read, all_read}
-use Rattle.calls.specs.laws.Occupied.{accepted-vacant, refused-occupied}
+use Rattle.calls.proofs.Theorems.{none_read, all_read}
+use Rattle.calls.proofs.laws.Occupied.{accepted-vacant, refused-occupied}
 use Rattle.calls.specs.Calls.{Call, max_update_length, advance, response, respond}
 use Rattle.calls.specs.Round.{prepare_all, round, group_length}
 use Rattle.calls.specs.declared.group.GroupMaxUpdateLength.TheVariants.{NonZeroGrow as group_free, Refused as group_refused}
 use Rattle.calls.specs.Remove.{is_blossom, remove_refusal, remove_blossom}
-use Rattle.calls.specs.laws.RemoveCall.{remove-keeps}
+use Rattle.calls.proofs.laws.RemoveCall.{remove-keeps}
 use Rattle.reachable.specs.laws.state.Live.{invariant-sound}
 use Rattle.reachable.specs.laws.remove.Answer.{opening-member, opening-removed, opening-done, opening-back, opening-refused-15}
 use Rattle.reachable.specs.laws.remove.Named.{named-refused}

@@ -4,5 +4,3 @@
 pub mod SmallPatch
 pub mod Reach
 pub mod Words
-pub mod Theorems
-pub mod laws

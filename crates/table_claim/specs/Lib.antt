@@ -4,29 +4,18 @@
 -- lines (Reading), the dual variable that a vertex carries (Carried), what the history says of a node (NodeRecorded).
 -- Files that end in Theorems have proofs that cite laws: EveryRunTheorems what holds of every list of calls,
 -- ObstacleTheorems what a length means in the terms of matching, PrintedTheorems what holds of lines; ExampleTheorems and
--- LentExampleTheorems show that nothing is vacuous. The proofs are in laws/. RoundExampleTheorems has a run with rounds.
+-- LentExampleTheorems show that nothing is vacuous. These stand in proofs/, their proofs in proofs/laws/. RoundExampleTheorems has a run with rounds.
 -- FromSheetTheorems: runs that begin with an opening from a sheet, with SheetExampleTheorems. ListTheorems: a list of
 -- calls that fb_calls makes (Listed) is one of its calls.
 pub mod Lent
 pub mod Run
-pub mod EveryRunTheorems
 pub mod Hosted
 pub mod Listed
-pub mod ListTheorems
 pub mod Carried
 pub mod NodeRecorded
 pub mod Input
 pub mod Reading
 pub mod Tables
 pub mod Program
-pub mod PrintedTheorems
 pub mod Demand3
-pub mod Demand3Theorems
-pub mod FromSheetTheorems
-pub mod ObstacleTheorems
 pub mod Opens
-pub mod ExampleTheorems
-pub mod LentExampleTheorems
-pub mod RoundExampleTheorems
-pub mod SheetExampleTheorems
-pub mod laws

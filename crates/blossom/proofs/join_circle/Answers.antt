@@ -1,7 +1,7 @@
 use mathlib.Core.Path.{sym, ◌∙◌}
 use mathlib.Core.List.{map}
 use Rattle.graph.specs.Word.{to_nat}
-use Rattle.pass.specs.laws.Scratch.{scratch-same}
+use Rattle.pass.proofs.laws.Scratch.{scratch-same}
 use Rattle.blossom.specs.laws.Blossom.{circle-joined}
 use borrow.Author.Rules.{rules}
 use Rattle.blossom.proofs.join_circle.Goals as goal

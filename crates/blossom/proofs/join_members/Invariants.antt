@@ -5,7 +5,7 @@ use mathlib.Core.Path.{sym, ◌∙◌}
 use mathlib.Core.List.{map}
 use lib.ListN.{length, length-map}
 use Rattle.graph.specs.Word.{to_nat}
-use Rattle.calls.specs.laws.Front.{front-none}
+use Rattle.calls.proofs.laws.Front.{front-none}
 use Rattle.graph.specs.laws.Form.{laid-nodes}
 use Rattle.graph.specs.laws.Number.{word-entry}
 use Rattle.blossom.specs.laws.Blossom.{MembersJoined, joined-here, members-none, members-node, members-sides, members-apart, members-more, members-all}

@@ -23,21 +23,21 @@ use Rattle.pass.specs.Scratch.{scratch_of}
 use Rattle.pass.specs.inner.Scratch.{wiped}
 use Rattle.pass.specs.Prepare.{prepare_node}
 use Rattle.pass.specs.inner.Ready.{Ready, Shrinkable, Preparable, AfterPreparation}
-use Rattle.pass.specs.laws.Scratch.{scratch-same, hold-first, first-numbers, wipe-first}
-use Rattle.pass.specs.laws.Passes.{Passed}
-use Rattle.pass.specs.laws.Prepare.{prepare-passed}
+use Rattle.pass.proofs.laws.Scratch.{scratch-same, hold-first, first-numbers, wipe-first}
+use Rattle.pass.proofs.laws.Passes.{Passed}
+use Rattle.pass.proofs.laws.Prepare.{prepare-passed}
 use Rattle.answers.specs.declared.Answer.TheVariants.{Node, Refused}
 use Rattle.answers.specs.Answer.{says}
 use Rattle.calls.specs.Refuse.{entries_unless, entries_but, unless}
 use Rattle.calls.specs.Insert.{Joining, blossom_refusal, prepare_step, join_side, member_stays, join_step, join_circle, blossom_put, insert_blossom}
-use Rattle.calls.specs.laws.Front.{front-none, none-front, front-before, front-after}
+use Rattle.calls.proofs.laws.Front.{front-none, none-front, front-before, front-after}
 use Rattle.blossom.specs.inner.Circle.{Joinable, JoinedIn, joined_in}
 use Rattle.calls.specs.inner.Reply.{RepliesInsert, Usable}
-use Rattle.calls.specs.laws.Accepted.{BlossomAccepted, blossom-accepted, entries-passed}
+use Rattle.calls.proofs.laws.Accepted.{BlossomAccepted, blossom-accepted, entries-passed}
 use Rattle.blossom.specs.laws.Circle.{joinable-room, accepted-joinable}
 use Rattle.graph.specs.Active.{join_active}
 use Rattle.graph.specs.laws.Shape.{sound-active}
-use Rattle.calls.specs.laws.Defect.{SameLists, same_refl, Joins, new-joins, node-active, inserted-joined}
+use Rattle.calls.proofs.laws.Defect.{SameLists, same_refl, Joins, new-joins, node-active, inserted-joined}
 
 -- ---- preparing
 

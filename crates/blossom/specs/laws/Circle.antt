@@ -17,13 +17,13 @@ use Rattle.graph.specs.laws.Members.{by-test, or-neither-right, all_from, member
 use Rattle.graph.specs.laws.Stamp.{stamped-none, stamped-more, stamped-fails, stamped-all}
 use Rattle.graph.specs.laws.Opened.{get_d-zeros}
 use Rattle.pass.specs.inner.Ready.{Shrinkable}
-use Rattle.pass.specs.laws.Ready.{sound-shrinkable}
+use Rattle.pass.proofs.laws.Ready.{sound-shrinkable}
 use Rattle.calls.specs.Refuse.{bad_node, in_blossom, entries_unless, entries_but, store_short}
 use Rattle.calls.specs.Insert.{no_circle, blossom_refusal}
 use Rattle.blossom.specs.inner.Circle.{Joinable}
 use Rattle.calls.specs.inner.Reply.{Usable}
-use Rattle.calls.specs.laws.Refuse.{good-inside}
-use Rattle.calls.specs.laws.Accepted.{BlossomAccepted, store-room, entries-named, entries_none}
+use Rattle.calls.proofs.laws.Refuse.{good-inside}
+use Rattle.calls.proofs.laws.Accepted.{BlossomAccepted, store-room, entries-named, entries_none}
 use Rattle.graph.specs.laws.List.{store-max}
 use Rattle.graph.specs.laws.Number.{word-entry}
 

@@ -7,7 +7,7 @@ use Rattle.pass.specs.Prepare.{prepare_node}
 use Rattle.pass.specs.KeepsSound.{keeps_sound}
 use Rattle.calls.specs.Insert.{blossom_refusal, prepare_step}
 use Rattle.calls.specs.Keeps.{circle_keeps, blossom_keeps}
-use Rattle.calls.specs.laws.Keeps.{refused-passes, accepted-asks}
+use Rattle.calls.proofs.laws.Keeps.{refused-passes, accepted-asks}
 
 circle-rest : (c : State) (l : List ℕ) (i : ℕ) → i < length l
     → circle_keeps c (drop i l) ≡ keeps_sound c (get_or l i 0) && circle_keeps (prepare_node c (get_or l i 0) down).state (drop (i + 1) l)

@@ -16,7 +16,7 @@ use Rattle.memory_tests.specs.laws.Memory.{Lendable, memory-accepted, fits-sized
 use Rattle.memory_tests.specs.laws.Whole.{formed-sized, memory-by-length}
 use Rattle.answers.specs.declared.Answer.TheVariants.{Refused}
 use Rattle.answers.specs.Numbers.{answer_numbers, Tells}
-use Rattle.table_theorem.specs.laws.Kept.{Wiring, wiring_of, calls-wired}
+use Rattle.table_theorem.proofs.laws.Kept.{Wiring, wiring_of, calls-wired}
 use Rattle.soundness_theorem.specs.KeptSound.{KeptSound}
 use Rattle.dual_module.specs.inner.Known.{KnownZero}
 use Rattle.c_api_calls.specs.ListCall.{ListCall}

@@ -7,7 +7,7 @@ use Rattle.graph.specs.Word.{to_nat}
 use Rattle.graph.specs.Layout.{state_of, memory_refusal}
 use Rattle.graph.specs.laws.State.{if-both}
 use Rattle.reachable.specs.Reachable.{after, Reachable}
-use Rattle.table_theorem.specs.laws.Append.{after-append}
+use Rattle.table_theorem.proofs.laws.Append.{after-append}
 use Rattle.soundness_theorem.specs.Theorems.{reached-prepare, reached-length, reached-grow, reached-advance, reached-blossom}
 use Rattle.c_api_calls.specs.ListCall.{ListCall, list_defect, list_blossom, list_state, list_prepare, list_length, list_grow, list_advance, list_clear, list_vertex, list_node, list_gap, list_other}
 use Rattle.c_api_calls.specs.Tests.{keeps, leaves, tests_from, tests_in}

@@ -4,7 +4,7 @@ use borrow.Author.Tests.{ne_eqb}
 use Rattle.graph.specs.Layout.{state_of, memory_refusal}
 use Rattle.answers.specs.declared.Answer.TheVariants.{Refused}
 use Rattle.answers.specs.Numbers.{answer_numbers, Tells}
-use Rattle.dual_module.specs.laws.Called.{lent-refused, lent-refused-scratch, refusal-answered}
+use Rattle.dual_module.proofs.laws.Called.{lent-refused, lent-refused-scratch, refusal-answered}
 use Rattle.dual_module_node.specs.declared.NodeRead.TheVariants.{Refused as NodeRefused}
 use Rattle.dual_module_node.specs.laws.ReadNode.{memory-refused}
 use Rattle.dual_module_gap.specs.declared.GapAnswer.TheVariants.{Refused as GapRefused}

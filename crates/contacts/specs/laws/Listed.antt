@@ -10,7 +10,7 @@ use Rattle.graph.specs.laws.Members.{by-test, length-only, length-below}
 use Rattle.active_list.specs.laws.Renewal.{only-snoc}
 use Rattle.calls.specs.Reply.{over_front}
 use Rattle.calls.specs.Contacts.{Contact, is_contact, contact_of, contacts, contact_words, end_word}
-use Rattle.calls.specs.laws.Read.{front-none, front-more}
+use Rattle.calls.proofs.laws.Read.{front-none, front-more}
 
 -- those below edge e
 unfoldable pub contacts_below : State → ℕ → List Contact

@@ -1,5 +1,5 @@
 use mathlib.Core.Path.{◌∙◌}
-use Rattle.dual_module.specs.laws.Called.{wipe-all}
+use Rattle.dual_module.proofs.laws.Called.{wipe-all}
 use borrow.Author.Rules.{rules}
 use Rattle.dual_module.proofs.clear_scratch.Goals as goal
 

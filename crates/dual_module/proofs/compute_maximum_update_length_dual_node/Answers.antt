@@ -1,6 +1,6 @@
 use mathlib.Core.Path.{sym, ◌∙◌}
-use Rattle.dual_module.specs.laws.Called.{lent-refused-scratch}
-use Rattle.dual_module.specs.laws.Sound.{known-none}
+use Rattle.dual_module.proofs.laws.Called.{lent-refused-scratch}
+use Rattle.dual_module.proofs.laws.Sound.{known-none}
 use borrow.Author.Rules.{rules}
 use Rattle.dual_module.proofs.compute_maximum_update_length_dual_node.Goals as goal
 

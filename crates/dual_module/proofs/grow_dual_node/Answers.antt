@@ -1,7 +1,7 @@
 use mathlib.Core.Path.{sym, ◌∙◌}
 use mir.Facts.{to_z-of_z}
-use Rattle.dual_module.specs.laws.Called.{lent-refused-scratch}
-use Rattle.dual_module.specs.laws.Sound.{known-none}
+use Rattle.dual_module.proofs.laws.Called.{lent-refused-scratch}
+use Rattle.dual_module.proofs.laws.Sound.{known-none}
 use borrow.Author.Rules.{rules}
 use Rattle.dual_module.proofs.grow_dual_node.Goals as goal
 

@@ -1,4 +1,4 @@
-use Rattle.dual_module.specs.laws.Called.{lent-refused}
+use Rattle.dual_module.proofs.laws.Called.{lent-refused}
 use borrow.Author.Rules.{rules}
 use Rattle.dual_module.proofs.set_grow_state.Goals as goal
 

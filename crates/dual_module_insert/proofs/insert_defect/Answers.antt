@@ -1,6 +1,6 @@
 use mathlib.Core.Path.{sym, ◌∙◌}
-use Rattle.dual_module.specs.laws.Called.{lent-refused-scratch}
-use Rattle.dual_module.specs.laws.Sound.{known-none}
+use Rattle.dual_module.proofs.laws.Called.{lent-refused-scratch}
+use Rattle.dual_module.proofs.laws.Sound.{known-none}
 use borrow.Author.Rules.{rules}
 use Rattle.dual_module_insert.proofs.insert_defect.Goals as goal
 

@@ -1,7 +1,7 @@
 use mathlib.Core.Path.{sym, ◌∙◌}
 use Rattle.calls.specs.Erasures.{pairs_from}
 use Rattle.edge_modifier.specs.laws.Load.{load-refused}
-use Rattle.dual_module.specs.laws.Called.{lent-refused, call_same}
+use Rattle.dual_module.proofs.laws.Called.{lent-refused, call_same}
 use Rattle.dual_module_modifier.specs.laws.Called.{pairs-lendable, call-loaded}
 use borrow.Author.Rules.{rules}
 use Rattle.dual_module_modifier.proofs.load_edge_modifier.Goals as goal

@@ -14,7 +14,7 @@ use Rattle.calls.specs.Erasures.{pairs_from, modifier_refusal, load_edge_modifie
 use Rattle.calls.specs.inner.Reply.{Replies}
 use Rattle.edge_modifier.specs.laws.Load.{pairs-count}
 use Rattle.dual_module.specs.Called.{Called}
-use Rattle.dual_module.specs.laws.Called.{memory-lendable, call_same, call-done}
+use Rattle.dual_module.proofs.laws.Called.{memory-lendable, call_same, call-done}
 use Rattle.dual_module_modifier.specs.Called.{pairs_refusal, modifier_writes}
 
 -- block and scratch, where nothing that is lent is refused

@@ -2,7 +2,7 @@ use native.Mathlib.Omega.{arith}
 use mathlib.Core.Path.{sym, ◌∙◌}
 use lib.ListN.{length}
 use Rattle.memory_tests.specs.laws.Memory.{list-accepted}
-use Rattle.dual_module_read.specs.laws.Read.{list-refused, list-filled, count_none, count-so}
+use Rattle.dual_module_read.proofs.laws.Read.{list-refused, list-filled, count_none, count-so}
 use borrow.Author.Rules.{rules}
 use Rattle.dual_module_read.proofs.contacts.Goals as goal
 

@@ -1,4 +1,4 @@
-use Rattle.dual_module.specs.laws.Called.{refusal-answered}
+use Rattle.dual_module.proofs.laws.Called.{refusal-answered}
 use borrow.Author.Rules.{rules}
 use Rattle.dual_module_read.proofs.get_representative_vertex.Goals as goal
 

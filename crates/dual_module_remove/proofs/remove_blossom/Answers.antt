@@ -1,5 +1,5 @@
 use Rattle.dual_module_remove.specs.Called.{remove_writes}
-use Rattle.dual_module.specs.laws.Called.{lent-refused-scratch, memory-lendable, lendable-usable, call-same-scratch, call-done-scratch, test-so, test-not}
+use Rattle.dual_module.proofs.laws.Called.{lent-refused-scratch, memory-lendable, lendable-usable, call-same-scratch, call-done-scratch, test-so, test-not}
 use Rattle.remove.specs.laws.Call.{removal-refused}
 use borrow.Author.Rules.{rules}
 use Rattle.dual_module_remove.proofs.remove_blossom.Goals as goal

@@ -1,5 +1,5 @@
 use Rattle.dual_module_round.specs.laws.Called.{alone-accepted, renew-replies}
-use Rattle.dual_module.specs.laws.Called.{lent-refused, call-done}
+use Rattle.dual_module.proofs.laws.Called.{lent-refused, call-done}
 use Rattle.graph.specs.laws.Shape.{sound-active}
 use mathlib.Core.Path.{refl, sym, ◌∙◌}
 use borrow.Author.Rules.{rules}

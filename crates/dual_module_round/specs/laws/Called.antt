@@ -29,14 +29,14 @@ use Rattle.calls.specs.declared.group.GroupMaxUpdateLength.TheVariants.{Refused 
 use Rattle.calls.specs.Refuse.{unless}
 use Rattle.calls.specs.inner.Reply.{Replies, Usable}
 use Rattle.calls.specs.Round.{refusal_of, tried, prepared_all, prepare_all, round, renew_active_list, GroupReply, answers_of, group_of, is_refused, group_refusal, group_length}
-use Rattle.calls.specs.laws.Grouped.{of-answered}
+use Rattle.calls.proofs.laws.Grouped.{of-answered}
 use Rattle.round_trial.specs.Trial.{whole_trial}
 use Rattle.round_trial.specs.inner.Step.{TriedTo}
 use Rattle.round_list.specs.Asked.{listed_from}
 use Rattle.round.specs.inner.Group.{GroupTried}
 use Rattle.round_trial.specs.laws.InTurn.{turned_none, turned-some}
 use Rattle.round_list.specs.laws.Listing.{listed-none}
-use Rattle.dual_module.specs.laws.Called.{lendable-usable}
+use Rattle.dual_module.proofs.laws.Called.{lendable-usable}
 use Rattle.dual_module_round.specs.Called.{trial_refusal, group_trial_refusal, below_one, round_refusal, OnTrial, trial_reply, trial_answer, GroupOnTrial}
 
 -- ---- copies

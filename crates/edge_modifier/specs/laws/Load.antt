@@ -20,7 +20,7 @@ use Rattle.open_graph.specs.laws.Open.{Rest, rest_more, rest-fails, rest_all}
 use Rattle.answers.specs.declared.Answer.TheVariants.{Done, Refused}
 use Rattle.calls.specs.Erasures.{EdgeWeight, edge_weight_at, pairs_in, pairs_from, names_edge, weight_in_range, weights_bound, modifier_refusal, reweigh, reweighed, load_edge_modifier}
 use Rattle.calls.specs.inner.Reply.{Replies}
-use Rattle.calls.specs.laws.Replies.{replies-refused, replies-accepted}
+use Rattle.calls.proofs.laws.Replies.{replies-refused, replies-accepted}
 use Rattle.edge_modifier.specs.inner.Refusals.{refusal_of_mark, refusal_of_weights}
 
 -- ---- the chain

@@ -26,16 +26,16 @@ use Rattle.pass.specs.Grow.{reaches, grow_step, grow_scanned, grow_pass}
 use Rattle.pass.specs.inner.Once.{note_with, note_far, grow_step_once, take_once, grow_scanned_once, grow_pass_once, Alike}
 use Rattle.pass.specs.inner.Another.{called}
 use Rattle.pass.specs.inner.Free.{free_count}
-use Rattle.pass.specs.laws.Counts.{zeros-le, zeros-taken}
-use Rattle.pass.specs.laws.Once.{grow-scanned-sides, grow-scanned-kept, grow-scanned-over, grow-alike}
-use Rattle.pass.specs.laws.Noted.{finish-alike}
-use Rattle.pass.specs.laws.Passes.{Keeps, keeps-keep, keeps-note, keeps_on, grow-pass-keeps}
+use Rattle.pass.proofs.laws.Counts.{zeros-le, zeros-taken}
+use Rattle.pass.proofs.laws.Once.{grow-scanned-sides, grow-scanned-kept, grow-scanned-over, grow-alike}
+use Rattle.pass.proofs.laws.Noted.{finish-alike}
+use Rattle.pass.proofs.laws.Passes.{Keeps, keeps-keep, keeps-note, keeps_on, grow-pass-keeps}
 use Rattle.pass.specs.Scratch.{zero_scratch, scratch_of}
 use Rattle.pass.specs.inner.Scratch.{note_limit, ScratchHolds, wiped}
-use Rattle.pass.specs.laws.Scratch.{scratch-sections, holding-zero, zero-holding, wipe-first, wipe-second, wipe-third}
+use Rattle.pass.proofs.laws.Scratch.{scratch-sections, holding-zero, zero-holding, wipe-first, wipe-second, wipe-third}
 use Rattle.graph.specs.laws.Form.{formed-shape, formed-vertices}
 use Rattle.pass.specs.inner.Ready.{Ready, Growable, AfterPass}
-use Rattle.pass.specs.laws.Fits.{grow-scanned-own, Still, still-grow-step, sound-own-sides, sound-grow-fits, sound-boundary-le}
+use Rattle.pass.proofs.laws.Fits.{grow-scanned-own, Still, still-grow-step, sound-own-sides, sound-grow-fits, sound-boundary-le}
 use Rattle.pass.specs.inner.Own.{OwnList, OwnSides}
 use Rattle.grow_pass.specs.inner.Growing.{grow_work_in, GrowWorking, GrowWorked, OwnKept, NotesFit}
 use Rattle.grow_pass.specs.laws.Growing.{kept-length, noted-length, pushed-length, over-length, worked_then, work-keep, work-note, work-block, work_none, Keeping, Looped}

@@ -18,10 +18,10 @@ use Rattle.graph.specs.laws.State.{kept_refl, kept_trans, fold_more, fold_done}
 use Rattle.graph.specs.inner.Kept.{SameButHolders}
 use Rattle.pass.specs.Work.{Work, on_state, keep, note, push, call_another}
 use Rattle.pass.specs.inner.Another.{called, called_if}
-use Rattle.pass.specs.laws.Another.{called-if}
+use Rattle.pass.proofs.laws.Another.{called-if}
 use Rattle.pass.specs.inner.Scratch.{note_limit, ScratchHolds}
-use Rattle.pass.specs.laws.Scratch.{hold-first, hold-second, hold-third}
-use Rattle.pass.specs.laws.Passes.{Keeps}
+use Rattle.pass.proofs.laws.Scratch.{hold-first, hold-second, hold-third}
+use Rattle.pass.proofs.laws.Passes.{Keeps}
 use Rattle.grow_pass.specs.inner.Growing.{grow_work_in, GrowWorking, GrowWorked}
 use Rattle.grow_pass.specs.declared.take.GrowProgress.{GrowProgress}
 

@@ -17,8 +17,8 @@ use Rattle.pass.specs.Work.{Work, on_state, keep, push, call_another}
 use Rattle.pass.specs.Grow.{take_side, take_vertex}
 use Rattle.pass.specs.inner.Another.{called_if}
 use Rattle.pass.specs.inner.Once.{take_once}
-use Rattle.pass.specs.laws.Passes.{Keeps, keeps-take-side, keeps-take-vertex, keeps_on}
-use Rattle.pass.specs.laws.Fits.{own-length, own-snoc, side-holds, side-held, own-take-side, Siding, siding-step, Still, still-take-side}
+use Rattle.pass.proofs.laws.Passes.{Keeps, keeps-take-side, keeps-take-vertex, keeps_on}
+use Rattle.pass.proofs.laws.Fits.{own-length, own-snoc, side-holds, side-held, own-take-side, Siding, siding-step, Still, still-take-side}
 use Rattle.pass.specs.inner.Own.{OwnSides}
 use Rattle.graph.specs.laws.Form.{formed-shape, formed-sides}
 use Rattle.grow_pass.specs.inner.Growing.{grow_work_in, GrowWorking, GrowWorked, OwnKept}

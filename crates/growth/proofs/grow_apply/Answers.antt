@@ -1,4 +1,4 @@
-use Rattle.growth.specs.laws.Moving.{sides-after, node-then-sides}
+use Rattle.growth.proofs.laws.Moving.{sides-after, node-then-sides}
 use Rattle.graph.specs.Layout.{state_of}
 use borrow.Author.Rules.{rules}
 use Rattle.growth.proofs.grow_apply.Goals as goal

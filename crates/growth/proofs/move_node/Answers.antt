@@ -1,7 +1,7 @@
 use mathlib.Core.Path.{ap, ◌∙◌}
 use Rattle.graph.specs.Node.{grown_node}
 use Rattle.graph.specs.Layout.{state_of}
-use Rattle.growth.specs.laws.Moving.{node-movable, grown-small, grown-put, dual-then-top}
+use Rattle.growth.proofs.laws.Moving.{node-movable, grown-small, grown-put, dual-then-top}
 use borrow.Author.Rules.{rules}
 use Rattle.growth.proofs.move_node.Goals as goal
 

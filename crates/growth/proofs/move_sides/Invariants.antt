@@ -5,7 +5,7 @@ use lib.ListN.{length}
 use Rattle.graph.specs.State.{boundary_of}
 use Rattle.graph.specs.Layout.{state_of}
 use Rattle.graph.specs.inner.Form.{Becomes}
-use Rattle.growth.specs.laws.Moving.{moved_to, same-boundary, same-sides, next-movable, next_small, next-moved, none-moved, all_moved}
+use Rattle.growth.proofs.laws.Moving.{moved_to, same-boundary, same-sides, next-movable, next_small, next-moved, none-moved, all_moved}
 use Rattle.growth.proofs.move_sides.Given as goal
 
 abbrev pub invariant-loop-i : goal.invariant-loop-i

@@ -3,7 +3,7 @@ use mathlib.Core.Bool.{true, false}
 use Rattle.graph.specs.State.{dual_of, overgrown_of}
 use Rattle.graph.specs.Layout.{state_of}
 use Rattle.growth.specs.inner.Moving.{number_refuses, node_refuses}
-use Rattle.growth.specs.laws.Moving.{top-none, top-some}
+use Rattle.growth.proofs.laws.Moving.{top-none, top-some}
 use borrow.Author.Rules.{rules}
 use Rattle.growth.proofs.node_refuses.Goals as goal
 

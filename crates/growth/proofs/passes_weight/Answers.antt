@@ -1,4 +1,4 @@
-use Rattle.growth.specs.laws.Gap.{passes-own, passes-other, passes-left, passes_over}
+use Rattle.growth.proofs.laws.Gap.{passes-own, passes-other, passes-left, passes_over}
 use Rattle.gap.specs.laws.Gap.{left-side, over-side}
 use Rattle.graph.specs.Layout.{state_of}
 use mathlib.Core.Path.{sym, ◌∙◌}

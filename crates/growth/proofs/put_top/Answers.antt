@@ -1,5 +1,5 @@
 use native.Mathlib.Omega.{arith}
-use Rattle.growth.specs.laws.Moving.{top-still}
+use Rattle.growth.proofs.laws.Moving.{top-still}
 use borrow.Author.Rules.{rules}
 use Rattle.growth.proofs.put_top.Goals as goal
 

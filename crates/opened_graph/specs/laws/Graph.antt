@@ -4,7 +4,7 @@ use Rattle.std.proofs.Common.{arith}
 use Rattle.graph.specs.State.{Graph as StateGraph, opposite, edge_of}
 use Rattle.graph.specs.laws.State.{by-parity, opposite-even, opposite-odd}
 use Rattle.distance.specs.Graph.{WeightedGraph, WellFormed, sides, near, across, weight, other_side}
-use Rattle.distance.specs.laws.Side.{opposite-in, near-opposite, across-opposite, weight-opposite}
+use Rattle.distance.proofs.laws.Side.{opposite-in, near-opposite, across-opposite, weight-opposite}
 
 -- both ways to write the other side of an edge
 pub opposite-same : (s : ℕ) → opposite s ≡ other_side s

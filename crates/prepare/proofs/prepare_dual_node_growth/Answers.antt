@@ -1,6 +1,6 @@
 use borrow.Author.Rules.{rules}
 use Rattle.graph.specs.Layout.{state_of}
-use Rattle.pass.specs.laws.Preparing.{Preparing, remaining, preparing-none, preparing-falls, preparing-more, preparing-all}
+use Rattle.pass.proofs.laws.Preparing.{Preparing, remaining, preparing-none, preparing-falls, preparing-more, preparing-all}
 use Rattle.prepare.proofs.prepare_dual_node_growth.Goals as goal
 
 pub loop-more-init : goal.loop-more-init

@@ -1,5 +1,5 @@
 use borrow.Author.Tests.{eq-eqb, ne_eqb}
-use Rattle.pass.specs.laws.Prepare.{one_up, one_down}
+use Rattle.pass.proofs.laws.Prepare.{one_up, one_down}
 use borrow.Author.Rules.{rules}
 use Rattle.prepare.proofs.prepare_dual_node_growth_single.Goals as goal
 

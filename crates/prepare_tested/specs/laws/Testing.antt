@@ -13,9 +13,9 @@ use Rattle.pass.specs.Prepare.{Prepared, one_pass, prepare_from, prepare_node}
 use Rattle.pass.specs.inner.Ends.{EndsIn}
 use Rattle.pass.specs.KeepsSound.{pass_own, passes_own, holds_lists, keeps_sound}
 use Rattle.pass.specs.inner.Ready.{Ready, Preparable, AfterPass}
-use Rattle.pass.specs.laws.Prepare.{pass_state, one_down, one-passed, prepare-more, prepare-last, left, left_le, ends-passed, pass-falls}
-use Rattle.pass.specs.laws.KeepsSound.{passes-more, passes-last}
-use Rattle.pass.specs.laws.Preparing.{formed-ends, Preparing, preparing-none, preparing-more}
+use Rattle.pass.proofs.laws.Prepare.{pass_state, one_down, one-passed, prepare-more, prepare-last, left, left_le, ends-passed, pass-falls}
+use Rattle.pass.proofs.laws.KeepsSound.{passes-more, passes-last}
+use Rattle.pass.proofs.laws.Preparing.{formed-ends, Preparing, preparing-none, preparing-more}
 
 -- more fuel than is needed changes nothing
 passes-fuel : (f g : ℕ) (c : State) (n : ℕ) → EndsIn c → left down c < f → left down c < g → passes_own f c n ≡ passes_own g c n

@@ -15,10 +15,10 @@ use Rattle.graph.specs.laws.Members.{by-test, both, clash, all_from, member-head
 use Rattle.graph.specs.laws.Shape.{sound-active}
 use Rattle.graph.specs.laws.Active.{active-in, in-active, active-in-once, active-below, renewed-active}
 use Rattle.pass.specs.Prepare.{prepare_node}
-use Rattle.pass.specs.laws.Passes.{Passed}
-use Rattle.pass.specs.laws.Prepare.{prepare-passed}
-use Rattle.pass.specs.laws.Idle.{TopLeft, top-amount}
-use Rattle.pass.specs.laws.Leaves.{prepare-top-left, prepare-frees-none}
+use Rattle.pass.proofs.laws.Passes.{Passed}
+use Rattle.pass.proofs.laws.Prepare.{prepare-passed}
+use Rattle.pass.proofs.laws.Idle.{TopLeft, top-amount}
+use Rattle.pass.proofs.laws.Leaves.{prepare-top-left, prepare-frees-none}
 use Rattle.answers.specs.declared.Answer.{Answer}
 use Rattle.answers.specs.declared.Answer.TheVariants.{Length}
 use Rattle.answers.specs.Answer.{Reply, free_or, is_free, accepted}
@@ -29,7 +29,7 @@ use Rattle.update_length.specs.laws.Long.{long_as, stop-short}
 use Rattle.calls.specs.Refuse.{node_refusal, store_short}
 use Rattle.calls.specs.Calls.{toward, prepare_dual_node_growth}
 use Rattle.calls.specs.Round.{Tried, refusal_of, try_all, preparing, prepared_all, answers_of}
-use Rattle.calls.specs.laws.Trial.{unless-accepted, begun, Turned, turn-accepted}
+use Rattle.calls.proofs.laws.Trial.{unless-accepted, begun, Turned, turn-accepted}
 use Rattle.reachable.specs.Invariant.{Invariant}
 use Rattle.reachable.specs.laws.state.Numbers.{numbers-end}
 use Rattle.reachable.specs.laws.prepare.FinishedState.{NothingToTake}

@@ -17,7 +17,7 @@ use Rattle.graph.specs.laws.Opened.{get_d-zeros, SoundGraph, sound-graph, blank-
 use Rattle.graph.specs.laws.Shape.{blank-shape, sound-active}
 use Rattle.graph.specs.laws.Sounds.{Sound, sound-facts}
 use Rattle.calls.specs.Erasures.{EdgeWeight, reweighed}
-use Rattle.calls.specs.laws.Erasures.{OnlyWeights, only-weights, reweighed-in, reweighed-mark, ModifierAccepted}
+use Rattle.calls.proofs.laws.Erasures.{OnlyWeights, only-weights, reweighed-in, reweighed-mark, ModifierAccepted}
 use Rattle.reachable.specs.Invariant.{Labels, Clusters, Live, Invariant, NodeFits}
 
 -- ---- a state without nodes

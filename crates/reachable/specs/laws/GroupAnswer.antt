@@ -12,7 +12,7 @@ use Rattle.answers.specs.declared.MaxUpdateLength.TheVariants.{NonZeroGrow}
 use Rattle.answers.specs.Answer.{accepted}
 use Rattle.answers.specs.laws.Answer.{free-cases, free_other, accepted-refusal}
 use Rattle.update_length.specs.laws.Long.{long_as}
-use Rattle.calls.specs.laws.Grouped.{of-answered}
+use Rattle.calls.proofs.laws.Grouped.{of-answered}
 use Rattle.calls.specs.Round.{refusal_of, prepared_all, first_refusal, is_free, join_length, join_unlimited, join_free, group_of, group_refusal, group_length, is_refused}
 use Rattle.calls.specs.declared.group.GroupMaxUpdateLength.{GroupMaxUpdateLength as Group}
 use Rattle.calls.specs.declared.group.GroupMaxUpdateLength.TheVariants.{NonZeroGrow as group_free, Unlimited as group_unlimited, Conflicts as group_conflicts, Refused as group_refused}

@@ -10,12 +10,12 @@ use Rattle.answers.specs.declared.Answer.{Answer}
 use Rattle.answers.specs.declared.Answer.TheVariants.{Refused}
 use Rattle.answers.specs.Answer.{Reply, says, refusal_of}
 use Rattle.answers.specs.laws.Answer.{accepted-refusal}
-use Rattle.calls.specs.laws.Follow.{follow-cases}
+use Rattle.calls.proofs.laws.Follow.{follow-cases}
 use Rattle.calls.specs.Refuse.{bad_node, in_blossom, node_refusal, store_short, unless}
 use Rattle.update_length.specs.Scan.{scan}
 use Rattle.growth.specs.Growth.{passes_weight, passes_limit, falls_short, grow_check}
 use Rattle.calls.specs.Calls.{max_update_length, readied, grow_prepared, grow_toward, grow_dual_node, signed_for, follow, advance_by, toward, advance}
-use Rattle.calls.specs.laws.Accepted.{unless-cases, NodeAccepted, node-accepted}
+use Rattle.calls.proofs.laws.Accepted.{unless-cases, NodeAccepted, node-accepted}
 use Rattle.reachable.specs.Invariant.{Invariant}
 use Rattle.reachable.specs.laws.prepare.Scan.{scan-accepted}
 

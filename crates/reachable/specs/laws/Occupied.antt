@@ -8,7 +8,7 @@ use Rattle.graph.specs.State.{State, holder_at, vertex_holder_at, virtual_at, de
 use Rattle.graph.specs.laws.Members.{by-test, or-neither-right}
 use Rattle.calls.specs.Insert.{occupied}
 use Rattle.calls.specs.Occupied.{vertex_decides, is_held}
-use Rattle.calls.specs.laws.Occupied.{decides-occupied, sides-occupied}
+use Rattle.calls.proofs.laws.Occupied.{decides-occupied, sides-occupied}
 use Rattle.reachable.specs.Invariant.{Invariant}
 use Rattle.reachable.specs.laws.state.Numbers.{numbers-graph-ok}
 use Rattle.reachable.specs.laws.prepare.Preparation.{invariant-numbers}

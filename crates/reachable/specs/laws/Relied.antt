@@ -21,14 +21,14 @@ use Rattle.graph.specs.laws.Active.{active-in, in-active, active-in-once}
 use Rattle.pass.specs.Prepare.{prepare_node}
 use Rattle.pass.specs.Grow.{reaches}
 use Rattle.pass.specs.Shrink.{empty_tops, below_tops}
-use Rattle.pass.specs.laws.Idle.{TopLeft, shrink-idle, grow-idle}
+use Rattle.pass.proofs.laws.Idle.{TopLeft, shrink-idle, grow-idle}
 use Rattle.growth.specs.Growth.{top_is, passes_weight, passes_limit, falls_short, grow_check, moved_stack, grow_apply}
-use Rattle.growth.specs.laws.Growth.{apply-in, apply-out}
+use Rattle.growth.proofs.laws.Growth.{apply-in, apply-out}
 use Rattle.update_length.specs.laws.Long.{LeftUp}
 use Rattle.calls.specs.Calls.{grow_toward}
 use Rattle.calls.specs.Round.{Tried, refusal_of, try_all, sound_again, in_turn, moving, moved_all}
-use Rattle.calls.specs.laws.Sounds.{Applied, apply-applied}
-use Rattle.calls.specs.laws.Trial.{begun, try-keeps, again-sound}
+use Rattle.calls.proofs.laws.Sounds.{Applied, apply-applied}
+use Rattle.calls.proofs.laws.Trial.{begun, try-keeps, again-sound}
 use Rattle.reachable.specs.Cluster.{OutwardEdge, InwardEdge}
 use Rattle.reachable.specs.Invariant.{Invariant, side_graph_of, view_of, node_view_of}
 use Rattle.reachable.specs.laws.prepare.Preparation.{invariant-numbers}

@@ -14,16 +14,16 @@ use Rattle.graph.specs.laws.Members.{by-test}
 use Rattle.graph.specs.laws.Shape.{sound-active}
 use Rattle.graph.specs.laws.Active.{active-below, active-in}
 use Rattle.pass.specs.Prepare.{prepare_node}
-use Rattle.pass.specs.laws.Passes.{Passed}
-use Rattle.pass.specs.laws.Prepare.{prepare-passed}
+use Rattle.pass.proofs.laws.Passes.{Passed}
+use Rattle.pass.proofs.laws.Prepare.{prepare-passed}
 use Rattle.growth.specs.Growth.{passes_weight, passes_limit, falls_short, grow_check, grow_apply}
 use Rattle.answers.specs.Answer.{Reply, says}
 use Rattle.calls.specs.Refuse.{bad_node, in_blossom, store_short, node_refusal}
 use Rattle.calls.specs.Calls.{prepare_dual_node_growth, grow_prepared, grow_toward}
 use Rattle.calls.specs.Round.{refusal_of, preparing, prepared_all, moving, moved_all}
-use Rattle.calls.specs.laws.Accepted.{unless-cases}
-use Rattle.calls.specs.laws.Sounds.{apply-applied, apply-states}
-use Rattle.calls.specs.laws.Trial.{turn-among, unless-among}
+use Rattle.calls.proofs.laws.Accepted.{unless-cases}
+use Rattle.calls.proofs.laws.Sounds.{apply-applied, apply-states}
+use Rattle.calls.proofs.laws.Trial.{turn-among, unless-among}
 use Rattle.reachable.specs.Invariant.{Invariant}
 use Rattle.reachable.specs.laws.state.Live.{invariant-sound}
 use Rattle.reachable.specs.laws.Active.{renewed-invariant}

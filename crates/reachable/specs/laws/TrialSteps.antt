@@ -13,7 +13,7 @@ use Rattle.answers.specs.Answer.{Reply}
 use Rattle.calls.specs.Refuse.{node_refusal, store_short}
 use Rattle.calls.specs.Calls.{grow_prepared, grow_toward}
 use Rattle.calls.specs.Round.{Tried, refusal_of, tried_by, try_step, try_all}
-use Rattle.calls.specs.laws.Trial.{unless-accepted, begun}
+use Rattle.calls.proofs.laws.Trial.{unless-accepted, begun}
 use Rattle.reachable.specs.laws.Round.{Among}
 
 pub none_from : (p : ℕ → Bool) (l : List ℕ) → ((s : ℕ) → member s l ≡ true → p s ≡ false) → any p l ≡ false

@@ -15,19 +15,19 @@ use Rattle.graph.specs.laws.Members.{by-test}
 use Rattle.graph.specs.laws.Row.{becomes-then, becomes-none}
 use Rattle.pass.specs.Prepare.{prepare_node}
 use Rattle.pass.specs.inner.Ready.{Ready, Preparable, AfterPreparation}
-use Rattle.pass.specs.laws.Passes.{Passed}
-use Rattle.pass.specs.laws.Prepare.{prepare-passed}
+use Rattle.pass.proofs.laws.Passes.{Passed}
+use Rattle.pass.proofs.laws.Prepare.{prepare-passed}
 use Rattle.answers.specs.declared.Answer.{Answer}
 use Rattle.answers.specs.declared.Answer.TheVariants.{Done, Refused}
 use Rattle.answers.specs.Answer.{says}
 use Rattle.calls.specs.Refuse.{bad_node, in_blossom, store_short, node_refusal}
 use Rattle.calls.specs.inner.Reply.{Replies, Usable}
 use Rattle.calls.specs.Remove.{is_blossom, remove_refusal, stops_opening, opened_blossom, open_prepared, remove_blossom}
-use Rattle.calls.specs.laws.Accepted.{NodeAccepted}
-use Rattle.calls.specs.laws.Readable.{sound-sides-ok}
-use Rattle.calls.specs.laws.Refuse.{good-inside}
-use Rattle.calls.specs.laws.Remove.{RemoveAccepted, remove-accepted}
-use Rattle.calls.specs.laws.Replies.{usable-steady, accepted-ready, accepted-able, prepared-grows, replies-refused, replies-accepted}
+use Rattle.calls.proofs.laws.Accepted.{NodeAccepted}
+use Rattle.calls.proofs.laws.Readable.{sound-sides-ok}
+use Rattle.calls.proofs.laws.Refuse.{good-inside}
+use Rattle.calls.proofs.laws.Remove.{RemoveAccepted, remove-accepted}
+use Rattle.calls.proofs.laws.Replies.{usable-steady, accepted-ready, accepted-able, prepared-grows, replies-refused, replies-accepted}
 use Rattle.remove.specs.inner.Stops.{SidesIn}
 use Rattle.remove.specs.laws.Stops.{not-both}
 

@@ -22,7 +22,7 @@ use Rattle.graph.specs.laws.Row.{becomes-then, becomes-none}
 use Rattle.graph.specs.laws.Used.{entries-within}
 use Rattle.active_list.specs.laws.Renewal.{only-snoc}
 use Rattle.calls.specs.Remove.{members_of, unheld, free_step, return_step, member_step, removed_node, opened_blossom}
-use Rattle.calls.specs.laws.Remove.{one-rest, one-parent-off}
+use Rattle.calls.proofs.laws.Remove.{one-rest, one-parent-off}
 use Rattle.remove.specs.inner.Stops.{SidesIn, is_member}
 use Rattle.remove.specs.inner.Opened.{set_holder}
 

@@ -21,7 +21,7 @@ use Rattle.graph.specs.Shape.{Shape}
 use Rattle.graph.specs.laws.Stamp.{carry-more, stamped-none, stamped-more, stamped-all, stamped-fails}
 use Rattle.active_list.specs.laws.Renewal.{only-snoc}
 use Rattle.calls.specs.Remove.{members_of, lists_of, unheld, stops_opening}
-use Rattle.calls.specs.laws.Remove.{of_members, unheld-held}
+use Rattle.calls.proofs.laws.Remove.{of_members, unheld-held}
 use Rattle.remove.specs.inner.Stops.{SidesIn, has_holder, free_by, member_lists, is_member, entries_before, Met}
 
 pub not-both : (x y : Bool) → not x || not y ≡ not (x && y)

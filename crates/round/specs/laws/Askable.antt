@@ -22,17 +22,17 @@ use Rattle.graph.specs.laws.Active.{active-kept, active-below, renewed-active, i
 use Rattle.graph.specs.laws.Members.{by-test, member-cons, member-nil}
 use Rattle.graph.specs.laws.Shape.{sound-active, sound-node, node-facts}
 use Rattle.graph.specs.Shape.{Shape}
-use Rattle.pass.specs.laws.Prepare.{prepare-passed}
+use Rattle.pass.proofs.laws.Prepare.{prepare-passed}
 use Rattle.answers.specs.Answer.{Reply, says}
 use Rattle.calls.specs.Refuse.{node_refusal, store_short}
 use Rattle.calls.specs.Calls.{prepare_dual_node_growth}
 use Rattle.calls.specs.inner.Reply.{Usable}
 use Rattle.calls.specs.Round.{Tried, refusal_of, begun, try_all, none_of, sound_again, in_turn, preparing, prepared_all}
-use Rattle.calls.specs.laws.Accepted.{unless-cases, node-accepted}
-use Rattle.calls.specs.laws.Phase.{sound-phase, renewed-phase, shrinking-prepares, StillSound, growing-prepares}
+use Rattle.calls.proofs.laws.Accepted.{unless-cases, node-accepted}
+use Rattle.calls.proofs.laws.Phase.{sound-phase, renewed-phase, shrinking-prepares, StillSound, growing-prepares}
 use Rattle.calls.specs.inner.Phase.{Phase}
-use Rattle.calls.specs.laws.Trial.{Turned, Stepped, turn-accepted, try-start, try-step, try-keeps, unless-accepted}
-use Rattle.calls.specs.laws.Listed.{prepared-active}
+use Rattle.calls.proofs.laws.Trial.{Turned, Stepped, turn-accepted, try-start, try-step, try-keeps, unless-accepted}
+use Rattle.calls.proofs.laws.Listed.{prepared-active}
 use Rattle.round_answers.specs.inner.Asked.{Askable}
 use Rattle.round_trial.specs.laws.InTurn.{none-empty, renewed-ok}
 

@@ -11,7 +11,7 @@ use Rattle.graph.specs.State.{State, with_active, up, down}
 use Rattle.graph.specs.Active.{renewed}
 use Rattle.graph.specs.Layout.{state_of}
 use Rattle.graph.specs.Form.{Laid}
-use Rattle.pass.specs.laws.Prepare.{prepare-passed}
+use Rattle.pass.proofs.laws.Prepare.{prepare-passed}
 use Rattle.answers.specs.declared.Answer.{Answer}
 use Rattle.answers.specs.Answer.{Reply, says}
 use Rattle.calls.specs.declared.group.GroupMaxUpdateLength.{GroupMaxUpdateLength as Group}
@@ -19,9 +19,9 @@ use Rattle.calls.specs.declared.group.GroupMaxUpdateLength.TheVariants.{Unlimite
 use Rattle.calls.specs.Refuse.{node_refusal, store_short}
 use Rattle.calls.specs.Calls.{prepare_dual_node_growth}
 use Rattle.calls.specs.Round.{is_free, join_free, answers_of, first_refusal, conflicts_of, stops_of, group_of, listed_by, preparing, prepared_all, group_refusal, group_length}
-use Rattle.calls.specs.laws.Accepted.{unless-cases}
-use Rattle.calls.specs.laws.Listed.{both-lists, answers-length}
-use Rattle.calls.specs.laws.Trial.{turn-keeps}
+use Rattle.calls.proofs.laws.Accepted.{unless-cases}
+use Rattle.calls.proofs.laws.Listed.{both-lists, answers-length}
+use Rattle.calls.proofs.laws.Trial.{turn-keeps}
 use Rattle.round_trial.specs.Trial.{whole_trial}
 use Rattle.round_trial.specs.inner.Step.{TriedTo}
 use Rattle.round_list.specs.Asked.{listed_from}

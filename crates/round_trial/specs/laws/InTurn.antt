@@ -17,12 +17,12 @@ use Rattle.graph.specs.laws.Row.{becomes-none, becomes-then}
 use Rattle.graph.specs.laws.Shape.{sound-active}
 use Rattle.memory_tests.specs.laws.Block.{block-state-sound}
 use Rattle.memory_tests.specs.laws.Whole.{formed-sized, formed-sound}
-use Rattle.pass.specs.laws.Scratch.{scratch-same}
+use Rattle.pass.proofs.laws.Scratch.{scratch-same}
 use Rattle.calls.specs.Calls.{toward}
 use Rattle.calls.specs.inner.Reply.{Usable}
 use Rattle.calls.specs.Round.{Tried, begun, try_all, none_of, sound_again, in_turn, prepared_all, moved_all}
-use Rattle.calls.specs.laws.Phase.{renewed-phase}
-use Rattle.calls.specs.laws.Trial.{try-keeps}
+use Rattle.calls.proofs.laws.Phase.{renewed-phase}
+use Rattle.calls.proofs.laws.Trial.{try-keeps}
 use Rattle.round_trial.specs.Trial.{node_call, whole_trial}
 use Rattle.round_trial.specs.inner.Step.{grown_from, TriedTo, CallsPossible, Shrunk}
 use Rattle.round_trial.specs.laws.Step.{SameActive, turn-same}

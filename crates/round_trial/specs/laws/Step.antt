@@ -13,8 +13,8 @@ use Rattle.graph.specs.laws.Form.{laid-shape, formed-vertices}
 use Rattle.graph.specs.laws.Active.{active-kept}
 use Rattle.graph.specs.laws.Row.{becomes-none}
 use Rattle.pass.specs.Prepare.{prepare_node}
-use Rattle.pass.specs.laws.Scratch.{scratch-same}
-use Rattle.pass.specs.laws.Prepare.{prepare-passed}
+use Rattle.pass.proofs.laws.Scratch.{scratch-same}
+use Rattle.pass.proofs.laws.Prepare.{prepare-passed}
 use Rattle.growth.specs.Growth.{grow_check}
 use Rattle.answers.specs.declared.Answer.{Answer}
 use Rattle.answers.specs.Answer.{Reply, says}
@@ -22,11 +22,11 @@ use Rattle.calls.specs.Refuse.{node_refusal, store_short}
 use Rattle.calls.specs.Calls.{prepare_dual_node_growth, grow_prepared, grow_toward, toward}
 use Rattle.calls.specs.inner.Reply.{Replies, MemoryPreparable}
 use Rattle.calls.specs.Round.{refusal_of, begun, tried_by, preparing, moving}
-use Rattle.calls.specs.laws.Accepted.{unless-cases}
-use Rattle.calls.specs.laws.Phase.{phase-prepare, phase-toward, StillSound, still-prepare, still-toward}
+use Rattle.calls.proofs.laws.Accepted.{unless-cases}
+use Rattle.calls.proofs.laws.Phase.{phase-prepare, phase-toward, StillSound, still-prepare, still-toward}
 use Rattle.calls.specs.inner.Phase.{Phase}
-use Rattle.calls.specs.laws.Replies.{usable-steady}
-use Rattle.calls.specs.laws.Sounds.{apply-applied, apply-states}
+use Rattle.calls.proofs.laws.Replies.{usable-steady}
+use Rattle.calls.proofs.laws.Sounds.{apply-applied, apply-states}
 use Rattle.round_trial.specs.Trial.{node_call}
 use Rattle.round_trial.specs.inner.Step.{node_call_at, TriedTo, CallsPossible}
 

@@ -18,13 +18,13 @@ use Rattle.pass.specs.Work.{Work, finish_pass}
 use Rattle.pass.specs.Shrink.{empty_tops, shrink_pass}
 use Rattle.pass.specs.inner.Another.{called}
 use Rattle.pass.specs.inner.Once.{shrink_pass_once, Alike}
-use Rattle.pass.specs.laws.Once.{shrink-alike}
+use Rattle.pass.proofs.laws.Once.{shrink-alike}
 use Rattle.pass.specs.Scratch.{zero_scratch}
 use Rattle.pass.specs.inner.Scratch.{note_limit, ScratchHolds, wiped}
-use Rattle.pass.specs.laws.Scratch.{first_entry, first-numbers, change-second, drop-second, wipe-first, wipe-third, zero-holding}
+use Rattle.pass.proofs.laws.Scratch.{first_entry, first-numbers, change-second, drop-second, wipe-first, wipe-third, zero-holding}
 use Rattle.pass.specs.inner.Ready.{Ready, Shrinkable, AfterPass}
-use Rattle.pass.specs.laws.Fits.{shrink-over}
-use Rattle.pass.specs.laws.Passes.{shrink-pass-keeps}
+use Rattle.pass.proofs.laws.Fits.{shrink-over}
+use Rattle.pass.proofs.laws.Passes.{shrink-pass-keeps}
 use Rattle.shrink_pass.specs.inner.Shrinking.{marks, HasShrinkWork, KeptMarked, unmarked}
 use Rattle.shrink_pass.specs.laws.Mark.{marks-length, marks-take, marks-none}
 use Rattle.shrink_pass.specs.laws.Top.{tops-le, below-tops, over-kept}

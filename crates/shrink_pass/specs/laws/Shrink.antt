@@ -20,10 +20,10 @@ use Rattle.pass.specs.inner.Another.{called}
 use Rattle.pass.specs.inner.Scratch.{note_limit}
 use Rattle.pass.specs.inner.Free.{free_count}
 use Rattle.pass.specs.inner.Once.{note_with, note_end, shrink_step_once, release_once, shrink_scanned_once, shrink_pass_once}
-use Rattle.pass.specs.laws.Counts.{zeros-le, zeros-freed}
-use Rattle.pass.specs.laws.Scratch.{scratch-sections, holding-zero, zeros-second, third-entry, third-numbers}
+use Rattle.pass.proofs.laws.Counts.{zeros-le, zeros-freed}
+use Rattle.pass.proofs.laws.Scratch.{scratch-sections, holding-zero, zeros-second, third-entry, third-numbers}
 use Rattle.pass.specs.inner.Ready.{Ready, Shrinkable}
-use Rattle.pass.specs.laws.Fits.{Noted, noted-keep-once, noted-drop-step}
+use Rattle.pass.proofs.laws.Fits.{Noted, noted-keep-once, noted-drop-step}
 use Rattle.shrink_pass.specs.inner.Shrinking.{HasShrinkWork, ShrinkWorking, ShrinkWorked, vertex_left}
 use Rattle.shrink_pass.specs.laws.Mark.{marks-none}
 use Rattle.shrink_pass.specs.laws.Shrinking.{busy-of, does-none, does-then, does-same, does-state}

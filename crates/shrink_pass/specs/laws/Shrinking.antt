@@ -16,9 +16,9 @@ use Rattle.graph.specs.laws.State.{kept_refl, kept_trans, fold_more, fold_done}
 use Rattle.graph.specs.inner.Kept.{SameButHolders}
 use Rattle.graph.specs.laws.Members.{all_snoc, distinct_snoc, distinct-length}
 use Rattle.pass.specs.inner.Another.{called_if}
-use Rattle.pass.specs.laws.Another.{called-if}
+use Rattle.pass.proofs.laws.Another.{called-if}
 use Rattle.pass.specs.Work.{Work, on_state, keep, keep_once, note, call_another}
-use Rattle.pass.specs.laws.Scratch.{hold-first, hold-third, change-second, second-entry}
+use Rattle.pass.proofs.laws.Scratch.{hold-first, hold-third, change-second, second-entry}
 use Rattle.shrink_pass.specs.inner.Shrinking.{marks, HasShrinkWork, ShrinkWorking, ShrinkWorked}
 use Rattle.shrink_pass.specs.laws.Mark.{marks-length, mark-zero, mark_set, marks-put}
 use Rattle.shrink_pass.specs.declared.keep.ShrinkProgress.{ShrinkProgress}

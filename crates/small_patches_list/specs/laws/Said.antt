@@ -6,7 +6,7 @@ use Rattle.records.specs.Text.{ascii}
 use Rattle.records.specs.Lines.{line}
 use Rattle.small_patches.specs.SmallPatch.{InList}
 use Rattle.small_patches.specs.Reach.{EachReaches, all_reach}
-use Rattle.small_patches.specs.Theorems.{each-listed-is-a-patch, yes-exactly-where-each-reaches}
+use Rattle.small_patches.proofs.Theorems.{each-listed-is-a-patch, yes-exactly-where-each-reaches}
 use Rattle.small_patches_list.specs.Listing.{yes_or_no, patch_line}
 
 module _ {k : ℕ} {es : List Edge} (l : InList k es) where

@@ -17,13 +17,13 @@ use Rattle.graph.specs.laws.Members.{by-test, clash, all_from, all-member, membe
 use Rattle.graph.specs.laws.Shape.{OwnLists, sound-active}
 use Rattle.pass.specs.Prepare.{prepare_node}
 use Rattle.pass.specs.KeepsSound.{keeps_sound}
-use Rattle.pass.specs.laws.Passes.{Passed}
-use Rattle.pass.specs.laws.Prepare.{prepare-passed}
+use Rattle.pass.proofs.laws.Passes.{Passed}
+use Rattle.pass.proofs.laws.Prepare.{prepare-passed}
 use Rattle.calls.specs.Refuse.{entries_but}
 use Rattle.calls.specs.Insert.{blossom_refusal, prepare_step, blossom_put, insert_blossom}
 use Rattle.calls.specs.Keeps.{circle_keeps, blossom_keeps}
-use Rattle.calls.specs.laws.Accepted.{BlossomAccepted, blossom-accepted, entries-passed}
-use Rattle.calls.specs.laws.Keeps.{refused-or}
+use Rattle.calls.proofs.laws.Accepted.{BlossomAccepted, blossom-accepted, entries-passed}
+use Rattle.calls.proofs.laws.Keeps.{refused-or}
 use Rattle.reachable.specs.Numbers.{SoundNumbers}
 use Rattle.reachable.specs.laws.state.Live.{RemovedEmpty}
 use Rattle.reachable.specs.laws.prepare.Preparation.{empty-prepared}

@@ -13,18 +13,18 @@ use Rattle.graph.specs.laws.Removed.{blank-removed}
 use Rattle.graph.specs.laws.Shape.{shape-state, emptied-shape, sound-active}
 use Rattle.pass.specs.Prepare.{prepare_node}
 use Rattle.pass.specs.KeepsSound.{keeps_sound}
-use Rattle.pass.specs.laws.Passes.{Passed}
-use Rattle.pass.specs.laws.Prepare.{prepare-passed}
+use Rattle.pass.proofs.laws.Passes.{Passed}
+use Rattle.pass.proofs.laws.Prepare.{prepare-passed}
 use Rattle.growth.specs.Growth.{grow_check}
 use Rattle.answers.specs.declared.Answer.{Answer}
 use Rattle.answers.specs.Answer.{Reply, says}
 use Rattle.calls.specs.Refuse.{node_refusal, store_short}
 use Rattle.calls.specs.Each.{set_grow_state, prepare_dual_node_growth, readied, max_update_length, grow_prepared, grow_toward, grow_dual_node, signed_for, follow, advance_by, toward, advance, clear}
 use Rattle.calls.specs.Keeps.{prepare_keeps, length_keeps, toward_keeps, grow_keeps, follow_keeps, moves_keeps, advance_keeps}
-use Rattle.calls.specs.laws.Accepted.{NodeAccepted, node-accepted}
-use Rattle.calls.specs.laws.Keeps.{refused-or, answer-cases}
-use Rattle.calls.specs.laws.Shapes.{shape-prepared, shape-apply}
-use Rattle.calls.specs.laws.Sounds.{prepare-up-sound, apply-applied, apply-sound, state-sound}
+use Rattle.calls.proofs.laws.Accepted.{NodeAccepted, node-accepted}
+use Rattle.calls.proofs.laws.Keeps.{refused-or, answer-cases}
+use Rattle.calls.proofs.laws.Shapes.{shape-prepared, shape-apply}
+use Rattle.calls.proofs.laws.Sounds.{prepare-up-sound, apply-applied, apply-sound, state-sound}
 use Rattle.reachable.specs.laws.state.Live.{empty-growth, empty-state}
 use Rattle.reachable.specs.laws.prepare.Preparation.{empty-prepared}
 use Rattle.soundness_theorem.specs.KeptSound.{KeptSound}

@@ -10,7 +10,7 @@ use Rattle.graph.specs.laws.Active.{join-sound}
 use Rattle.graph.specs.laws.Members.{by-test, all_from}
 use Rattle.graph.specs.laws.Shape.{OwnLists, sound-active}
 use Rattle.calls.specs.Insert.{defect_refusal, defect_put, insert_defect}
-use Rattle.calls.specs.laws.Accepted.{DefectAccepted, defect-accepted}
+use Rattle.calls.proofs.laws.Accepted.{DefectAccepted, defect-accepted}
 use Rattle.reachable.specs.Numbers.{SoundNumbers}
 use Rattle.reachable.specs.laws.insert.DefectState.{DefectMade, defect-made}
 use Rattle.reachable.specs.laws.insert.DefectNumbers.{old-or-new, made-numbers, made-entries}

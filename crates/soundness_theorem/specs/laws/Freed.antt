@@ -17,8 +17,8 @@ use Rattle.graph.specs.laws.Members.{by-test, clash, or_cases, all-member, all_s
 use Rattle.pass.specs.Work.{Work, on_state, keep, keep_once, note, start_pass}
 use Rattle.pass.specs.Shrink.{empty_tops, below_tops, drop_side, drop_step, shrink_step, closed, release_side, release_step, dropped, shrink_scanned, shrink_pass}
 use Rattle.pass.specs.KeepsSound.{own_side, own_vertex, may_go, side_may_go, pass_own}
-use Rattle.pass.specs.laws.Passes.{keeps-drop-step, keeps-shrink-step, keeps-release-step, dropped_keeps}
-use Rattle.pass.specs.laws.Fits.{Noted, noted-drop-step}
+use Rattle.pass.proofs.laws.Passes.{keeps-drop-step, keeps-shrink-step, keeps-release-step, dropped_keeps}
+use Rattle.pass.proofs.laws.Fits.{Noted, noted-drop-step}
 use Rattle.reachable.specs.laws.shrink.FreeSides.{vertex-freed, vertex-other, vertex-sides, freeing, always, drop-freeing, release-freeing, Test, always-test, closed-test, SidesFreed, free-sides, keep-once-noted}
 
 -- ---- what is freed, and that all else stays

@@ -16,11 +16,11 @@ use Rattle.pass.specs.Work.{Work, finish_pass}
 use Rattle.pass.specs.Shrink.{shrink_pass}
 use Rattle.pass.specs.Prepare.{one_pass, prepare_from, prepare_node}
 use Rattle.pass.specs.KeepsSound.{pass_own, passes_own, holds_lists, keeps_sound}
-use Rattle.pass.specs.laws.KeepsSound.{passes-more, passes-last}
-use Rattle.pass.specs.laws.Passes.{Passed, shrink-passed}
-use Rattle.pass.specs.laws.Prepare.{pass_state, one_down, prepare-more, prepare-last, prepare-passed, prepare-leaves}
+use Rattle.pass.proofs.laws.KeepsSound.{passes-more, passes-last}
+use Rattle.pass.proofs.laws.Passes.{Passed, shrink-passed}
+use Rattle.pass.proofs.laws.Prepare.{pass_state, one_down, prepare-more, prepare-last, prepare-passed, prepare-leaves}
 use Rattle.calls.specs.Refuse.{store_short}
-use Rattle.calls.specs.laws.Accepted.{store_kept}
+use Rattle.calls.proofs.laws.Accepted.{store_kept}
 use Rattle.reachable.specs.laws.state.Numbers.{numbers_of, numbers-end}
 use Rattle.reachable.specs.Numbers.{SoundNumbers, NodeNumbers}
 use Rattle.reachable.specs.laws.prepare.FinishedState.{shrink-numbers}

@@ -12,16 +12,16 @@ use Rattle.graph.specs.laws.Members.{by-test, both, or_left, or_right, all_from,
 use Rattle.pass.specs.Shrink.{empty_tops, shrink_pass}
 use Rattle.pass.specs.Prepare.{one_pass, prepare_node}
 use Rattle.pass.specs.KeepsSound.{own_side, own_vertex, may_go, side_may_go, pass_own, passes_own, holds_lists, keeps_sound}
-use Rattle.pass.specs.laws.KeepsSound.{passes-more, passes-last}
-use Rattle.pass.specs.laws.Passes.{Passed}
-use Rattle.pass.specs.laws.Prepare.{pass_state, one_down, prepare-passed}
+use Rattle.pass.proofs.laws.KeepsSound.{passes-more, passes-last}
+use Rattle.pass.proofs.laws.Passes.{Passed}
+use Rattle.pass.proofs.laws.Prepare.{pass_state, one_down, prepare-passed}
 use Rattle.answers.specs.declared.Answer.{Answer}
 use Rattle.calls.specs.Refuse.{node_refusal, store_short}
 use Rattle.calls.specs.Insert.{blossom_refusal, prepare_step}
 use Rattle.calls.specs.Each.{max_update_length, signed_for, toward}
 use Rattle.calls.specs.Keeps.{prepare_keeps, length_keeps, toward_keeps, grow_keeps, follow_keeps, moves_keeps, advance_keeps, circle_keeps, blossom_keeps}
-use Rattle.calls.specs.laws.Accepted.{NodeAccepted, node-accepted, BlossomAccepted, blossom-accepted}
-use Rattle.calls.specs.laws.Keeps.{refused-or-of, answer-cases}
+use Rattle.calls.proofs.laws.Accepted.{NodeAccepted, node-accepted, BlossomAccepted, blossom-accepted}
+use Rattle.calls.proofs.laws.Keeps.{refused-or-of, answer-cases}
 use Rattle.reachable.specs.Cluster.{stacked}
 use Rattle.reachable.specs.Invariant.{Labels, Clusters, Invariant}
 use Rattle.reachable.specs.Numbers.{SoundNumbers}

@@ -11,7 +11,7 @@ use Rattle.graph.specs.laws.Members.{both}
 use Rattle.graph.specs.laws.Active.{shape-active, with-active-sound}
 use Rattle.answers.specs.Answer.{Reply, says}
 use Rattle.calls.specs.Refuse.{unless}
-use Rattle.calls.specs.laws.Accepted.{unless-cases}
+use Rattle.calls.proofs.laws.Accepted.{unless-cases}
 use Rattle.reachable.specs.laws.state.Live.{RemovedEmpty, sound_empty, empty-sound, empty-active}
 use Rattle.soundness_theorem.specs.KeptSound.{KeptSound}
 

@@ -12,8 +12,8 @@ use Rattle.graph.specs.laws.State.{and_left, and_right}
 use Rattle.graph.specs.laws.Members.{both, or_cases, or_left, or_right, all-below-at, all-below-from}
 use Rattle.distance.specs.Graph.{WellFormed, Positive, sides, near, across, weight}
 use Rattle.distance.specs.Distance.{unreachable, dist, DistanceCertificate}
-use Rattle.distance.specs.Theorems.{certificate-is-distance, distance-certificate}
-use Rattle.distance.specs.laws.Side.{across-placed}
+use Rattle.distance.proofs.Theorems.{certificate-is-distance, distance-certificate}
+use Rattle.distance.proofs.laws.Side.{across-placed}
 use Rattle.table_words.specs.Sides.{near_in, across_in, weight_in, marked, marks_by}
 use Rattle.table_distances.specs.Certificate.{relaxed_at, precedes_at, preceded_marks, settled_at, certified}
 use Rattle.table_check.specs.laws.Marks.{marked-has, has-marked, no-marks, marks-there, marks-from}

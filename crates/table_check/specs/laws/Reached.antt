@@ -17,8 +17,8 @@ use Rattle.graph.specs.laws.Members.{by-test, clash, member-at, all-at, all-belo
 use Rattle.distance.specs.Graph.{WeightedGraph, WellFormed, Virtual, sides, near, across, trivial}
 use Rattle.distance.specs.Nearest.{ReachesVirtual, VirtualInReach}
 use Rattle.distance.specs.Reach.{HasMark, ReachMarks, AllSpread}
-use Rattle.distance.specs.Theorems.{mark-spreads, marks-tell-reach}
-use Rattle.distance.specs.laws.Side.{across-placed}
+use Rattle.distance.proofs.Theorems.{mark-spreads, marks-tell-reach}
+use Rattle.distance.proofs.laws.Side.{across-placed}
 use Rattle.open_graph.specs.laws.Open.{virtuals-count, virtuals-get}
 use Rattle.table_words.specs.Sides.{near_in, across_in, marked, mark_if, marks_by}
 use Rattle.table_check.specs.Tests.{spreads_at, spread_side, spread_sides, spread_new, spread_until, virtual_marks, all_marked}

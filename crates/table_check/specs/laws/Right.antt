@@ -20,10 +20,10 @@ use Rattle.distance.specs.Distance.{unreachable, dist}
 use Rattle.distance.specs.Nearest.{nearest_virtual}
 use Rattle.distance.specs.Table.{dual, Covers, share, growth, table_from_distances}
 use Rattle.distance.specs.Feasible.{Feasible}
-use Rattle.distance.specs.Theorems.{nearest-virtual-least, nearest-virtual-vertex, nearest-virtual-in-reach, growth-where-covered, growth-where-free}
-use Rattle.distance.specs.laws.Distance.{unreachable-is}
-use Rattle.distance.specs.laws.Table.{length-table_from_distances, at-table_from_distances}
-use Rattle.distance.specs.laws.Side.{across-placed}
+use Rattle.distance.proofs.Theorems.{nearest-virtual-least, nearest-virtual-vertex, nearest-virtual-in-reach, growth-where-covered, growth-where-free}
+use Rattle.distance.proofs.laws.Distance.{unreachable-is}
+use Rattle.distance.proofs.laws.Table.{length-table_from_distances, at-table_from_distances}
+use Rattle.distance.proofs.laws.Side.{across-placed}
 use Rattle.table_words.specs.Handed.{distance_in, row_of, Handed, handed}
 use Rattle.table_check.specs.Verdict.{given_defect_at, given_dual_at, defect_count, given_dual_of, duals_by_vertex, positive, in_reach, shortest, pairs_feasible, virtuals_feasible, table_afresh, right, Right}
 use Rattle.table_words.specs.Sides.{near_in, across_in, weight_in}

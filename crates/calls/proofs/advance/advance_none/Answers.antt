@@ -1,5 +1,5 @@
 use mathlib.Core.Path.{refl}
-use Rattle.calls.specs.laws.Advance.{advance-refused, advance-stay}
+use Rattle.calls.proofs.laws.Advance.{advance-refused, advance-stay}
 use borrow.Author.Rules.{rules}
 use Rattle.calls.proofs.advance.advance_none.Goals as goal
 

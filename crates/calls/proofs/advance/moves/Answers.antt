@@ -1,5 +1,5 @@
 use native.Mathlib.Omega.{arith}
-use Rattle.calls.specs.laws.Advance.{state-beyond}
+use Rattle.calls.proofs.laws.Advance.{state-beyond}
 use borrow.Author.Rules.{rules}
 use Rattle.calls.proofs.advance.moves.Goals as goal
 

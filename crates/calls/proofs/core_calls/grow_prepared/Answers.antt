@@ -1,7 +1,7 @@
 use mathlib.Core.Path.{sym, ◌∙◌}
 use Rattle.graph.specs.Layout.{state_of}
-use Rattle.growth.specs.laws.Moving.{growing-of}
-use Rattle.calls.specs.laws.Replies.{growth-refused, growth-done}
+use Rattle.growth.proofs.laws.Moving.{growing-of}
+use Rattle.calls.proofs.laws.Replies.{growth-refused, growth-done}
 use borrow.Author.Rules.{rules}
 use Rattle.calls.proofs.core_calls.grow_prepared.Goals as goal
 

@@ -1,6 +1,6 @@
 use mathlib.Core.Path.{refl}
 use Rattle.std.specs.Prelude.{false}
-use Rattle.calls.specs.laws.Replies.{length-refused, length-accepted, length-plain, sound-scanned}
+use Rattle.calls.proofs.laws.Replies.{length-refused, length-accepted, length-plain, sound-scanned}
 use borrow.Author.Rules.{rules}
 use Rattle.calls.proofs.core_calls.length_unprepared.Goals as goal
 

@@ -1,4 +1,4 @@
-use Rattle.calls.specs.laws.Replies.{usable-steady}
+use Rattle.calls.proofs.laws.Replies.{usable-steady}
 use borrow.Author.Rules.{rules}
 use Rattle.calls.proofs.core_calls.prepare_dual_node_growth.Goals as goal
 

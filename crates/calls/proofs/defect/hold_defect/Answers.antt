@@ -1,6 +1,6 @@
 use mathlib.Core.Path.{◌∙◌}
-use Rattle.pass.specs.laws.Scratch.{scratch-same}
-use Rattle.calls.specs.laws.Defect.{defect-block, defect-scratch, defect-count}
+use Rattle.pass.proofs.laws.Scratch.{scratch-same}
+use Rattle.calls.proofs.laws.Defect.{defect-block, defect-scratch, defect-count}
 use borrow.Author.Rules.{rules}
 use Rattle.calls.proofs.defect.hold_defect.Goals as goal
 

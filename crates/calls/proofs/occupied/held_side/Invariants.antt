@@ -7,8 +7,8 @@ use Rattle.graph.specs.State.{sides_at}
 use Rattle.graph.specs.Layout.{state_of}
 use Rattle.graph.specs.laws.Members.{any_here, any-on, any-end}
 use Rattle.calls.specs.Occupied.{is_held, read_until_held}
-use Rattle.calls.specs.laws.Defect.{some-node, no_node}
-use Rattle.calls.specs.laws.Occupied.{read_here, read-on, read-end}
+use Rattle.calls.proofs.laws.Defect.{some-node, no_node}
+use Rattle.calls.proofs.laws.Occupied.{read_here, read-on, read-end}
 use Rattle.calls.proofs.occupied.held_side.Given as goal
 
 abbrev pub invariant-loop-i : goal.invariant-loop-i

@@ -1,7 +1,7 @@
 use native.Mathlib.Omega.{arith}
 use mathlib.Core.Path.{sym, ◌∙◌}
 use Rattle.graph.specs.Layout.{state_of}
-use Rattle.calls.specs.laws.Read.{first_below, first-same, first-vertex, removed-vertex}
+use Rattle.calls.proofs.laws.Read.{first_below, first-same, first-vertex, removed-vertex}
 use Rattle.calls.proofs.read.+get_representative_vertex.Goals as goal
 
 pub vertex_count-v-requires : goal.vertex_count-v-requires

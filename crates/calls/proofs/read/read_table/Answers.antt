@@ -6,7 +6,7 @@ use native.Mathlib.Omega.{arith}
 use Rattle.graph.specs.Layout.{state_of}
 use Rattle.calls.specs.Calls.{growth_table}
 use Rattle.calls.specs.Reply.{placed}
-use Rattle.calls.specs.laws.Read.{table_more, table-all, placed-none}
+use Rattle.calls.proofs.laws.Read.{table_more, table-all, placed-none}
 use Rattle.calls.proofs.read.read_table.Goals.{After-side_count-m}
 use Rattle.calls.proofs.read.read_table.Goals as goal
 

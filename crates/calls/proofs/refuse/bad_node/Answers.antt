@@ -1,4 +1,4 @@
-use Rattle.calls.specs.laws.Refuse.{bad-outside, bad-removed}
+use Rattle.calls.proofs.laws.Refuse.{bad-outside, bad-removed}
 use native.Mathlib.Omega.{arith}
 use mathlib.Core.Path.{◌∙◌}
 use Rattle.graph.specs.Layout.{state_of}

@@ -2,7 +2,7 @@ use Rattle.graph.specs.laws.List.{store-max}
 use native.Mathlib.Omega.{arith}
 use mathlib.Core.Path.{◌∙◌}
 use Rattle.graph.specs.Layout.{state_of}
-use Rattle.calls.specs.laws.Refuse.{short-new}
+use Rattle.calls.proofs.laws.Refuse.{short-new}
 use borrow.Author.Rules.{rules}
 use Rattle.calls.proofs.refuse.store_short_new.Goals as goal
 

@@ -1,8 +1,8 @@
 use mathlib.Core.Path.{refl, sym, ◌∙◌}
-use Rattle.calls.specs.laws.Accepted.{node-accepted}
-use Rattle.calls.specs.laws.Advance.{advance-refused, advance-stay, advance-moves}
+use Rattle.calls.proofs.laws.Accepted.{node-accepted}
+use Rattle.calls.proofs.laws.Advance.{advance-refused, advance-stay, advance-moves}
 use Rattle.graph.specs.Layout.{state_of}
-use Rattle.calls.specs.laws.Keeps.{asked-true, asked-as, advance-refused-passes, advance-stay-passes, advance-moves-asks}
+use Rattle.calls.proofs.laws.Keeps.{asked-true, asked-as, advance-refused-passes, advance-stay-passes, advance-moves-asks}
 use borrow.Author.Rules.{rules}
 use Rattle.calls.proofs.tested.advance.Goals as goal
 

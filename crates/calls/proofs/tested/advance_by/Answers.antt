@@ -11,8 +11,8 @@ use Rattle.answers.specs.declared.MaxUpdateLength.TheVariants.{NonZeroGrow, Unli
 use Rattle.answers.specs.Answer.{says}
 use Rattle.calls.specs.Calls.{max_update_length, toward, follow}
 use Rattle.calls.specs.Keeps.{follow_keeps}
-use Rattle.calls.specs.laws.Advance.{length-below, advance-other, advance-free}
-use Rattle.calls.specs.laws.Keeps.{asked-as, asked-both, moves-handed, moves-followed}
+use Rattle.calls.proofs.laws.Advance.{length-below, advance-other, advance-free}
+use Rattle.calls.proofs.laws.Keeps.{asked-as, asked-both, moves-handed, moves-followed}
 use borrow.Author.Rules.{rules, sfits_of}
 use Rattle.calls.proofs.tested.advance_by.Goals as goal
 

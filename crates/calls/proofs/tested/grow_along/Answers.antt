@@ -3,8 +3,8 @@ use mathlib.Core.Path.{refl, sym, ap, ◌∙◌}
 use lib.Signed.{non_neg}
 use mir.Facts.{to_z-of_z}
 use Rattle.graph.specs.Layout.{state_of}
-use Rattle.calls.specs.laws.Replies.{along-forth, along-back, steady-other}
-use Rattle.calls.specs.laws.Keeps.{asked-true, asked-as, along-none-passes, along-forth-asks, along-back-asks}
+use Rattle.calls.proofs.laws.Replies.{along-forth, along-back, steady-other}
+use Rattle.calls.proofs.laws.Keeps.{asked-true, asked-as, along-none-passes, along-forth-asks, along-back-asks}
 use borrow.Author.Rules.{rules}
 use Rattle.calls.proofs.tested.grow_along.Goals as goal
 

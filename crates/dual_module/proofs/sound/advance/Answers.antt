@@ -2,8 +2,8 @@ use mathlib.Core.Path.{sym, ◌∙◌}
 use borrow.Author.Tests.{eqb-true, not-false}
 use Rattle.graph.specs.Layout.{state_of}
 use Rattle.memory_tests.specs.laws.Memory.{memory-accepted}
-use Rattle.dual_module.specs.laws.Called.{test-so, test-not, advance-writes, advance-still, advance-short}
-use Rattle.dual_module.specs.laws.Sound.{passed-usable, known_same, known-done, advance-still-passes, advance-short-passes}
+use Rattle.dual_module.proofs.laws.Called.{test-so, test-not, advance-writes, advance-still, advance-short}
+use Rattle.dual_module.proofs.laws.Sound.{passed-usable, known_same, known-done, advance-still-passes, advance-short-passes}
 use borrow.Author.Rules.{rules}
 use Rattle.dual_module.proofs.sound.advance.Goals as goal
 

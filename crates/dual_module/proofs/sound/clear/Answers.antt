@@ -1,6 +1,6 @@
 use mathlib.Core.Path.{refl}
 use Rattle.memory_tests.specs.laws.Memory.{memory-accepted}
-use Rattle.dual_module.specs.laws.Called.{call-cleared}
+use Rattle.dual_module.proofs.laws.Called.{call-cleared}
 use borrow.Author.Rules.{rules}
 use Rattle.dual_module.proofs.sound.clear.Goals as goal
 

@@ -2,10 +2,10 @@ use mathlib.Core.Path.{◌∙◌}
 use Rattle.std.specs.Prelude.{true}
 use Rattle.graph.specs.Layout.{state_of}
 use Rattle.memory_tests.specs.laws.Memory.{memory-accepted}
-use Rattle.dual_module.specs.laws.Called.{test-so, test-not, length-writes, length-still}
-use Rattle.dual_module.specs.laws.Sound.{passed-usable, known_same, known-done}
-use Rattle.calls.specs.laws.Replies.{length-refused}
-use Rattle.calls.specs.laws.Keeps.{length-refused-passes, length-plain-passes}
+use Rattle.dual_module.proofs.laws.Called.{test-so, test-not, length-writes, length-still}
+use Rattle.dual_module.proofs.laws.Sound.{passed-usable, known_same, known-done}
+use Rattle.calls.proofs.laws.Replies.{length-refused}
+use Rattle.calls.proofs.laws.Keeps.{length-refused-passes, length-plain-passes}
 use borrow.Author.Rules.{rules}
 use Rattle.dual_module.proofs.sound.compute_maximum_update_length_dual_node.Goals as goal
 

@@ -3,9 +3,9 @@ use mathlib.Core.Path.{sym, ap, ◌∙◌}
 use mir.Facts.{to_z-of_z}
 use Rattle.graph.specs.Layout.{state_of}
 use Rattle.memory_tests.specs.laws.Memory.{memory-accepted}
-use Rattle.dual_module.specs.laws.Called.{test-so, test-not, grow-writes, grow-still, grow-refused}
-use Rattle.dual_module.specs.laws.Sound.{passed-usable, known_same, known-done, grow-none-passes, grow-refused-passes}
-use Rattle.calls.specs.laws.Replies.{along-up}
+use Rattle.dual_module.proofs.laws.Called.{test-so, test-not, grow-writes, grow-still, grow-refused}
+use Rattle.dual_module.proofs.laws.Sound.{passed-usable, known_same, known-done, grow-none-passes, grow-refused-passes}
+use Rattle.calls.proofs.laws.Replies.{along-up}
 use borrow.Author.Rules.{rules}
 use Rattle.dual_module.proofs.sound.grow_dual_node.Goals as goal
 

@@ -1,10 +1,10 @@
 use Rattle.graph.specs.Layout.{state_of}
 use Rattle.memory_tests.specs.laws.Memory.{memory-accepted}
 use Rattle.dual_module.specs.Called.{prepare_writes}
-use Rattle.dual_module.specs.laws.Called.{test-so, test-not}
-use Rattle.dual_module.specs.laws.Sound.{passed-usable, known_same, known-done}
-use Rattle.calls.specs.laws.Replies.{prepare-refused}
-use Rattle.calls.specs.laws.Keeps.{prepare-refused-passes}
+use Rattle.dual_module.proofs.laws.Called.{test-so, test-not}
+use Rattle.dual_module.proofs.laws.Sound.{passed-usable, known_same, known-done}
+use Rattle.calls.proofs.laws.Replies.{prepare-refused}
+use Rattle.calls.proofs.laws.Keeps.{prepare-refused-passes}
 use borrow.Author.Rules.{rules}
 use Rattle.dual_module.proofs.sound.prepare_dual_node_growth.Goals as goal
 

@@ -1,8 +1,8 @@
 use mathlib.Core.Path.{refl}
 use Rattle.memory_tests.specs.laws.Memory.{memory-accepted}
 use Rattle.dual_module.specs.Called.{state_writes}
-use Rattle.dual_module.specs.laws.Called.{call_same, call-done, test-so}
-use Rattle.calls.specs.laws.Replies.{set-refused}
+use Rattle.dual_module.proofs.laws.Called.{call_same, call-done, test-so}
+use Rattle.calls.proofs.laws.Replies.{set-refused}
 use borrow.Author.Rules.{rules}
 use Rattle.dual_module.proofs.sound.set_grow_state.Goals as goal
 

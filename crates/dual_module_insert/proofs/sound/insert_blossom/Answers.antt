@@ -3,8 +3,8 @@ use Rattle.graph.specs.Word.{to_nat}
 use Rattle.graph.specs.Layout.{state_of}
 use Rattle.memory_tests.specs.laws.Memory.{memory-accepted}
 use Rattle.dual_module.specs.Called.{blossom_writes}
-use Rattle.dual_module.specs.laws.Called.{lendable-usable, test-so, test-not}
-use Rattle.dual_module.specs.laws.Sound.{passed-usable, known-same-insert, known-done-insert}
+use Rattle.dual_module.proofs.laws.Called.{lendable-usable, test-so, test-not}
+use Rattle.dual_module.proofs.laws.Sound.{passed-usable, known-same-insert, known-done-insert}
 use Rattle.blossom.specs.laws.Blossom.{blossom-refused}
 use Rattle.blossom.specs.laws.Keeps.{blossom-refused-passes}
 use borrow.Author.Rules.{rules}

@@ -1,9 +1,9 @@
 use mathlib.Core.Path.{refl}
 use Rattle.memory_tests.specs.laws.Memory.{memory-accepted}
 use Rattle.dual_module.specs.Called.{defect_writes}
-use Rattle.dual_module.specs.laws.Called.{lendable-usable, test-so, test-not}
-use Rattle.dual_module.specs.laws.Sound.{passed-usable, known-same-insert, known-done-insert}
-use Rattle.calls.specs.laws.Defect.{defect-refused}
+use Rattle.dual_module.proofs.laws.Called.{lendable-usable, test-so, test-not}
+use Rattle.dual_module.proofs.laws.Sound.{passed-usable, known-same-insert, known-done-insert}
+use Rattle.calls.proofs.laws.Defect.{defect-refused}
 use borrow.Author.Rules.{rules}
 use Rattle.dual_module_insert.proofs.sound.insert_defect.Goals as goal
 

@@ -1,6 +1,6 @@
 use native.Mathlib.Omega.{arith}
 use Rattle.graph.specs.Layout.{state_of}
-use Rattle.calls.specs.laws.Refuse.{good-inside}
+use Rattle.calls.proofs.laws.Refuse.{good-inside}
 use Rattle.dual_module_node.specs.laws.ReadNode.{defect-told, blossom-told}
 use borrow.Author.Rules.{rules}
 use Rattle.dual_module_node.proofs.sound.told.Goals as goal

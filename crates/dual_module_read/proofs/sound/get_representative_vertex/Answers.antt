@@ -1,8 +1,8 @@
 use mathlib.Core.Path.{refl, sym, ◌∙◌}
 use Rattle.graph.specs.Layout.{state_of}
 use Rattle.memory_tests.specs.laws.Memory.{memory-accepted}
-use Rattle.calls.specs.laws.Refuse.{good-inside}
-use Rattle.dual_module_read.specs.laws.Read.{vertex-beyond, vertex-told}
+use Rattle.calls.proofs.laws.Refuse.{good-inside}
+use Rattle.dual_module_read.proofs.laws.Read.{vertex-beyond, vertex-told}
 use borrow.Author.Rules.{rules}
 use Rattle.dual_module_read.proofs.sound.get_representative_vertex.Goals as goal
 

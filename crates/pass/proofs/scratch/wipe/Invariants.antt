@@ -4,7 +4,7 @@ use native.Mathlib.Omega.{arith}
 use Prim.Native.Nat.{◌-◌, ◌≤◌}
 use lib.ListN.{length}
 use Rattle.pass.specs.inner.Scratch.{wiped}
-use Rattle.pass.specs.laws.Scratch.{wipe-none, wipe-more}
+use Rattle.pass.proofs.laws.Scratch.{wipe-none, wipe-more}
 use Rattle.pass.proofs.scratch.wipe.Given as goal
 
 abbrev pub invariant-loop-i : goal.invariant-loop-i

@@ -14,7 +14,7 @@ use Rattle.graph.specs.inner.Kept.{SameButHolders}
 use Rattle.graph.specs.laws.Members.{by-test, clash, both, member-head, member-tail, member-cons, member-nil, member-append, member-append-left, member-append-right, distinct_head, distinct_tail}
 use Rattle.pass.specs.Work.{Work, on_state, keep, note, start_pass}
 use Rattle.pass.specs.Grow.{reaches, grow_step, grow_scanned}
-use Rattle.pass.specs.laws.Fits.{side-held}
+use Rattle.pass.proofs.laws.Fits.{side-held}
 use Rattle.reachable.specs.laws.grow.TakeSides.{side-other, side-vertices}
 use Rattle.reachable.specs.laws.state.GraphOk.{GraphOk}
 

@@ -17,7 +17,7 @@ use Rattle.graph.specs.inner.Kept.{SameButHolders}
 use Rattle.graph.specs.laws.Members.{by-test, clash, or_left, or_right, member-head, member-tail, member-cons, member-nil, member-append, member-append-left, member-append-right}
 use Rattle.pass.specs.Work.{Work, on_state, keep, call_another}
 use Rattle.pass.specs.Grow.{take_side}
-use Rattle.pass.specs.laws.Fits.{side-held}
+use Rattle.pass.proofs.laws.Fits.{side-held}
 
 -- ---- one side, one vertex
 

@@ -17,7 +17,7 @@ use Rattle.pass.specs.Grow.{take_side, take_vertex, take_step, grow_scanned}
 use Rattle.reachable.specs.Cluster.{SideGraph, Global, NodeInvariant}
 use Rattle.reachable.specs.laws.invariant.TakenVertex.{update, update_other, NewStack, pushed, same-stack, TakenVertex}
 use Rattle.reachable.specs.laws.invariant.Take.{taken-global, taken-node, taken-listed-held}
-use Rattle.pass.specs.laws.Fits.{vertex-held}
+use Rattle.pass.proofs.laws.Fits.{vertex-held}
 use Rattle.reachable.specs.laws.grow.TakeSides.{vertex-other, vertex-sides, none_free, some-free, SidesTaken, take-sides}
 use Rattle.reachable.specs.Invariant.{Labels, side_graph_of, view_of, NodeInvariantOf, BoundaryHeld}
 use Rattle.reachable.specs.laws.state.GraphOk.{GraphOk}

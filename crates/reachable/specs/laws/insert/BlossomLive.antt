@@ -7,7 +7,7 @@ use Rattle.graph.specs.Basic.{member}
 use Rattle.graph.specs.State.{State, Vertices, defect_vertex, blossom, node_count, class_of, parent_of}
 use Rattle.graph.specs.Sound.{is_removed}
 use Rattle.graph.specs.laws.Members.{by-test, clash, member-head}
-use Rattle.calls.specs.laws.Accepted.{BlossomAccepted}
+use Rattle.calls.proofs.laws.Accepted.{BlossomAccepted}
 use Rattle.reachable.specs.Invariant.{Emptied, Live}
 use Rattle.reachable.specs.laws.state.Live.{RemovedEmpty, FirstInside, removed-empty, live_of, class-beyond, parent-beyond}
 use Rattle.reachable.specs.laws.insert.JoinedLists.{joined_lists}

@@ -13,7 +13,7 @@ use Rattle.graph.specs.Sound.{is_defect, stored_defect, entries}
 use Rattle.graph.specs.laws.Shape.{sides-of-once}
 use Rattle.graph.specs.Shape.{SoundSide, SoundVertex, SoundEdge}
 use Rattle.calls.specs.Refuse.{entries_but}
-use Rattle.calls.specs.laws.Accepted.{DefectAccepted, store-room, entries_none}
+use Rattle.calls.proofs.laws.Accepted.{DefectAccepted, store-room, entries_none}
 use Rattle.reachable.specs.laws.state.GraphOk.{GraphOk}
 use Rattle.reachable.specs.laws.state.Numbers.{numbers-graph-ok}
 use Rattle.reachable.specs.Numbers.{SoundNumbers, ListsDistinct, NodeNumbers}

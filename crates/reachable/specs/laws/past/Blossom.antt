@@ -6,7 +6,7 @@ use Rattle.std.proofs.Math.Logic.{by_cases}
 use Rattle.graph.specs.Basic.{if◌then◌else◌, fold}
 use Rattle.graph.specs.State.{State, node_count}
 use Rattle.calls.specs.Insert.{prepare_step, blossom_put}
-use Rattle.calls.specs.laws.Accepted.{BlossomAccepted}
+use Rattle.calls.proofs.laws.Accepted.{BlossomAccepted}
 use Rattle.reachable.specs.Invariant.{Invariant}
 use Rattle.reachable.specs.laws.insert.Circle.{CirclePreparing}
 use Rattle.reachable.specs.laws.insert.BlossomLabels.{blossom_labels}

@@ -6,7 +6,7 @@ use Rattle.std.proofs.Math.Logic.{by_cases}
 use Rattle.graph.specs.Basic.{member}
 use Rattle.graph.specs.State.{grandson_at, vertex_grandson_at, Vertices, State, Graph, node_count, end_at, holder_at, parent_of, dual_of, boundary_of}
 use Rattle.graph.specs.laws.Members.{by-test, clash}
-use Rattle.calls.specs.laws.Accepted.{BlossomAccepted}
+use Rattle.calls.proofs.laws.Accepted.{BlossomAccepted}
 use Rattle.reachable.specs.Invariant.{side_graph_of, view_of, Invariant}
 use Rattle.reachable.specs.laws.invariant.Frame.{Frame}
 use Rattle.reachable.specs.laws.invariant.TakenVertex.{update_same, update_other}

@@ -8,7 +8,7 @@ use Rattle.graph.specs.Basic.{if◌then◌else◌, member}
 use Rattle.graph.specs.State.{State, Graph, node_count, end_at, parent_of}
 use Rattle.reachable.specs.laws.state.Live.{parent-beyond}
 use Rattle.graph.specs.laws.Members.{by-test}
-use Rattle.calls.specs.laws.Accepted.{BlossomAccepted}
+use Rattle.calls.proofs.laws.Accepted.{BlossomAccepted}
 use Rattle.reachable.specs.Invariant.{Labels, Clusters, Invariant}
 use Rattle.reachable.specs.Numbers.{SoundNumbers}
 use Rattle.reachable.specs.laws.insert.JoinedLists.{joined_lists}

@@ -7,23 +7,23 @@ use Rattle.graph.specs.laws.State.{if-both}
 use Rattle.graph.specs.laws.Members.{by-test}
 use Rattle.graph.specs.Open.{Edge, blank_state, opened, with_originals, cleared, open_refusal}
 use Rattle.graph.specs.laws.Opened.{get_d-zeros}
-use Rattle.pass.specs.laws.Passes.{Passed}
+use Rattle.pass.proofs.laws.Passes.{Passed}
 use Rattle.answers.specs.declared.Answer.{Answer}
 use Rattle.answers.specs.declared.Answer.TheVariants.{Done}
 use Rattle.answers.specs.Answer.{Reply, says}
-use Rattle.calls.specs.laws.Follow.{follow-cases}
+use Rattle.calls.proofs.laws.Follow.{follow-cases}
 use Rattle.calls.specs.Refuse.{node_refusal, store_short, unless}
 use Rattle.pass.specs.Prepare.{prepare_node}
-use Rattle.pass.specs.laws.Prepare.{prepare-passed}
+use Rattle.pass.proofs.laws.Prepare.{prepare-passed}
 use Rattle.growth.specs.Growth.{grow_check, grow_apply}
 use Rattle.calls.specs.Insert.{prepare_step, insert_defect, defect_put, defect_refusal, insert_blossom, blossom_put, blossom_refusal}
 use Rattle.calls.specs.Remove.{remove_refusal, open_prepared, remove_blossom}
 use Rattle.calls.specs.Calls.{set_grow_state, prepare_dual_node_growth, max_update_length, readied, grow_prepared, grow_toward, grow_dual_node, signed_for, follow, advance_by, toward, advance, representative_vertex, clear, Call, InsertDefect, InsertBlossom, SetGrowState, Prepare, UpdateLength, Grow, ReadTable, Advance, Contacts, RepresentativeVertex, Clear, RenewActiveList, PrepareAll, GroupLength, Round, RemoveBlossom, LoadEdgeModifier, response, respond}
 use Rattle.calls.specs.Round.{renew_active_list, preparing, prepared_all, prepare_all, moving, moved_all, round, GroupReply, group_refusal, group_length}
-use Rattle.calls.specs.laws.Trial.{turn-keeps, tried-keeps}
+use Rattle.calls.proofs.laws.Trial.{turn-keeps, tried-keeps}
 use Rattle.graph.specs.Active.{join_active, activated, renewed}
-use Rattle.calls.specs.laws.Accepted.{unless-cases, NodeAccepted, node-accepted, defect-accepted, blossom-accepted}
-use Rattle.calls.specs.laws.Remove.{remove-accepted}
+use Rattle.calls.proofs.laws.Accepted.{unless-cases, NodeAccepted, node-accepted, defect-accepted, blossom-accepted}
+use Rattle.calls.proofs.laws.Remove.{remove-accepted}
 use Rattle.reachable.specs.Reachable.{after, Reachable}
 use Rattle.reachable.specs.Invariant.{Invariant}
 use Rattle.reachable.specs.laws.prepare.Preparation.{invariant-numbers, prepare-invariant}
@@ -32,7 +32,7 @@ use Rattle.reachable.specs.laws.Growth.{growth-invariant}
 use Rattle.reachable.specs.laws.insert.Defect.{defect-invariant}
 use Rattle.reachable.specs.laws.insert.Blossom.{blossom-invariant}
 use Rattle.calls.specs.Erasures.{EdgeWeight, modifier_refusal, load_edge_modifier}
-use Rattle.calls.specs.laws.Erasures.{modifier-accepted}
+use Rattle.calls.proofs.laws.Erasures.{modifier-accepted}
 use Rattle.reachable.specs.laws.Blank.{initial_labels, blank-clusters, reweighed-blank, reweighed-invariant}
 use Rattle.reachable.specs.laws.Calls.{opened-invariant, cleared-invariant, set-invariant}
 use Rattle.reachable.specs.Opening.{join_log, logged, after_log, log_of}

@@ -8,7 +8,7 @@ use Rattle.graph.specs.laws.Shape.{sound-end}
 use Rattle.graph.specs.Shape.{Shape}
 use Rattle.pass.specs.Prepare.{Prepared, one_pass, prepare_from, prepare_node}
 use Rattle.pass.specs.inner.Ends.{EndsIn}
-use Rattle.pass.specs.laws.Prepare.{pass_state, one-passed, prepare-more, prepare-last, left, left_le, ends-passed, pass-falls}
+use Rattle.pass.proofs.laws.Prepare.{pass_state, one-passed, prepare-more, prepare-last, left, left_le, ends-passed, pass-falls}
 use Rattle.reachable.specs.Passes.{passes, Ends}
 
 -- one more pass, before the others

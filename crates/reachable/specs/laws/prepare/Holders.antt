@@ -16,7 +16,7 @@ use Rattle.pass.specs.Grow.{grow_pass}
 use Rattle.pass.specs.Shrink.{empty_tops, below_tops, drop_side, drop_step, shrink_step, closed, release_side, release_step, dropped, shrink_scanned, shrink_pass}
 use Rattle.pass.specs.inner.Own.{OwnSides}
 use Rattle.graph.specs.Shape.{Shape}
-use Rattle.pass.specs.laws.GrowSound.{Grown, Takings, sound-paired, grow-pass-grown}
+use Rattle.pass.proofs.laws.GrowSound.{Grown, Takings, sound-paired, grow-pass-grown}
 use Rattle.reachable.specs.laws.shrink.FreeSides.{side-freed, keep-once-state}
 
 -- ---- sides and vertices freed

@@ -13,7 +13,7 @@ use Rattle.pass.specs.Work.{Work, on_state, keep, keep_once, note, push, call_an
 use Rattle.pass.specs.Grow.{reaches, grow_step, take_side, take_vertex, take_step, grow_scanned, grow_pass}
 use Rattle.pass.specs.Shrink.{empty_tops, below_tops, drop_side, drop_step, shrink_step, closed, release_side, release_step, dropped, shrink_scanned, shrink_pass}
 use Rattle.pass.specs.Prepare.{one_pass, prepare_from, prepare_node}
-use Rattle.pass.specs.laws.Prepare.{pass_state, prepare-more, prepare-last}
+use Rattle.pass.proofs.laws.Prepare.{pass_state, prepare-more, prepare-last}
 use Rattle.reachable.specs.laws.shrink.FreeSides.{keep-once-state}
 
 -- ---- a fact of sides and vertices that passes over node n keep

@@ -3,7 +3,7 @@ use native.Mathlib.Omega.{arith}
 use mathlib.Core.Path.{sym, ap, ◌∙◌}
 use Rattle.graph.specs.Basic.{if◌then◌else◌}
 use Rattle.graph.specs.Layout.{state_of}
-use Rattle.calls.specs.laws.Refuse.{good-inside}
+use Rattle.calls.proofs.laws.Refuse.{good-inside}
 use Rattle.records.specs.Record.{fields}
 use Rattle.record_call.specs.inner.Long.{rest_refusal}
 use Rattle.record_call.specs.laws.Asking.{circle-length}

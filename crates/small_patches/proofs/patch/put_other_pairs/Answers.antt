@@ -1,5 +1,5 @@
 use native.Mathlib.Omega.{arith}
-use Rattle.small_patches.specs.laws.Words.{put_then}
+use Rattle.small_patches.proofs.laws.Words.{put_then}
 use Rattle.small_patches.specs.Words.{other_edges}
 use borrow.Author.Rules.{rules}
 use Rattle.small_patches.proofs.patch.put_other_pairs.Goals as goal

@@ -1,7 +1,7 @@
 use mathlib.Core.Path.{sym}
 use Rattle.small_patches.specs.SmallPatch.{pair}
-use Rattle.small_patches.specs.laws.Digits.{absent-pair, present-pair}
-use Rattle.small_patches.specs.laws.Words.{put-none, put_as}
+use Rattle.small_patches.proofs.laws.Digits.{absent-pair, present-pair}
+use Rattle.small_patches.proofs.laws.Words.{put-none, put_as}
 use native.Mathlib.Omega.{arith}
 use borrow.Author.Rules.{rules}
 use Rattle.small_patches.proofs.patch.put_pair.Goals as goal

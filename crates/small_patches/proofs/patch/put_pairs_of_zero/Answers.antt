@@ -1,4 +1,4 @@
-use Rattle.small_patches.specs.laws.Words.{put_then}
+use Rattle.small_patches.proofs.laws.Words.{put_then}
 use Rattle.small_patches.specs.Words.{edges_of_zero}
 use native.Mathlib.Omega.{arith}
 use borrow.Author.Rules.{rules}

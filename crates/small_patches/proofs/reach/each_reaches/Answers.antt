@@ -1,4 +1,4 @@
-use Rattle.small_patches.specs.laws.Words.{put-length, edges-read}
+use Rattle.small_patches.proofs.laws.Words.{put-length, edges-read}
 use Rattle.small_patches.specs.Reach.{all_reach}
 use mathlib.Core.Path.{◌≡◌, ◌∙◌, ap}
 use Prim.Native.Nat.{◌*◌, ◌-◌}

@@ -1,4 +1,4 @@
-use Rattle.small_patches.specs.laws.Loops.{over_none, over-more}
+use Rattle.small_patches.proofs.laws.Loops.{over_none, over-more}
 use Rattle.small_patches.specs.Reach.{spread_over, times}
 use Rattle.graph.specs.Opening.{edges_from}
 use lib.ListN.{length}

@@ -1,4 +1,4 @@
-use Rattle.small_patches.specs.laws.Loops.{along-more, along-all}
+use Rattle.small_patches.proofs.laws.Loops.{along-more, along-all}
 use Rattle.small_patches.specs.Reach.{spread_along}
 use Rattle.graph.specs.laws.State.{fold-none}
 use Rattle.graph.specs.Opening.{edges_from}

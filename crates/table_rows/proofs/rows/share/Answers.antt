@@ -1,4 +1,4 @@
-use Rattle.distance.specs.laws.Table.{share-outward, share-inward, share-across}
+use Rattle.distance.proofs.laws.Table.{share-outward, share-inward, share-across}
 use mathlib.Core.Path.{sym}
 use borrow.Author.Rules.{rules}
 use Rattle.table_rows.proofs.rows.share.Goals as goal

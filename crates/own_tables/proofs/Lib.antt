@@ -1,0 +1,3 @@
+-- Laws about the definitions in specs/, and the theorems; edits of must-fail/ that change a definition are refused here.
+pub mod Theorems
+pub mod laws
