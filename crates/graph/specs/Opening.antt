@@ -6,7 +6,7 @@ use Rattle.graph.specs.State.{vertex_count, edge_count, side_count, node_count}
 use Rattle.graph.specs.Open.{Edge, ends_of, sides_of, flag_in, cleared, open_refusal}
 use Rattle.graph.specs.Layout.{block_length, scratch_length, rows_of, row, state_of}
 use Rattle.graph.specs.Form.{Formed}
-use Rattle.graph.specs.Rows.{header_row, flags_row, vertex_holder_row, vertex_grandson_row, first_row, end_row, growth_row, holder_row, grandson_row, at_row, weight_row, class_row, grow_state_row, parent_row, dual_row, start_row, boundary_length_row, overgrown_length_row, store_row, active_row, original_row}
+use Rattle.graph.specs.Rows.{header_row, flags_row, vertex_holder_row, vertex_grandson_row, first_row, end_row, growth_row, holder_row, grandson_row, at_row, class_row, grow_state_row, parent_row, dual_row, start_row, boundary_length_row, overgrown_length_row, store_row, active_row, original_row}
 
 -- ---- what the host gives
 

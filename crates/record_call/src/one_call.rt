@@ -57,7 +57,12 @@ pub fn call(b: &mut [i64], t: &mut [i64], kind: usize, body: &[u8]) -> Answer
         4 => defect::insert_defect(b, t, bytes::field(body, 0), bytes::field(body, 1)),
         5 => blossom(b, t, body),
         6 => core_calls::set_grow_state(b, bytes::field(body, 0), bytes::field(body, 1)),
-        7 => core_calls::prepare_dual_node_growth(b, t, bytes::field(body, 0), bytes::field(body, 1)),
+        7 => core_calls::prepare_dual_node_growth(
+            b,
+            t,
+            bytes::field(body, 0),
+            bytes::field(body, 1),
+        ),
         8 => core_calls::compute_maximum_update_length_dual_node(
             b,
             t,

@@ -1,5 +1,4 @@
 use Rattle.active_list.specs.laws.Joining.{activated-joins, activated-none}
-use borrow.Author.Rules.{rules}
 use Rattle.active_list.proofs.activate.Goals as goal
 
 pub returns-then-grow_state-x : goal.returns-then-grow_state-x

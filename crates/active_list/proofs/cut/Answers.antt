@@ -1,7 +1,6 @@
 use Rattle.active_list.specs.laws.Words.{list-cut}
 use Rattle.graph.specs.Form.{Laid}
 use native.Mathlib.Omega.{arith}
-use borrow.Author.Rules.{rules}
 use Rattle.active_list.proofs.cut.Goals as goal
 
 pub put_active_count-requires : goal.put_active_count-requires

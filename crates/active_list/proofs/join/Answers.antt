@@ -3,7 +3,6 @@ use Rattle.graph.specs.Layout.{state_of}
 use Rattle.graph.specs.Form.{Laid}
 use mathlib.Core.Path.{sym, ◌∙◌}
 use native.Mathlib.Omega.{arith}
-use borrow.Author.Rules.{rules}
 use Rattle.active_list.proofs.join.Goals as goal
 
 pub returns-then-stands_in : goal.returns-then-stands_in

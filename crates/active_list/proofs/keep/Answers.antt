@@ -1,7 +1,6 @@
 use Rattle.graph.specs.Form.{Laid}
 use Rattle.active_list.specs.laws.Renewal.{entry-left, entry_kept}
 use native.Mathlib.Omega.{arith}
-use borrow.Author.Rules.{rules}
 use Rattle.active_list.proofs.keep.Goals as goal
 
 pub returns-then-grow_state-eq-STAY : goal.returns-then-grow_state-eq-STAY

@@ -1,6 +1,5 @@
 use Rattle.active_list.specs.laws.Words.{list_pushed}
 use native.Mathlib.Omega.{arith}
-use borrow.Author.Rules.{rules}
 use Rattle.active_list.proofs.push.Goals as goal
 
 pub returns : goal.returns

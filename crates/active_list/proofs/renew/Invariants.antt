@@ -1,10 +1,8 @@
-use mathlib.Core.Path.{refl, ◌∙◌, ◌≡◌}
-use Rattle.active_list.specs.laws.Renewal.{Renewing, renewing-none, entry-below, renewing-more, renewing-all}
+use mathlib.Core.Path.{◌≡◌}
+use Rattle.active_list.specs.laws.Renewal.{Renewing}
 use Rattle.graph.specs.Layout.{state_of}
 use lib.ListN.{length}
 use Prim.Native.Nat.{◌-◌}
-use native.Mathlib.Omega.{arith}
-use borrow.Author.Rules.{rules}
 use Rattle.active_list.proofs.renew.Given as goal
 
 abbrev pub invariant-loop-i : goal.invariant-loop-i

@@ -1,13 +1,11 @@
-use lib.ListN.{drop, get_or}
+use lib.ListN.{get_or}
 use Rattle.graph.specs.laws.Members.{any_here, any-on, any-end}
 use Rattle.graph.specs.Layout.{state_of}
-use Rattle.graph.specs.Basic.{any, member}
+use Rattle.graph.specs.Basic.{member}
 use borrow.Author.Tests.{eq-eqb, ne_eqb}
 use lib.Dec.{eqb}
-use Prim.Native.Nat.{◌-◌, ◌≤◌}
-use mathlib.Core.Path.{◌≡◌, refl}
+use mathlib.Core.Path.{refl}
 use native.Mathlib.Omega.{arith}
-use borrow.Author.Rules.{rules}
 use Rattle.active_list.proofs.stands_in.Goals as goal
 
 pub loop-i-init : goal.loop-i-init

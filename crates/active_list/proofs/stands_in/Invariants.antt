@@ -1,13 +1,9 @@
-use lib.ListN.{drop, get_or}
-use Rattle.graph.specs.laws.Members.{any_here, any-on, any-end}
+use lib.ListN.{drop}
 use Rattle.graph.specs.Layout.{state_of}
-use Rattle.graph.specs.Basic.{any, member}
-use borrow.Author.Tests.{eq-eqb, ne_eqb}
+use Rattle.graph.specs.Basic.{any}
 use lib.Dec.{eqb}
 use Prim.Native.Nat.{◌-◌, ◌≤◌}
-use mathlib.Core.Path.{◌≡◌, refl}
-use native.Mathlib.Omega.{arith}
-use borrow.Author.Rules.{rules}
+use mathlib.Core.Path.{◌≡◌}
 use Rattle.active_list.proofs.stands_in.Given as goal
 
 abbrev pub invariant-loop-i : goal.invariant-loop-i

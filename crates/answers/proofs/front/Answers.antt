@@ -10,14 +10,13 @@ pub loop-i-init : goal.loop-i-init
 loop-i-init c = (refl, search rules, search rules)
 
 pub loop-i-preserved : goal.loop-i-preserved
-loop-i-preserved c =
-    (
-      rw c.loop-i.invariant.0
-          (front-more c.args.numbers.now c.args.list.now c.loop-i.i (search rules)
-          (search rules)),
-      search rules,
-      search rules,
-    )
+loop-i-preserved c = (
+  rw c.loop-i.invariant.0
+      (front-more c.args.numbers.now c.args.list.now c.loop-i.i (search rules)
+      (search rules)),
+  search rules,
+  search rules,
+)
 
 pub returns : goal.returns
 returns c =

@@ -17,13 +17,12 @@ pub loop-i-init : goal.loop-i-init
 loop-i-init c = (omega arith, refl)
 
 pub in_blossom-requires : goal.in_blossom-requires
-in_blossom-requires c =
-    (
-      c.requires.0,
-      rw c.word-m.ensures.0
-          (all-nodes (state_of c.args.b.now) (map to_nat c.args.circle.now) c.requires.1 _
-          (circle-member c.args.circle.now c.loop-i.i c.loop-i-test.true)),
-    )
+in_blossom-requires c = (
+  c.requires.0,
+  rw c.word-m.ensures.0
+      (all-nodes (state_of c.args.b.now) (map to_nat c.args.circle.now) c.requires.1 _
+      (circle-member c.args.circle.now c.loop-i.i c.loop-i-test.true)),
+)
 
 pub returns-then-in_blossom : goal.returns-then-in_blossom
 returns-then-in_blossom c =

@@ -35,8 +35,7 @@ overflow_add-sum c =
 
 pub loop-i-preserved : goal.loop-i-preserved
 loop-i-preserved c =
-    let d = c.loop-i in
-    (
+    let d = c.loop-i in (
       omega (arith, c.loop-i-test.true),
       rw c.entries_of-sum.ensures.0
           (entries-more (state_of c.args.b.now) (map to_nat c.args.circle.now) d.i d.sum d.invariant.1

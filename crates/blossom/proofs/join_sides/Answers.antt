@@ -60,12 +60,11 @@ pub holder-requires : goal.holder-requires
 holder-requires c = (c.loop-i.invariant.joined.block.formed, c.boundary_side-s.ensures.1)
 
 pub set_holder-requires : goal.set_holder-requires
-set_holder-requires c =
-    (
-      c.loop-i.invariant.joined.block.formed,
-      c.boundary_side-s.ensures.1,
-      omega (arith, c.requires.3),
-    )
+set_holder-requires c = (
+  c.loop-i.invariant.joined.block.formed,
+  c.boundary_side-s.ensures.1,
+  omega (arith, c.requires.3),
+)
 
 pub put-requires : goal.put-requires
 put-requires c = let q = c.loop-i.invariant.joined in

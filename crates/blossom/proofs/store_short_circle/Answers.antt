@@ -10,17 +10,16 @@ use borrow.Author.Rules.{rules}
 use Rattle.blossom.proofs.store_short_circle.Goals as goal
 
 pub over_store-requires : goal.over_store-requires
-over_store-requires c =
-    (
-      c.requires.0,
-      omega (arith, store-max c.args.b.now c.requires.0.laid, c.entry_count-used.ensures.1),
-      omega (
-        arith,
-        circle-size (state_of c.args.b.now) (map to_nat c.args.circle.now) c.requires.1 c.requires.0.nodes-max
-            c.requires.2,
-        length-map c.args.circle.now to_nat,
-      ),
-    )
+over_store-requires c = (
+  c.requires.0,
+  omega (arith, store-max c.args.b.now c.requires.0.laid, c.entry_count-used.ensures.1),
+  omega (
+    arith,
+    circle-size (state_of c.args.b.now) (map to_nat c.args.circle.now) c.requires.1 c.requires.0.nodes-max
+        c.requires.2,
+    length-map c.args.circle.now to_nat,
+  ),
+)
 
 pub returns : goal.returns
 returns c =

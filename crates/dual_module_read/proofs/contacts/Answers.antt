@@ -7,11 +7,10 @@ use borrow.Author.Rules.{rules}
 use Rattle.dual_module_read.proofs.contacts.Goals as goal
 
 pub returns-then-k-ne0 : goal.returns-then-k-ne0
-returns-then-k-ne0 c =
-    (
-      list-refused c.list_refusal-k.ensures c.if-k-ne0.true,
-      count_none c.list_refusal-k.ensures _ c.if-k-ne0.true,
-    )
+returns-then-k-ne0 c = (
+  list-refused c.list_refusal-k.ensures c.if-k-ne0.true,
+  count_none c.list_refusal-k.ensures _ c.if-k-ne0.true,
+)
 
 pub contacts-n-requires : goal.contacts-n-requires
 contacts-n-requires c =

@@ -14,8 +14,7 @@ copy_word-requires c = let l = c.loop-i in (omega (arith, l.invariant.2, c.requi
 
 pub loop-i-preserved : goal.loop-i-preserved
 loop-i-preserved c =
-    let l = c.loop-i in
-    (
+    let l = c.loop-i in (
       c.copy_word.ensures
           ∙ rw l.invariant.0 (copied_more c.args.s.now c.args.d.now l.i (omega arith) c.requires),
       omega arith,

@@ -16,9 +16,8 @@ set_weights-requires c =
     (c.requires.0, a.edges, a.weights)
 
 pub returns : goal.returns
-returns c =
-    (
-      load-done c.args.pairs.now c.requires.0 c.requires.1 (omega arith) c.set_weights.ensures
-          c.set_reweighted.ensures,
-      λ k. absurd (omega arith),
-    )
+returns c = (
+  load-done c.args.pairs.now c.requires.0 c.requires.1 (omega arith) c.set_weights.ensures
+      c.set_reweighted.ensures,
+  λ k. absurd (omega arith),
+)

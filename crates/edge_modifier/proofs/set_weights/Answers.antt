@@ -9,8 +9,7 @@ loop-i-init c = set-none c.args.pairs.now c.requires.0
 
 pub set_weight-requires : goal.set_weight-requires
 set_weight-requires c =
-    let q = c.loop-i.invariant in
-    (
+    let q = c.loop-i.invariant in (
       q.block.formed,
       rw c.given.ensures.0 (pair-edge q c.requires.1 (omega arith)),
       rw c.given-in-loop-i.ensures.0 (pair-weight q c.requires.2 (omega arith)),

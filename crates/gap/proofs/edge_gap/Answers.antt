@@ -1,6 +1,5 @@
 use borrow.Author.Tests.{lt-ltb, le-ltb}
 use Rattle.gap.specs.Gap.{edge_gap}
-use borrow.Author.Rules.{rules}
 use Rattle.gap.proofs.edge_gap.Goals as goal
 
 pub returns-then-is_inner : goal.returns-then-is_inner

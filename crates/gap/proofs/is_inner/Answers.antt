@@ -1,5 +1,4 @@
 use Rattle.gap.specs.Gap.{is_inner}
-use borrow.Author.Rules.{rules}
 use Rattle.gap.proofs.is_inner.Goals as goal
 
 pub returns : goal.returns

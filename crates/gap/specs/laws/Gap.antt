@@ -1,8 +1,8 @@
 -- What each answer says of a side of the edge.
-use Rattle.std.specs.Prelude.{ℕ, ◌+◌, ◌-◌, ◌*◌, ◌/◌, ◌≤◌, ◌<◌, ◌≡◌, refl, true, false, List, ℤ, ltb}
+use Rattle.std.specs.Prelude.{ℕ, ◌+◌, ◌-◌, ◌*◌, ◌/◌, ◌≤◌, ◌<◌, ◌≡◌, true, false, List, ℤ, ltb}
 use Rattle.std.proofs.Common.{arith, ltb-true, ltb-false}
 use Rattle.std.proofs.Math.Path.{ap}
-use Rattle.graph.specs.State.{State, side_count, edge_of, opposite, growth_at, weight_at, grown_over, weight_over}
+use Rattle.graph.specs.State.{State, side_count, edge_of, weight_at, grown_over, weight_over}
 use Rattle.graph.specs.Open.{weight_limit}
 use Rattle.graph.specs.Layout.{state_of, state_from}
 use Rattle.graph.specs.Form.{Formed}

@@ -1,5 +1,5 @@
 -- Laws on the tests over lists: `all`, `any`, `member`, `distinct`, `only`, `below`, and that a list of distinct numbers below m has at most m of them.
-use Rattle.std.specs.Prelude.{ℕ, zero, suc, ◌+◌, ◌-◌, ◌≤◌, ◌<◌, ◌≡◌, ◌≢◌, Bool, false, ◌&&◌, ◌||◌, not, eqb, ltb, get_or, drop}
+use Rattle.std.specs.Prelude.{ℕ, zero, suc, ◌+◌, ◌≤◌, ◌<◌, ◌≡◌, ◌≢◌, Bool, false, ◌&&◌, ◌||◌, not, eqb, ltb, get_or, drop}
 use Rattle.std.proofs.Common.{add-one, sym, ap, ◌∙◌, length-append, drop_of_length-le, eqb-true, eq-eqb, ne_eqb, ltb-true, lt-ltb}
 use native.Mathlib.Omega.{arith}
 use Rattle.std.proofs.Math.Decide.{ℕ_discrete as dec_eq}

@@ -1,5 +1,5 @@
 -- The law of a read and of a write: a number that is set inside row k changes row k alone. Every reader and writer of a field rests on it.
-use Prim.Native.Nat.{ℕ, zero, suc, ◌+◌, ◌-◌, ◌*◌, ◌%◌, ◌≤◌, ◌<◌}
+use Prim.Native.Nat.{ℕ, zero, suc, ◌+◌, ◌*◌, ◌%◌, ◌≤◌, ◌<◌}
 use native.Mathlib.Omega.{arith}
 use Rattle.std.specs.Prelude.{◌≡◌, ◌≢◌, ℤ, pos, length, set, get_or, drop}
 use Rattle.std.proofs.Math.Path.{refl}

@@ -5,8 +5,7 @@ use Rattle.growth.proofs.grow_apply.Goals as goal
 
 pub move_sides-requires : goal.move_sides-requires
 move_sides-requires c =
-    let p = c.move_node.ensures in
-    (
+    let p = c.move_node.ensures in (
       p.formed,
       rw p.nodes c.requires.1,
       rw p.state (sides-after (state_of c.args.b.now) c.args.n c.args.d c.args.l c.requires.2.each),

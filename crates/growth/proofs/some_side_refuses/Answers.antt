@@ -17,16 +17,15 @@ pub loop-i-init : goal.loop-i-init
 loop-i-init c = (omega arith, refl)
 
 pub side_refuses-requires : goal.side_refuses-requires
-side_refuses-requires c =
-    (
-      c.requires.0,
-      c.requires.1,
-      c.requires.2,
-      c.requires.3,
-      rw c.word-s.ensures.0
-          (word_below (side_count (state_of c.args.b.now)) c.args.boundary.now c.loop-i.i c.requires.4
-          c.loop-i-test.true),
-    )
+side_refuses-requires c = (
+  c.requires.0,
+  c.requires.1,
+  c.requires.2,
+  c.requires.3,
+  rw c.word-s.ensures.0
+      (word_below (side_count (state_of c.args.b.now)) c.args.boundary.now c.loop-i.i c.requires.4
+      c.loop-i-test.true),
+)
 
 pub returns-then-side_refuses : goal.returns-then-side_refuses
 returns-then-side_refuses c =

@@ -1,7 +1,6 @@
 -- A block while it is opened: the rows that it has.
 use Rattle.std.specs.Prelude.{ℕ, ◌*◌, ◌≡◌, List, ◌∷◌, map, ℤ, length, drop}
 use Rattle.graph.specs.State.{vertex_count, edge_count, side_count}
-use Rattle.graph.specs.Rows.{rows}
 use Rattle.graph.specs.Layout.{sizes, block_length, rows_of, state_of}
 use Rattle.graph.specs.Form.{Laid}
 use Rattle.graph.specs.Opening.{zeros}

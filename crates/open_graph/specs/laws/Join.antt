@@ -1,5 +1,5 @@
 -- Rows and the list that they make, one behind another.
-use Prim.Native.Nat.{ℕ, zero, suc, ◌+◌, ◌-◌, ◌<◌}
+use Prim.Native.Nat.{ℕ, zero, suc, ◌+◌, ◌<◌}
 use Rattle.std.proofs.Common.{arith, ap, ◌∙◌, length-append, length-drop, take-append-drop, take_at, drop_at}
 use Rattle.std.specs.Prelude.{◌≡◌, Bool, true, ℤ, pos, negsuc, ltb, length, drop}
 use Rattle.std.proofs.Math.Path.{refl}

@@ -1,9 +1,9 @@
 -- A pass that calls for another has taken a free vertex, or released a held one: the number of free vertices tells.
-use Rattle.std.specs.Prelude.{ℕ, zero, suc, ◌+◌, ◌-◌, ◌≤◌, ◌<◌, ◌≡◌, refl, ◌≢◌, Bool, true, false, ◌&&◌, List, [], ◌∷◌, eqb, length, get_or, set}
+use Rattle.std.specs.Prelude.{ℕ, zero, suc, ◌+◌, ◌≤◌, ◌<◌, ◌≡◌, refl, ◌≢◌, Bool, true, false, ◌&&◌, List, [], ◌∷◌, eqb, length, get_or, set}
 use Rattle.std.proofs.Common.{arith, eqb-true, eq-eqb, ne_eqb}
 use Rattle.std.proofs.Math.Path.{ap}
 use Rattle.std.proofs.lemmas.Bool.{eqb-false}
-use Rattle.graph.specs.Basic.{if◌then◌else◌, fold, member}
+use Rattle.graph.specs.Basic.{fold, member}
 use Rattle.graph.specs.State.{State, Vertices, opposite, end_at, growth_at, holder_at, grandson_at, sides_at, vertex_holder_at, defect_at, boundary_of, overgrown_of, with_vertices, with_sides, with_holder, with_grandson, with_vertex_holder, with_vertex_grandson, held_side, free_side, held_vertex, free_vertex}
 use Rattle.graph.specs.laws.State.{if-both, if-cases, fold-keeps}
 use Rattle.graph.specs.inner.Kept.{SameButHolders}

@@ -22,8 +22,8 @@ returns-then-ask-d c = let p = c.prepare_tested.ensures in
 
 pub returns : goal.returns
 returns c = let p = c.prepare_dual_node_growth-passes.ensures in (
-      p.0,
-      p.1,
-      p.2,
-      not-asked c.args.ask c.args.d (keeps_sound (state_of c.args.b.now) c.args.n) c.if-ask-d.false,
-    )
+  p.0,
+  p.1,
+  p.2,
+  not-asked c.args.ask c.args.d (keeps_sound (state_of c.args.b.now) c.args.n) c.if-ask-d.false,
+)

@@ -7,13 +7,12 @@ pub returns-then-k-ne0 : goal.returns-then-k-ne0
 returns-then-k-ne0 c = (removal-refused c.requires c.args.n _ c.remove_refusal-k.ensures c.if-k-ne0.true, refl)
 
 pub prepare_dual_node_growth-requires : goal.prepare_dual_node_growth-requires
-prepare_dual_node_growth-requires c =
-    (
-      removal-ready c.requires c.args.n _ c.remove_refusal-k.ensures
-          c.if-k-ne0.false,
-      removal-able c.requires c.args.n _ c.remove_refusal-k.ensures
-          c.if-k-ne0.false,
-    )
+prepare_dual_node_growth-requires c = (
+  removal-ready c.requires c.args.n _ c.remove_refusal-k.ensures
+      c.if-k-ne0.false,
+  removal-able c.requires c.args.n _ c.remove_refusal-k.ensures
+      c.if-k-ne0.false,
+)
 
 pub open_prepared-requires : goal.open_prepared-requires
 open_prepared-requires c =

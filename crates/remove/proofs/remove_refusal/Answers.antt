@@ -12,12 +12,11 @@ is_bare-requires c =
     (c.requires, removal-inside (state_of c.args.b.now) c.args.n c.node_refusal-k.ensures c.if-k-ne0.false)
 
 pub store_short-requires : goal.store_short-requires
-store_short-requires c =
-    (
-      c.requires,
-      removal-inside (state_of c.args.b.now) c.args.n c.node_refusal-k.ensures
-          c.if-k-ne0.false,
-    )
+store_short-requires c = (
+  c.requires,
+  removal-inside (state_of c.args.b.now) c.args.n c.node_refusal-k.ensures
+      c.if-k-ne0.false,
+)
 
 pub returns-then-store_short : goal.returns-then-store_short
 returns-then-store_short c =

@@ -2,7 +2,7 @@
 use Rattle.std.specs.Prelude.{ℕ, ◌+◌, ◌-◌, ◌≤◌, ◌<◌, ◌%◌, ◌≡◌, List, ◌++◌, map, ℤ, length, set, get_or, take, drop}
 use Rattle.graph.specs.State.{vertex_count, edge_count, side_count, node_count}
 use Rattle.graph.specs.Word.{numbers_at}
-use Rattle.graph.specs.Rows.{rows, flags_row, vertex_holder_row, vertex_grandson_row, growth_row, holder_row, grandson_row, start_row, boundary_length_row, overgrown_length_row, store_row}
+use Rattle.graph.specs.Rows.{flags_row, vertex_holder_row, vertex_grandson_row, growth_row, holder_row, grandson_row, start_row, boundary_length_row, overgrown_length_row, store_row}
 use Rattle.graph.specs.Layout.{rows_of, row, state_of}
 use Rattle.graph.specs.Form.{Laid}
 use Rattle.graph.specs.inner.Form.{Rowed}

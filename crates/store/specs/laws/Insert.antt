@@ -1,5 +1,5 @@
 -- One more node without lists: the block stays in form and holds the state with that node.
-use Prim.Native.Nat.{ℕ, zero, suc, ◌+◌, ◌-◌, ◌≤◌, ◌<◌}
+use Prim.Native.Nat.{ℕ, zero, suc, ◌+◌, ◌≤◌, ◌<◌}
 use native.Mathlib.Omega.{arith}
 use Rattle.std.proofs.Common.{add-one, ◌∙◌, length-append, get_or-set_same, get_or-set_other, take-suc-set, length-take-le}
 use Rattle.std.specs.Prelude.{◌≡◌, refl, ℤ, length, drop}

@@ -1,4 +1,3 @@
-use borrow.Author.Rules.{rules}
 use Rattle.block_rows.proofs.Signed.{read_same}
 use Rattle.block_rows.proofs.row_words.same.Goals as goal
 

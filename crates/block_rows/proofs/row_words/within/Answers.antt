@@ -1,4 +1,4 @@
-use borrow.Author.Rules.{rules, sfits_of}
+use borrow.Author.Rules.{sfits_of}
 use Rattle.block_rows.proofs.Signed.{read-amid}
 use Rattle.block_rows.proofs.row_words.within.Goals as goal
 

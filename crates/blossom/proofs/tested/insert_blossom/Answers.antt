@@ -48,24 +48,22 @@ zero c = blossom-wiped c.requires c.args.x _ (map to_nat c.args.circle.now) c.bl
     c.join_circle-joined.ensures.0 c.wipe.ensures
 
 pub returns-then-k-ne0 : goal.returns-then-k-ne0
-returns-then-k-ne0 c =
-    (
-      blossom-refused c.requires c.args.x _ (map to_nat c.args.circle.now) c.blossom_refusal-k.ensures
-          c.if-k-ne0.true,
-      refl,
-      asked-true c.args.ask
-          (blossom-refused-passes (state_of c.args.b.now) c.args.x (map to_nat c.args.circle.now) _
-          c.blossom_refusal-k.ensures c.if-k-ne0.true),
-    )
+returns-then-k-ne0 c = (
+  blossom-refused c.requires c.args.x _ (map to_nat c.args.circle.now) c.blossom_refusal-k.ensures
+      c.if-k-ne0.true,
+  refl,
+  asked-true c.args.ask
+      (blossom-refused-passes (state_of c.args.b.now) c.args.x (map to_nat c.args.circle.now) _
+      c.blossom_refusal-k.ensures c.if-k-ne0.true),
+)
 
 pub join_circle-joined-requires : goal.join_circle-joined-requires
-join_circle-joined-requires c =
-    (
-      c.requires.formed,
-      c.requires.scratch,
-      joinable c.before.before.before,
-      c.node_count-n.ensures.0,
-    )
+join_circle-joined-requires c = (
+  c.requires.formed,
+  c.requires.scratch,
+  joinable c.before.before.before,
+  c.node_count-n.ensures.0,
+)
 
 pub vertex_count-requires : goal.vertex_count-requires
 vertex_count-requires c = c.join_circle-joined.ensures.0.block.formed.laid

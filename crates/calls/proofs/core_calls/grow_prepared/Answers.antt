@@ -11,13 +11,12 @@ returns-then-k-ne0 c =
     c.if-k-ne0.true
 
 pub grow_apply-requires : goal.grow_apply-requires
-grow_apply-requires c =
-    (
-      c.requires.0,
-      c.requires.1.node,
-      growing-of (state_of c.args.b.now) c.args.n c.args.d c.args.l c.requires.1
-          (sym c.grow_check-k.ensures ∙ c.if-k-ne0.false),
-    )
+grow_apply-requires c = (
+  c.requires.0,
+  c.requires.1.node,
+  growing-of (state_of c.args.b.now) c.args.n c.args.d c.args.l c.requires.1
+      (sym c.grow_check-k.ensures ∙ c.if-k-ne0.false),
+)
 
 pub returns : goal.returns
 returns c =

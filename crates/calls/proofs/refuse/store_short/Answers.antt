@@ -23,12 +23,11 @@ pub overflow_sub-used : goal.overflow_sub-used
 overflow_sub-used c = some c
 
 pub over_store-requires : goal.over_store-requires
-over_store-requires c =
-    (
-      c.requires.0,
-      omega (arith, store-max c.args.b.now c.requires.0.laid, c.entry_count-used.ensures.1),
-      omega arith,
-    )
+over_store-requires c = (
+  c.requires.0,
+  omega (arith, store-max c.args.b.now c.requires.0.laid, c.entry_count-used.ensures.1),
+  omega arith,
+)
 
 pub returns : goal.returns
 returns c =

@@ -7,30 +7,27 @@ use borrow.Author.Rules.{rules}
 use Rattle.calls.proofs.tested.advance.Goals as goal
 
 pub returns-then-k-ne0 : goal.returns-then-k-ne0
-returns-then-k-ne0 c =
-    (
-      advance-refused c.args.b.now c.args.n _ c.node_refusal-k.ensures c.requires.formed c.if-k-ne0.true,
-      refl,
-      asked-true c.args.ask (advance-refused-passes (state_of c.args.b.now) c.args.n _ c.node_refusal-k.ensures c.if-k-ne0.true),
-    )
+returns-then-k-ne0 c = (
+  advance-refused c.args.b.now c.args.n _ c.node_refusal-k.ensures c.requires.formed c.if-k-ne0.true,
+  refl,
+  asked-true c.args.ask (advance-refused-passes (state_of c.args.b.now) c.args.n _ c.node_refusal-k.ensures c.if-k-ne0.true),
+)
 
 pub grow_state-x-requires : goal.grow_state-x-requires
-grow_state-x-requires c =
-    (
-      c.requires.formed,
-      (node-accepted _ c.args.n _ _ (sym c.node_refusal-k.ensures ∙ c.if-k-ne0.false)).inside,
-    )
+grow_state-x-requires c = (
+  c.requires.formed,
+  (node-accepted _ c.args.n _ _ (sym c.node_refusal-k.ensures ∙ c.if-k-ne0.false)).inside,
+)
 
 pub returns-then-x-eq-STAY : goal.returns-then-x-eq-STAY
-returns-then-x-eq-STAY c =
-    (
-      advance-stay c.args.b.now c.args.n _ c.node_refusal-k.ensures
-          c.if-k-ne0.false _ c.grow_state-x.ensures.0 c.requires.formed c.if-x-eq-STAY.true,
-      refl,
-      asked-true c.args.ask
-          (advance-stay-passes (state_of c.args.b.now) c.args.n _ c.node_refusal-k.ensures
-          c.if-k-ne0.false _ c.grow_state-x.ensures.0 c.if-x-eq-STAY.true),
-    )
+returns-then-x-eq-STAY c = (
+  advance-stay c.args.b.now c.args.n _ c.node_refusal-k.ensures
+      c.if-k-ne0.false _ c.grow_state-x.ensures.0 c.requires.formed c.if-x-eq-STAY.true,
+  refl,
+  asked-true c.args.ask
+      (advance-stay-passes (state_of c.args.b.now) c.args.n _ c.node_refusal-k.ensures
+      c.if-k-ne0.false _ c.grow_state-x.ensures.0 c.if-x-eq-STAY.true),
+)
 
 pub returns : goal.returns
 returns c =

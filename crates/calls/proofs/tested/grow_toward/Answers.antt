@@ -6,15 +6,14 @@ use borrow.Author.Rules.{rules}
 use Rattle.calls.proofs.tested.grow_toward.Goals as goal
 
 pub returns-then-k-ne0 : goal.returns-then-k-ne0
-returns-then-k-ne0 c =
-    (
-      toward-refused c.requires.0.formed c.args.n c.args.d c.args.l _ c.node_refusal-k.ensures
-          c.if-k-ne0.true,
-      refl,
-      asked-true c.args.ask
-          (toward-refused-passes (state_of c.args.b.now) c.args.n c.args.d _ c.node_refusal-k.ensures
-          c.if-k-ne0.true),
-    )
+returns-then-k-ne0 c = (
+  toward-refused c.requires.0.formed c.args.n c.args.d c.args.l _ c.node_refusal-k.ensures
+      c.if-k-ne0.true,
+  refl,
+  asked-true c.args.ask
+      (toward-refused-passes (state_of c.args.b.now) c.args.n c.args.d _ c.node_refusal-k.ensures
+      c.if-k-ne0.true),
+)
 
 pub prepare_asked-p-requires : goal.prepare_asked-p-requires
 prepare_asked-p-requires c =

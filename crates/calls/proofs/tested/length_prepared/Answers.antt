@@ -7,15 +7,14 @@ use borrow.Author.Rules.{rules}
 use Rattle.calls.proofs.tested.length_prepared.Goals as goal
 
 pub returns-then-k-ne0 : goal.returns-then-k-ne0
-returns-then-k-ne0 c =
-    (
-      length-refused c.requires.formed c.args.n c.args.d _ true c.node_refusal-k.ensures c.if-k-ne0.true,
-      refl,
-      usable-steady c.requires c.args.n c.args.d,
-      asked-true c.args.ask
-          (length-refused-passes (state_of c.args.b.now) c.args.n c.args.d _ c.node_refusal-k.ensures
-          c.if-k-ne0.true),
-    )
+returns-then-k-ne0 c = (
+  length-refused c.requires.formed c.args.n c.args.d _ true c.node_refusal-k.ensures c.if-k-ne0.true,
+  refl,
+  usable-steady c.requires c.args.n c.args.d,
+  asked-true c.args.ask
+      (length-refused-passes (state_of c.args.b.now) c.args.n c.args.d _ c.node_refusal-k.ensures
+      c.if-k-ne0.true),
+)
 
 pub prepare_asked-p-requires : goal.prepare_asked-p-requires
 prepare_asked-p-requires c =

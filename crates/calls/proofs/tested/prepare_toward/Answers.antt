@@ -6,14 +6,13 @@ use borrow.Author.Rules.{rules}
 use Rattle.calls.proofs.tested.prepare_toward.Goals as goal
 
 pub returns-then-k-ne0 : goal.returns-then-k-ne0
-returns-then-k-ne0 c =
-    (
-      prepare-refused c.requires.formed c.args.n c.args.d _ c.node_refusal-k.ensures c.if-k-ne0.true,
-      refl,
-      asked-true c.args.ask
-          (prepare-refused-passes (state_of c.args.b.now) c.args.n c.args.d _ c.node_refusal-k.ensures
-          c.if-k-ne0.true),
-    )
+returns-then-k-ne0 c = (
+  prepare-refused c.requires.formed c.args.n c.args.d _ c.node_refusal-k.ensures c.if-k-ne0.true,
+  refl,
+  asked-true c.args.ask
+      (prepare-refused-passes (state_of c.args.b.now) c.args.n c.args.d _ c.node_refusal-k.ensures
+      c.if-k-ne0.true),
+)
 
 pub prepare_asked-p-requires : goal.prepare_asked-p-requires
 prepare_asked-p-requires c =

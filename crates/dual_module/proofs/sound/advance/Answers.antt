@@ -38,11 +38,10 @@ returns-then-moves c =
     c.clear_unless.ensures p.1 p.2 p.0
 
 pub advance_none-requires : goal.advance_none-requires
-advance_none-requires c =
-    (
-      (memory-accepted c.args.b.now c.args.t.now c.requires.0).formed,
-      eqb-true _ 0 (not-false _ (sym c.moves.ensures ∙ c.if-moves.false)),
-    )
+advance_none-requires c = (
+  (memory-accepted c.args.b.now c.args.t.now c.requires.0).formed,
+  eqb-true _ 0 (not-false _ (sym c.moves.ensures ∙ c.if-moves.false)),
+)
 
 pub returns : goal.returns
 returns c =

@@ -1,5 +1,4 @@
 use Rattle.graph.specs.laws.Field.{mark-put}
-use borrow.Author.Rules.{rules}
 use Rattle.graph.proofs.edge.set_reweighted.Goals as goal
 
 pub returns : goal.returns

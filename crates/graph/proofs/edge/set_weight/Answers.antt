@@ -1,5 +1,4 @@
 use Rattle.graph.specs.laws.Field.{weight-put}
-use borrow.Author.Rules.{rules}
 use Rattle.graph.proofs.edge.set_weight.Goals as goal
 
 pub returns : goal.returns

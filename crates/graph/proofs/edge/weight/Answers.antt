@@ -1,7 +1,6 @@
 use mathlib.Core.Path.{refl}
 use Rattle.graph.specs.Layout.{state_of, state_from}
 use Rattle.graph.specs.laws.Field.{weight-below}
-use borrow.Author.Rules.{rules}
 use Rattle.graph.proofs.edge.weight.Goals as goal
 
 pub returns : goal.returns

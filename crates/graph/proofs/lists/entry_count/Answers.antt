@@ -4,7 +4,6 @@ use Rattle.graph.specs.Layout.{state_of}
 use native.Mathlib.Omega.{arith}
 use Rattle.graph.specs.laws.List.{lists_of}
 use Rattle.graph.specs.laws.Used.{entries_none, entries-last, entries-within}
-use borrow.Author.Rules.{rules}
 use Rattle.graph.proofs.lists.entry_count.Goals as goal
 
 pub returns-then-c-eq0 : goal.returns-then-c-eq0

@@ -2,7 +2,6 @@ use native.Mathlib.Omega.{arith}
 use mathlib.Core.Path.{ap}
 use Rattle.graph.specs.State.{Overgrown}
 use Rattle.graph.specs.Layout.{overgrown_from}
-use borrow.Author.Rules.{rules}
 use Rattle.graph.proofs.lists.overgrown_vertex.Goals as goal
 
 pub returns : goal.returns

@@ -1,7 +1,6 @@
 use native.Mathlib.Omega.{arith}
 use Rattle.graph.specs.Form.{Laid}
 use Rattle.graph.specs.laws.Field.{dual-put}
-use borrow.Author.Rules.{rules}
 use Rattle.graph.proofs.node.set_dual.Goals as goal
 
 pub put_node-requires : goal.put_node-requires

@@ -2,7 +2,6 @@ use Rattle.graph.specs.laws.Class.{class-removed}
 use Rattle.graph.specs.laws.Field.{class-put}
 use native.Mathlib.Omega.{arith}
 use Rattle.graph.specs.Form.{Laid}
-use borrow.Author.Rules.{rules}
 use Rattle.graph.proofs.node.set_removed.Goals as goal
 
 pub put_node-requires : goal.put_node-requires

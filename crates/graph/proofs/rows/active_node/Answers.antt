@@ -10,10 +10,9 @@ unfolding Laid
 active_place-requires c = (c.requires.0, omega (arith, c.requires.0.counted.actives))
 
 pub returns : goal.returns
-returns c =
-    (
-      c.word.ensures.0
-          ∙ active-entry c.args.b.now c.args.i c.active_place.result c.requires.1
-          c.active_place.ensures.stands,
-      search rules,
-    )
+returns c = (
+  c.word.ensures.0
+      ∙ active-entry c.args.b.now c.args.i c.active_place.result c.requires.1
+      c.active_place.ensures.stands,
+  search rules,
+)

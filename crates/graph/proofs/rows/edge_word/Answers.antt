@@ -4,9 +4,8 @@ use borrow.Author.Rules.{rules}
 use Rattle.graph.proofs.rows.edge_word.Goals as goal
 
 pub returns : goal.returns
-returns c =
-    (
-      c.word.ensures.0
-          ∙ rows_get c.args.b.now 10 c.args.i c.edge_place.result c.edge_place.ensures.stands,
-      search rules,
-    )
+returns c = (
+  c.word.ensures.0
+      ∙ rows_get c.args.b.now 10 c.args.i c.edge_place.result c.edge_place.ensures.stands,
+  search rules,
+)

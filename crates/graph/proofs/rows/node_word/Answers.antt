@@ -5,10 +5,9 @@ use borrow.Author.Rules.{rules}
 use Rattle.graph.proofs.rows.node_word.Goals as goal
 
 pub returns : goal.returns
-returns c =
-    (
-      c.word.ensures.0
-          ∙ rows_get c.args.b.now (11 + c.args.k) c.args.n c.node_place.result
-          c.node_place.ensures.stands,
-      search rules,
-    )
+returns c = (
+  c.word.ensures.0
+      ∙ rows_get c.args.b.now (11 + c.args.k) c.args.n c.node_place.result
+      c.node_place.ensures.stands,
+  search rules,
+)

@@ -1,5 +1,4 @@
 use Rattle.graph.specs.laws.Row.{rowed-put}
-use borrow.Author.Rules.{rules}
 use Rattle.graph.proofs.rows.put_active.Goals as goal
 
 pub returns : goal.returns

@@ -1,6 +1,5 @@
 use Prim.Native.Nat.{◌+◌}
 use Rattle.graph.specs.laws.Row.{rowed-put}
-use borrow.Author.Rules.{rules}
 use Rattle.graph.proofs.rows.put_side.Goals as goal
 
 pub returns : goal.returns

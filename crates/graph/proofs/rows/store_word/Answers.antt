@@ -4,9 +4,8 @@ use borrow.Author.Rules.{rules}
 use Rattle.graph.proofs.rows.store_word.Goals as goal
 
 pub returns : goal.returns
-returns c =
-    (
-      c.word.ensures.0
-          ∙ rows_get c.args.b.now 18 c.args.i c.store_place.result c.store_place.ensures.stands,
-      search rules,
-    )
+returns c = (
+  c.word.ensures.0
+      ∙ rows_get c.args.b.now 18 c.args.i c.store_place.result c.store_place.ensures.stands,
+  search rules,
+)

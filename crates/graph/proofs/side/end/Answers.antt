@@ -1,7 +1,6 @@
 use Rattle.graph.specs.Layout.{state_of, state_from}
 use Rattle.graph.specs.laws.Field.{end_below}
 use mathlib.Core.Path.{refl}
-use borrow.Author.Rules.{rules}
 use Rattle.graph.proofs.side.end.Goals as goal
 
 pub returns : goal.returns

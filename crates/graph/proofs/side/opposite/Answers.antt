@@ -1,7 +1,6 @@
 use native.Mathlib.Omega.{arith}
 use mathlib.Core.Path.{sym}
 use Rattle.graph.specs.laws.State.{opposite-even, opposite-odd}
-use borrow.Author.Rules.{rules}
 use Rattle.graph.proofs.side.opposite.Goals as goal
 
 pub returns-then-s-eq0 : goal.returns-then-s-eq0

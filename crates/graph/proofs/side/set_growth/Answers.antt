@@ -1,5 +1,4 @@
 use Rattle.graph.specs.laws.Field.{growth-put}
-use borrow.Author.Rules.{rules}
 use Rattle.graph.proofs.side.set_growth.Goals as goal
 
 pub returns : goal.returns

@@ -1,5 +1,4 @@
 use Rattle.graph.specs.laws.SidesAt.{rising-of}
-use borrow.Author.Rules.{rules}
 use Rattle.graph.proofs.sides.sides_len.Goals as goal
 
 pub stretch_len-requires : goal.stretch_len-requires

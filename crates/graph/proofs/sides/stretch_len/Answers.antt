@@ -1,6 +1,5 @@
 use native.Mathlib.Omega.{arith}
 use Rattle.graph.specs.laws.SidesAt.{around-of, laid-sides}
-use borrow.Author.Rules.{rules}
 use Rattle.graph.proofs.sides.stretch_len.Goals as goal
 
 pub overflow_sub-result : goal.overflow_sub-result

@@ -1,6 +1,5 @@
 use native.Mathlib.Omega.{arith}
 use Rattle.graph.specs.laws.Size.{sizes-in}
-use borrow.Author.Rules.{rules}
 use Rattle.graph.proofs.sizes.block_length.Goals as goal
 
 pub overflow_mul-result : goal.overflow_mul-result

@@ -3,7 +3,6 @@ use mathlib.Core.Bool.{true, false}
 use borrow.Author.Tests.{lt-leb, le-leb}
 use Rattle.graph.specs.Open.{sizes_ok}
 use Rattle.graph.specs.Layout.{v_of, e_of, n_of, l_of, sized}
-use borrow.Author.Rules.{rules}
 use Rattle.graph.proofs.sizes.sized.Goals as goal
 
 pub returns-then-b-lt16 : goal.returns-then-b-lt16

@@ -1,7 +1,6 @@
 use native.Mathlib.Omega.{arith}
 use mathlib.Core.Path.{sym, ◌∙◌}
 use Rattle.graph.specs.laws.Top.{amount-none, amount-some}
-use borrow.Author.Rules.{rules}
 use Rattle.graph.proofs.top.amount.Goals as goal
 
 pub returns-then-overgrown_len-eq0 : goal.returns-then-overgrown_len-eq0

@@ -2,7 +2,6 @@ use Prim.Native.Nat.{◌+◌, ◌-◌}
 use native.Mathlib.Omega.{arith}
 use Rattle.graph.specs.laws.List.{lists_of}
 use Rattle.graph.specs.laws.Top.{top-put}
-use borrow.Author.Rules.{rules}
 use Rattle.graph.proofs.top.set_amount.Goals as goal
 
 pub store_word-w-requires : goal.store_word-w-requires

@@ -1,6 +1,5 @@
 use native.Mathlib.Omega.{arith}
 use Rattle.graph.specs.laws.Field.{defect-read}
-use borrow.Author.Rules.{rules}
 use Rattle.graph.proofs.vertex.defect_flag.Goals as goal
 
 pub returns : goal.returns

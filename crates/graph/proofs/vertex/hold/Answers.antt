@@ -1,6 +1,5 @@
 use Rattle.graph.specs.State.{held_vertex}
 use Rattle.graph.specs.laws.Row.{becomes-then}
-use borrow.Author.Rules.{rules}
 use Rattle.graph.proofs.vertex.hold.Goals as goal
 
 pub returns : goal.returns

@@ -1,5 +1,4 @@
 use Rattle.graph.specs.laws.Field.{defect-put}
-use borrow.Author.Rules.{rules}
 use Rattle.graph.proofs.vertex.set_defect.Goals as goal
 
 pub returns : goal.returns

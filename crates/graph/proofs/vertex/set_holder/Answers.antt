@@ -1,5 +1,4 @@
 use Rattle.graph.specs.laws.Field.{vertex-holder-put}
-use borrow.Author.Rules.{rules}
 use Rattle.graph.proofs.vertex.set_holder.Goals as goal
 
 pub returns : goal.returns

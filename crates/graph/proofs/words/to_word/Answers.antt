@@ -1,6 +1,5 @@
 use mir.Syntax.{w64}
 use mir.Facts.{to_z_pos}
-use borrow.Author.Rules.{rules}
 use Rattle.graph.proofs.words.to_word.Goals as goal
 
 pub returns : goal.returns

@@ -6,7 +6,7 @@ use Rattle.graph.specs.Layout.{state_of}
 use Rattle.graph.specs.State.{vertex_count}
 use Rattle.graph.specs.Basic.{all_below}
 use lib.Dec.{eqb}
-use Prim.Native.Nat.{suc, ◌-◌, ◌+◌, ◌<◌, ◌≤◌}
+use Prim.Native.Nat.{suc, ◌-◌, ◌+◌, ◌<◌}
 use mathlib.Core.Bool.{true, false}
 use mathlib.Core.Path.{◌≡◌, sym, ◌∙◌}
 use native.Mathlib.Omega.{arith}

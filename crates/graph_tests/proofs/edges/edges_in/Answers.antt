@@ -1,4 +1,3 @@
-use Rattle.graph_tests.specs.inner.Walk.{Walking}
 use Rattle.graph_tests.specs.laws.Walk.{walking-none}
 use Rattle.graph.specs.laws.Scan.{and-false, all_more, all-fails}
 use Rattle.graph.specs.Sound.{edge_sound}
@@ -7,9 +6,7 @@ use Rattle.graph.specs.Layout.{state_of}
 use Rattle.graph.specs.State.{edge_count, side_count}
 use Rattle.graph.specs.Basic.{all_below}
 use lib.Dec.{T}
-use lib.ListN.{length}
-use Prim.Native.Nat.{◌-◌, ◌*◌, ◌≤◌}
-use mathlib.Core.Bool.{true}
+use Prim.Native.Nat.{◌*◌}
 use mathlib.Core.Path.{◌≡◌, refl, sym, ◌∙◌, subst}
 use native.Mathlib.Omega.{arith}
 use borrow.Author.Rules.{rules}
@@ -21,25 +18,25 @@ loop-i-init c = (omega arith, refl, walking-none _ _ c.requires.5, refl)
 
 pub walk_edge-requires : goal.walk_edge-requires
 walk_edge-requires c = let p = c.requires in (
-      p.0,
-      p.1,
-      search rules,
-      sym c.edge_sound.ensures ∙ c.if-edge_sound.true,
-      p.2.ends,
-      p.3,
-      omega (arith, p.4, c.loop-i.invariant.3),
-      c.loop-i.invariant.2,
-    )
+  p.0,
+  p.1,
+  search rules,
+  sym c.edge_sound.ensures ∙ c.if-edge_sound.true,
+  p.2.ends,
+  p.3,
+  omega (arith, p.4, c.loop-i.invariant.3),
+  c.loop-i.invariant.2,
+)
 
 pub loop-i-preserved : goal.loop-i-preserved
 loop-i-preserved c = let w = c.walk_edge in (
-      search rules,
-      all_more _ _ c.loop-i.invariant.1
-          (sym c.edge_sound.ensures
-          ∙ c.if-edge_sound.true),
-      w.ensures.0 c.if-walk_edge.true,
-      search rules,
-    )
+  search rules,
+  all_more _ _ c.loop-i.invariant.1
+      (sym c.edge_sound.ensures
+      ∙ c.if-edge_sound.true),
+  w.ensures.0 c.if-walk_edge.true,
+  search rules,
+)
 
 pub returns-else-walk_edge : goal.returns-else-walk_edge
 returns-else-walk_edge c = let x = state_of c.args.b.now in

@@ -1,18 +1,11 @@
 use Rattle.graph_tests.specs.inner.Walk.{Walking}
-use Rattle.graph_tests.specs.laws.Walk.{walking-none}
-use Rattle.graph.specs.laws.Scan.{and-false, all_more, all-fails}
 use Rattle.graph.specs.Sound.{edge_sound}
-use Rattle.graph.specs.Form.{Laid}
 use Rattle.graph.specs.Layout.{state_of}
-use Rattle.graph.specs.State.{edge_count, side_count}
 use Rattle.graph.specs.Basic.{all_below}
-use lib.Dec.{T}
 use lib.ListN.{length}
 use Prim.Native.Nat.{◌-◌, ◌*◌, ◌≤◌}
 use mathlib.Core.Bool.{true}
-use mathlib.Core.Path.{◌≡◌, refl, sym, ◌∙◌, subst}
-use native.Mathlib.Omega.{arith}
-use borrow.Author.Rules.{rules}
+use mathlib.Core.Path.{◌≡◌}
 use Rattle.graph_tests.proofs.edges.edges_in.Given as goal
 
 abbrev pub invariant-loop-i : goal.invariant-loop-i

@@ -4,7 +4,6 @@ use Rattle.graph.specs.State.{side_count}
 use Rattle.graph.specs.Layout.{state_of}
 use native.Mathlib.Omega.{arith}
 use Rattle.graph.specs.laws.SidesAt.{laid-sides}
-use borrow.Author.Rules.{rules}
 use Rattle.graph_tests.proofs.edges.placed_at.Goals as goal
 
 pub holds-requires : goal.holds-requires

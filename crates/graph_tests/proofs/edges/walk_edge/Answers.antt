@@ -28,15 +28,15 @@ overflow_add-i c = search rules
 pub walk_side-requires-then-walk_side : goal.walk_side-requires-then-walk_side
 unfolding Laid
 walk_side-requires-then-walk_side c = let f = edge-facts (state_of c.args.b.now) c.args.i c.requires.3 in (
-      c.requires.0,
-      c.requires.1,
-      omega arith,
-      f.right,
-      c.requires.4,
-      c.requires.5,
-      search rules,
-      c.walk_side.ensures.0 c.if-walk_side.true,
-    )
+  c.requires.0,
+  c.requires.1,
+  omega arith,
+  f.right,
+  c.requires.4,
+  c.requires.5,
+  search rules,
+  c.walk_side.ensures.0 c.if-walk_side.true,
+)
 
 pub returns-then-walk_side : goal.returns-then-walk_side
 returns-then-walk_side c = let w = c.walk_side-then-walk_side in

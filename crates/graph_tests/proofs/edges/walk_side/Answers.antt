@@ -11,7 +11,6 @@ use Prim.Native.Nat.{◌+◌}
 use mathlib.Core.Bool.{true, false}
 use mathlib.Core.Path.{◌≡◌, sym, ap, ◌∙◌, subst}
 use native.Mathlib.Omega.{arith}
-use borrow.Author.Rules.{rules}
 use Rattle.graph.specs.Rows.{at_row}
 use Rattle.graph_tests.proofs.edges.walk_side.Goals as goal
 

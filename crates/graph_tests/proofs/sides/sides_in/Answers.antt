@@ -3,8 +3,7 @@ use Rattle.graph.specs.Sound.{side_sound}
 use Rattle.graph.specs.Layout.{state_of}
 use Rattle.graph.specs.State.{side_count}
 use Rattle.graph.specs.Basic.{all_below}
-use Prim.Native.Nat.{◌-◌, ◌≤◌}
-use mathlib.Core.Bool.{true, false}
+use mathlib.Core.Bool.{false}
 use mathlib.Core.Path.{◌≡◌, sym}
 use native.Mathlib.Omega.{arith}
 use borrow.Author.Rules.{rules}

@@ -1,13 +1,9 @@
-use Rattle.graph.specs.laws.Scan.{all_more, all-fails}
 use Rattle.graph.specs.Sound.{side_sound}
 use Rattle.graph.specs.Layout.{state_of}
-use Rattle.graph.specs.State.{side_count}
 use Rattle.graph.specs.Basic.{all_below}
 use Prim.Native.Nat.{◌-◌, ◌≤◌}
-use mathlib.Core.Bool.{true, false}
-use mathlib.Core.Path.{◌≡◌, sym}
-use native.Mathlib.Omega.{arith}
-use borrow.Author.Rules.{rules}
+use mathlib.Core.Bool.{true}
+use mathlib.Core.Path.{◌≡◌}
 use Rattle.graph_tests.proofs.sides.sides_in.Given as goal
 
 abbrev pub invariant-loop-s : goal.invariant-loop-s

@@ -5,7 +5,6 @@ use Rattle.graph.specs.Layout.{rows_of, row, state_of, state_from}
 use Rattle.graph.specs.inner.Scans.{vertex_numbers}
 use Rattle.graph.specs.Word.{word_at}
 use Rattle.graph_tests.specs.laws.Range.{two-flags}
-use borrow.Author.Rules.{rules}
 use Rattle.graph.specs.Rows.{flags_row}
 use Rattle.graph_tests.proofs.vertices.vertex_numbers.Goals as goal
 

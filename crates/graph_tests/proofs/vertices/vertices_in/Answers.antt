@@ -3,13 +3,12 @@ use Rattle.graph.specs.inner.SidesAt.{first_word}
 use Rattle.graph.specs.Layout.{state_of}
 use Rattle.graph.specs.State.{vertex_count, side_count}
 use lib.Dec.{leb}
-use lib.ListN.{length, length-set}
-use Prim.Native.Nat.{◌-◌, ◌<◌, ◌≤◌}
+use lib.ListN.{length-set}
+use Prim.Native.Nat.{◌<◌}
 use mathlib.Core.Bool.{true, false, ◌&&◌}
 use mathlib.Core.Path.{◌≡◌, refl, sym, ◌∙◌, subst}
 use lib.Dec.{T}
 use native.Mathlib.Omega.{arith}
-use borrow.Author.Rules.{rules}
 use Rattle.graph_tests.proofs.vertices.vertices_in.Goals as goal
 
 pub loop-v-init : goal.loop-v-init
@@ -17,10 +16,10 @@ loop-v-init c = (omega arith, begun-none _ _, refl)
 
 pub between-requires : goal.between-requires
 between-requires c = (
-      omega (arith, c.requires.2.size, c.loop-v-test.true, c.vertex_count-n.ensures),
-      omega (arith, c.loop-v.invariant.1.low),
-      omega (arith, c.side_count-m.ensures),
-    )
+  omega (arith, c.requires.2.size, c.loop-v-test.true, c.vertex_count-n.ensures),
+  omega (arith, c.loop-v.invariant.1.low),
+  omega (arith, c.side_count-m.ensures),
+)
 
 pub number-a-requires : goal.number-a-requires
 number-a-requires c = let b = c.args.b.now in

@@ -1,6 +1,5 @@
 use mathlib.Core.Path.{sym, ◌∙◌}
 use Rattle.grow_pass.specs.laws.Grow.{ready-sides, pass-room, pass-after, pass-idle}
-use borrow.Author.Rules.{rules}
 use Rattle.grow_pass.proofs.grow.grow_pass.Goals as goal
 
 pub reaches_any-requires : goal.reaches_any-requires

@@ -1,5 +1,5 @@
 use native.Mathlib.Omega.{arith}
-use Prim.Native.Nat.{ℕ, ◌+◌, ◌-◌, ◌≤◌}
+use Prim.Native.Nat.{ℕ}
 use mathlib.Core.Path.{ap, ◌∙◌}
 use mathlib.Core.List.{List}
 use lib.ListN.{get_or}
@@ -7,20 +7,17 @@ use Rattle.graph.specs.State.{boundary_of}
 use Rattle.graph.specs.Layout.{state_of}
 use Rattle.pass.specs.inner.Once.{grow_step_once}
 use Rattle.graph.specs.laws.State.{kept-boundary}
-use Rattle.grow_pass.specs.inner.Growing.{NotesFit}
-use Rattle.grow_pass.specs.laws.Growing.{Looped, loop-none, loop-more, loop-all}
-use Rattle.grow_pass.specs.laws.Grow.{nothing, start-working, scan-length, scan-sides, scan-all, start_fits, step_count, step_fits, keeping-grow-step}
-use borrow.Author.Rules.{rules}
+use Rattle.grow_pass.specs.laws.Growing.{loop-none, loop-more, loop-all}
+use Rattle.grow_pass.specs.laws.Grow.{start-working, scan-length, scan-sides, scan-all, start_fits, step_count, step_fits, keeping-grow-step}
 use Rattle.grow_pass.proofs.grow.grow_scan.Goals as goal
 
 pub loop-i-init : goal.loop-i-init
-loop-i-init c =
-    (
-      loop-none (grow_step_once c.args.n) (boundary_of (state_of c.args.b.now) c.args.n)
-          (start-working c.requires.0 c.requires.1 c.requires.2 c.requires.3),
-      omega arith,
-      start_fits c.requires.0,
-    )
+loop-i-init c = (
+  loop-none (grow_step_once c.args.n) (boundary_of (state_of c.args.b.now) c.args.n)
+      (start-working c.requires.0 c.requires.1 c.requires.2 c.requires.3),
+  omega arith,
+  start_fits c.requires.0,
+)
 
 pub boundary_side-s-requires : goal.boundary_side-s-requires
 boundary_side-s-requires c = let q = c.loop-i.invariant.0 in

@@ -1,16 +1,10 @@
-use native.Mathlib.Omega.{arith}
-use Prim.Native.Nat.{ℕ, ◌+◌, ◌-◌, ◌≤◌}
-use mathlib.Core.Path.{ap, ◌∙◌}
-use mathlib.Core.List.{List}
-use lib.ListN.{get_or}
+use Prim.Native.Nat.{◌+◌, ◌-◌, ◌≤◌}
 use Rattle.graph.specs.State.{boundary_of}
 use Rattle.graph.specs.Layout.{state_of}
 use Rattle.pass.specs.inner.Once.{grow_step_once}
-use Rattle.graph.specs.laws.State.{kept-boundary}
 use Rattle.grow_pass.specs.inner.Growing.{NotesFit}
-use Rattle.grow_pass.specs.laws.Growing.{Looped, loop-none, loop-more, loop-all}
-use Rattle.grow_pass.specs.laws.Grow.{nothing, start-working, scan-length, scan-sides, scan-all, start_fits, step_count, step_fits, keeping-grow-step}
-use borrow.Author.Rules.{rules}
+use Rattle.grow_pass.specs.laws.Growing.{Looped}
+use Rattle.grow_pass.specs.laws.Grow.{nothing}
 use Rattle.grow_pass.proofs.grow.grow_scan.Given as goal
 
 abbrev pub invariant-loop-i : goal.invariant-loop-i

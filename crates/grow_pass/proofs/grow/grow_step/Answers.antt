@@ -1,7 +1,6 @@
 use native.Mathlib.Omega.{arith}
 use mathlib.Core.Path.{sym, ◌∙◌}
 use Rattle.grow_pass.specs.laws.Grow.{far-worked, far-fits, step-note, step-keep}
-use borrow.Author.Rules.{rules}
 use Rattle.grow_pass.proofs.grow.grow_step.Goals as goal
 
 pub note_far-requires : goal.note_far-requires

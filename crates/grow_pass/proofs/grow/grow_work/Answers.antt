@@ -1,5 +1,4 @@
 use Rattle.grow_pass.specs.laws.Grow.{ready-sides, ready-length, scanned-kept, scanned-sides, scanned-pushed, pass-worked}
-use borrow.Author.Rules.{rules}
 use Rattle.grow_pass.proofs.grow.grow_work.Goals as goal
 
 pub grow_scan-p-requires : goal.grow_scan-p-requires

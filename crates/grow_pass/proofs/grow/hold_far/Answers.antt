@@ -1,4 +1,3 @@
-use borrow.Author.Rules.{rules}
 use Rattle.grow_pass.proofs.grow.hold_far.Goals as goal
 
 pub returns : goal.returns

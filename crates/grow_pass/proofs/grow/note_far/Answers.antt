@@ -1,7 +1,6 @@
 use native.Mathlib.Omega.{arith}
 use mathlib.Core.Path.{sym, ◌∙◌}
 use Rattle.grow_pass.specs.laws.Grow.{far-room, far-note, far-held}
-use borrow.Author.Rules.{rules}
 use Rattle.grow_pass.proofs.grow.note_far.Goals as goal
 
 pub put-requires : goal.put-requires

@@ -1,5 +1,4 @@
 use borrow.Author.Tests.{eq-eqb, ne_eqb}
-use borrow.Author.Rules.{rules}
 use mathlib.Core.Path.{◌≡◌}
 use Rattle.graph.specs.State.{opposite, holder_at, grown_over, weight_over}
 use Rattle.graph.specs.Layout.{state_of}

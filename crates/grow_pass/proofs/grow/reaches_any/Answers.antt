@@ -1,13 +1,9 @@
 use native.Mathlib.Omega.{arith}
-use Prim.Native.Nat.{◌-◌, ◌≤◌}
-use mathlib.Core.Path.{◌≡◌, refl, sym, ◌∙◌}
-use lib.ListN.{drop}
-use Rattle.graph.specs.Basic.{any}
+use mathlib.Core.Path.{refl, sym, ◌∙◌}
 use Rattle.graph.specs.State.{boundary_of}
 use Rattle.graph.specs.Layout.{state_of}
 use Rattle.pass.specs.Grow.{reaches}
 use Rattle.graph.specs.laws.Members.{any_here, any-on, any-end}
-use borrow.Author.Rules.{rules}
 use Rattle.grow_pass.proofs.grow.reaches_any.Goals as goal
 
 pub loop-i-init : goal.loop-i-init

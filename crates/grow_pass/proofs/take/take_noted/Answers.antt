@@ -1,10 +1,9 @@
 use native.Mathlib.Omega.{arith}
-use Prim.Native.Nat.{◌-◌, ◌*◌}
+use Prim.Native.Nat.{◌*◌}
 use Rattle.graph.specs.Word.{numbers_at}
 use Rattle.pass.specs.inner.Once.{take_once}
-use Rattle.grow_pass.specs.laws.Growing.{Looped, loop-none, loop-more, loop-all, noted-length}
-use Rattle.grow_pass.specs.laws.Take.{Noting, noting-none, noting-side, noting-more, noted-below, keeping-take-once}
-use borrow.Author.Rules.{rules}
+use Rattle.grow_pass.specs.laws.Growing.{loop-none, loop-more, loop-all, noted-length}
+use Rattle.grow_pass.specs.laws.Take.{noting-none, noting-side, noting-more, noted-below, keeping-take-once}
 use Rattle.grow_pass.proofs.take.take_noted.Goals as goal
 
 pub loop-i-init : goal.loop-i-init

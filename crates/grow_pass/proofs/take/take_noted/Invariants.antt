@@ -1,10 +1,8 @@
-use native.Mathlib.Omega.{arith}
 use Prim.Native.Nat.{◌-◌, ◌*◌}
 use Rattle.graph.specs.Word.{numbers_at}
 use Rattle.pass.specs.inner.Once.{take_once}
-use Rattle.grow_pass.specs.laws.Growing.{Looped, loop-none, loop-more, loop-all, noted-length}
-use Rattle.grow_pass.specs.laws.Take.{Noting, noting-none, noting-side, noting-more, noted-below, keeping-take-once}
-use borrow.Author.Rules.{rules}
+use Rattle.grow_pass.specs.laws.Growing.{Looped}
+use Rattle.grow_pass.specs.laws.Take.{Noting}
 use Rattle.grow_pass.proofs.take.take_noted.Given as goal
 
 abbrev pub invariant-loop-i : goal.invariant-loop-i

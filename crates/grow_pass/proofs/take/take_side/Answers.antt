@@ -1,7 +1,6 @@
 use mathlib.Core.Path.{ap, sym, ◌∙◌}
 use lib.Dec.{eqb}
 use Rattle.grow_pass.specs.laws.Take.{take-free, take-held}
-use borrow.Author.Rules.{rules}
 use Rattle.grow_pass.proofs.take.take_side.Goals as goal
 
 pub returns-then-holder-eq0 : goal.returns-then-holder-eq0

@@ -1,24 +1,21 @@
-use Prim.Native.Nat.{ℕ, ◌-◌}
+use Prim.Native.Nat.{ℕ}
 use mathlib.Core.List.{List}
 use lib.ListN.{get_or}
 use Rattle.graph.specs.laws.State.{kept-sides}
-use borrow.Author.Rules.{rules}
 use native.Mathlib.Omega.{arith}
 use mathlib.Core.Path.{ap, ◌∙◌}
 use Rattle.graph.specs.State.{sides_at}
 use Rattle.graph.specs.Layout.{state_of}
 use Rattle.pass.specs.Grow.{take_side}
-use Rattle.grow_pass.specs.inner.Growing.{OwnKept}
-use Rattle.grow_pass.specs.laws.Growing.{Looped, loop-none, loop-more, loop-all}
+use Rattle.grow_pass.specs.laws.Growing.{loop-none, loop-more, loop-all}
 use Rattle.grow_pass.specs.laws.Take.{keeping-take-side, own-taken}
 use Rattle.grow_pass.proofs.take.take_sides.Goals as goal
 
 pub loop-i-init : goal.loop-i-init
-loop-i-init c =
-    (
-      loop-none (take_side c.args.n c.args.g) (sides_at (state_of c.args.b.now) c.args.v) c.requires.0,
-      c.requires.1,
-    )
+loop-i-init c = (
+  loop-none (take_side c.args.n c.args.g) (sides_at (state_of c.args.b.now) c.args.v) c.requires.0,
+  c.requires.1,
+)
 
 pub vertex_side-s-requires : goal.vertex_side-s-requires
 vertex_side-s-requires c = let q = c.loop-i.invariant.0 in

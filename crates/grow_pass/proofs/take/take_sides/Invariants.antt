@@ -1,16 +1,9 @@
-use Prim.Native.Nat.{ℕ, ◌-◌}
-use mathlib.Core.List.{List}
-use lib.ListN.{get_or}
-use Rattle.graph.specs.laws.State.{kept-sides}
-use borrow.Author.Rules.{rules}
-use native.Mathlib.Omega.{arith}
-use mathlib.Core.Path.{ap, ◌∙◌}
+use Prim.Native.Nat.{◌-◌}
 use Rattle.graph.specs.State.{sides_at}
 use Rattle.graph.specs.Layout.{state_of}
 use Rattle.pass.specs.Grow.{take_side}
 use Rattle.grow_pass.specs.inner.Growing.{OwnKept}
-use Rattle.grow_pass.specs.laws.Growing.{Looped, loop-none, loop-more, loop-all}
-use Rattle.grow_pass.specs.laws.Take.{keeping-take-side, own-taken}
+use Rattle.grow_pass.specs.laws.Growing.{Looped}
 use Rattle.grow_pass.proofs.take.take_sides.Given as goal
 
 abbrev pub invariant-loop-i : goal.invariant-loop-i

@@ -1,5 +1,4 @@
 use Rattle.grow_pass.specs.laws.Take.{step-taken}
-use borrow.Author.Rules.{rules}
 use Rattle.grow_pass.proofs.take.take_step.Goals as goal
 
 pub returns : goal.returns

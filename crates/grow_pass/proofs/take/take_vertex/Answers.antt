@@ -1,6 +1,5 @@
 use native.Mathlib.Omega.{arith}
 use Rattle.grow_pass.specs.laws.Take.{held-working, held-own, sided-pushed, vertex-push, vertex-keep}
-use borrow.Author.Rules.{rules}
 use Rattle.grow_pass.proofs.take.take_vertex.Goals as goal
 
 pub take_sides-q-requires : goal.take_sides-q-requires

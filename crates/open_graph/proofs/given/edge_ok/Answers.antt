@@ -1,6 +1,5 @@
 use Rattle.graph.specs.Open.{edge_ok}
 use Rattle.graph.specs.Opening.{edge_at}
-use borrow.Author.Rules.{rules}
 use Rattle.open_graph.proofs.given.edge_ok.Goals as goal
 
 pub returns : goal.returns

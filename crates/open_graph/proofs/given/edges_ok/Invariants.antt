@@ -1,10 +1,7 @@
-use borrow.Author.Rules.{rules}
 use Prim.Native.Nat.{◌≤◌, ◌-◌}
-use mathlib.Core.Path.{refl, sym, ◌∙◌}
-use native.Mathlib.Omega.{arith}
 use Rattle.graph.specs.Open.{edge_ok}
 use Rattle.graph.specs.Opening.{edges_from}
-use Rattle.open_graph.specs.laws.Open.{Rest, rest_all, edges_more, edges-fails, edges-count}
+use Rattle.open_graph.specs.laws.Open.{Rest}
 use Rattle.open_graph.proofs.given.edges_ok.Given as goal
 
 abbrev pub invariant-loop-i : goal.invariant-loop-i

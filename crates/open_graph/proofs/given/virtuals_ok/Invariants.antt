@@ -1,11 +1,8 @@
-use borrow.Author.Rules.{rules}
 use Prim.Native.Nat.{◌-◌}
-use mathlib.Core.Path.{refl}
-use native.Mathlib.Omega.{arith}
 use lib.Dec.{ltb}
 use lib.ListN.{length}
 use Rattle.graph.specs.Opening.{virtuals_from}
-use Rattle.open_graph.specs.laws.Open.{Rest, rest_all, virtuals-more, virtuals-fails, virtuals-count}
+use Rattle.open_graph.specs.laws.Open.{Rest}
 use Rattle.open_graph.proofs.given.virtuals_ok.Given as goal
 
 abbrev pub invariant-loop-i : goal.invariant-loop-i

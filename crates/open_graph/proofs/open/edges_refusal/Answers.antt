@@ -1,6 +1,5 @@
 use mathlib.Core.Path.{sym, ◌∙◌}
 use Rattle.open_graph.specs.inner.Refusals.{refusal_of_edges}
-use borrow.Author.Rules.{rules}
 use Rattle.open_graph.proofs.open.edges_refusal.Goals as goal
 
 pub returns-then-edges_ok : goal.returns-then-edges_ok

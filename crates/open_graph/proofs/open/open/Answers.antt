@@ -1,7 +1,6 @@
 use mathlib.Core.Path.{sym, ◌∙◌}
 use Rattle.graph.specs.Opening.{edges_from, virtuals_from, fits}
 use Rattle.open_graph.specs.laws.OpenedBlock.{open-accepted, opened-block, refused-block}
-use borrow.Author.Rules.{rules}
 use Rattle.open_graph.proofs.open.open.Goals as goal
 
 pub write-requires : goal.write-requires

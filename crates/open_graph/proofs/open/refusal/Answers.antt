@@ -4,7 +4,6 @@ use lib.Dec.{eqb}
 use Rattle.graph.specs.Open.{sizes_ok}
 use Rattle.graph.specs.Opening.{edges_in}
 use Rattle.open_graph.specs.laws.Open.{first-passed, first-refusal}
-use borrow.Author.Rules.{rules}
 use Rattle.open_graph.proofs.open.refusal.Goals as goal
 
 pub lengths_refusal-requires : goal.lengths_refusal-requires

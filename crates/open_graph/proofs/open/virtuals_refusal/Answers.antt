@@ -1,6 +1,5 @@
 use mathlib.Core.Path.{sym, ◌∙◌}
 use Rattle.open_graph.specs.inner.Refusals.{refusal_of_virtuals}
-use borrow.Author.Rules.{rules}
 use Rattle.open_graph.proofs.open.virtuals_refusal.Goals as goal
 
 pub returns-then-virtuals_ok : goal.returns-then-virtuals_ok

@@ -1,10 +1,7 @@
-use mathlib.Core.Path.{◌≡◌, refl, ◌∙◌}
-use borrow.Author.Rules.{rules}
-use native.Mathlib.Omega.{arith}
+use mathlib.Core.Path.{◌≡◌}
 use Prim.Native.Nat.{◌-◌, ◌≤◌}
 use lib.ListN.{length}
 use Rattle.pass.specs.inner.Scratch.{wiped}
-use Rattle.pass.proofs.laws.Scratch.{wipe-none, wipe-more}
 use Rattle.pass.proofs.scratch.wipe.Given as goal
 
 abbrev pub invariant-loop-i : goal.invariant-loop-i

@@ -12,16 +12,15 @@ returns-then-s c =
     (sym c.complete.ensures ∙ c.if-complete.true) c.if-s.true
 
 pub open_into-requires : goal.open_into-requires
-open_into-requires c =
-    (
-      c.requires.0,
-      c.requires.1,
-      c.requires.2,
-      c.requires.3,
-      sym c.large_sizes.ensures
-          ∙ c.if-large_sizes.false,
-      sym c.complete.ensures ∙ c.if-complete.true,
-    )
+open_into-requires c = (
+  c.requires.0,
+  c.requires.1,
+  c.requires.2,
+  c.requires.3,
+  sym c.large_sizes.ensures
+      ∙ c.if-large_sizes.false,
+  sym c.complete.ensures ∙ c.if-complete.true,
+)
 
 pub returns-then-complete : goal.returns-then-complete
 returns-then-complete c =

@@ -20,15 +20,14 @@ contact_line-out-requires c =
     (c.loop-e.invariant.1.room, c.requires.1, c.requires.2, omega (arith, c.edge_count-n.ensures.0))
 
 pub loop-e-preserved : goal.loop-e-preserved
-loop-e-preserved c =
-    (
-      search rules,
-      telling-more c.loop-e.invariant.1
-          (contacts-more c.args.k (state_of c.args.b.now) c.loop-e.e
-          (omega (arith, c.edge_count-n.ensures.0)))
-          c.contact_line-out.ensures,
-      search rules,
-    )
+loop-e-preserved c = (
+  search rules,
+  telling-more c.loop-e.invariant.1
+      (contacts-more c.args.k (state_of c.args.b.now) c.loop-e.e
+      (omega (arith, c.edge_count-n.ensures.0)))
+      c.contact_line-out.ensures,
+  search rules,
+)
 
 pub returns : goal.returns
 returns c =

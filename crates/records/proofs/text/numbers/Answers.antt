@@ -19,13 +19,12 @@ number-m-requires c =
     omega (arith, c.loop-i.invariant.0.place)
 
 pub loop-i-preserved : goal.loop-i-preserved
-loop-i-preserved c =
-    (
-      numbers_more c.args.ns.now c.loop-i.i (search rules) c.loop-i.invariant.0
-          c.number-m.ensures,
-      search rules,
-      search rules,
-    )
+loop-i-preserved c = (
+  numbers_more c.args.ns.now c.loop-i.i (search rules) c.loop-i.invariant.0
+      c.number-m.ensures,
+  search rules,
+  search rules,
+)
 
 pub returns : goal.returns
 returns c = written_as c.loop-i.invariant.0 (ap spaced (take_all c.loop-i.i c.args.ns.now (search rules)))

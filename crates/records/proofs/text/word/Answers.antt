@@ -11,14 +11,13 @@ pub loop-i-init : goal.loop-i-init
 loop-i-init c = (written_none _ _, search rules, search rules, search rules)
 
 pub loop-i-preserved : goal.loop-i-preserved
-loop-i-preserved c =
-    (
-      written-more c.args.w.now c.loop-i.i (search rules) c.loop-i.invariant.0
-          c.byte-m.ensures,
-      search rules,
-      search rules,
-      search rules,
-    )
+loop-i-preserved c = (
+  written-more c.args.w.now c.loop-i.i (search rules) c.loop-i.invariant.0
+      c.byte-m.ensures,
+  search rules,
+  search rules,
+  search rules,
+)
 
 pub returns : goal.returns
 returns c = written_as c.loop-i.invariant.0 (take_all c.loop-i.i c.args.w.now (search rules))

@@ -9,8 +9,7 @@ loop-i-init c = set-none c.args.n c.args.x c.requires.0
 
 pub boundary_side-s-requires : goal.boundary_side-s-requires
 boundary_side-s-requires c =
-    let q = c.loop-i.invariant in
-    (
+    let q = c.loop-i.invariant in (
       q.block.formed.laid,
       q.block.formed.listed,
       omega (arith, q.block.nodes, c.requires.2),

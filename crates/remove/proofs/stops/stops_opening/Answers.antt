@@ -13,23 +13,21 @@ returns-then-overgrown_len-ne0 c =
     (λ e. c.if-overgrown_len-ne0.true (c.overgrown_len.ensures.0 ∙ e))
 
 pub mark_held-requires : goal.mark_held-requires
-mark_held-requires c =
-    (
-      c.requires.0,
-      c.requires.1,
-      c.requires.2,
-      c.requires.0.sides-max,
-      carry-none 8192 (boundary_of (state_of c.args.b.now) c.args.n),
-    )
+mark_held-requires c = (
+  c.requires.0,
+  c.requires.1,
+  c.requires.2,
+  c.requires.0.sides-max,
+  carry-none 8192 (boundary_of (state_of c.args.b.now) c.args.n),
+)
 
 pub members_free-requires : goal.members_free-requires
-members_free-requires c =
-    (
-      c.requires.0,
-      c.requires.1,
-      omega (arith, c.requires.2, c.requires.0.nodes-max),
-      omega (arith, c.mark_held.auto.own, c.requires.0.sides-max),
-    )
+members_free-requires c = (
+  c.requires.0,
+  c.requires.1,
+  omega (arith, c.requires.2, c.requires.0.nodes-max),
+  omega (arith, c.mark_held.auto.own, c.requires.0.sides-max),
+)
 
 pub returns-then-mark_held : goal.returns-then-mark_held
 returns-then-mark_held c =

@@ -24,8 +24,7 @@ returns-then-s-ne0 c =
 
 pub ask-requires : goal.ask-requires
 ask-requires c =
-    let p = c.in_turn-r.ensures in
-    (
+    let p = c.in_turn-r.ensures in (
       prepared-askable _ _ _ c.requires.0 (prepared-to _ _ _ p.0).block
           (prepared-ok _ _ _ p.0 c.if-r-ne0.false),
       c.requires.1 ∙ ap (λ n. 5 * n) (sym (same-limit _ _ _ p.0)),

@@ -7,16 +7,15 @@ use borrow.Author.Rules.{rules}
 use Rattle.round.proofs.group.list_group.Goals as goal
 
 pub list_stops-j-requires : goal.list_stops-j-requires
-list_stops-j-requires c =
-    (
-      c.requires.0,
-      c.list_conflicts-k.auto.list ∙ c.requires.1,
-      omega (
-        arith,
-        c.list_conflicts-k.ensures.count,
-        list-room c.args.b.now c.requires.0.formed.laid,
-      ),
-    )
+list_stops-j-requires c = (
+  c.requires.0,
+  c.list_conflicts-k.auto.list ∙ c.requires.1,
+  omega (
+    arith,
+    c.list_conflicts-k.ensures.count,
+    list-room c.args.b.now c.requires.0.formed.laid,
+  ),
+)
 
 pub returns : goal.returns
 returns c =

@@ -8,13 +8,12 @@ pub grow_state-requires : goal.grow_state-requires
 grow_state-requires c = (c.requires.0.formed, active-below (state_of c.args.b.now) c.requires.0.active c.args.n c.requires.1)
 
 pub scan-requires : goal.scan-requires
-scan-requires c =
-    (
-      c.requires.0.formed,
-      c.requires.0.readable,
-      active-below (state_of c.args.b.now) c.requires.0.active c.args.n c.requires.1,
-      c.requires.0.sides c.args.n c.requires.1,
-    )
+scan-requires c = (
+  c.requires.0.formed,
+  c.requires.0.readable,
+  active-below (state_of c.args.b.now) c.requires.0.active c.args.n c.requires.1,
+  c.requires.0.sides c.args.n c.requires.1,
+)
 
 pub returns : goal.returns
 unfolding answer_of

@@ -7,15 +7,14 @@ use borrow.Author.Rules.{rules}
 use Rattle.round_trial.proofs.trial.call_at.Goals as goal
 
 pub grow_state-requires : goal.grow_state-requires
-grow_state-requires c =
-    (
-      c.requires.0.formed,
-      omega (
-        arith,
-        c.active_node-n.ensures.0,
-        entry-node (state_of c.args.b.now) c.args.i c.requires.0.active c.requires.1,
-      ),
-    )
+grow_state-requires c = (
+  c.requires.0.formed,
+  omega (
+    arith,
+    c.active_node-n.ensures.0,
+    entry-node (state_of c.args.b.now) c.args.i c.requires.0.active c.requires.1,
+  ),
+)
 
 pub call_node-requires : goal.call_node-requires
 call_node-requires c =
@@ -34,10 +33,9 @@ returns-then-grow_state-x c =
     )
 
 pub returns : goal.returns
-returns c =
-    (
-      turn-passed c.args.l c.args.x c.args.i c.active_node-n.result
-          c.active_node-n.ensures.0 c.requires.0.formed
-          (λ e. c.if-grow_state-x.false (c.grow_state.ensures.0 ∙ e)),
-      refl,
-    )
+returns c = (
+  turn-passed c.args.l c.args.x c.args.i c.active_node-n.result
+      c.active_node-n.ensures.0 c.requires.0.formed
+      (λ e. c.if-grow_state-x.false (c.grow_state.ensures.0 ∙ e)),
+  refl,
+)

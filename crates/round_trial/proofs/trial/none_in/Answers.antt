@@ -15,15 +15,14 @@ unfolding active_in
 loop-i-init c = refl
 
 pub grow_state-requires : goal.grow_state-requires
-grow_state-requires c =
-    (
-      c.requires.0,
-      omega (
-        arith,
-        c.active_node-n.ensures.0,
-        entry-node (state_of c.args.b.now) c.loop-i.i c.requires.1 (omega arith),
-      ),
-    )
+grow_state-requires c = (
+  c.requires.0,
+  omega (
+    arith,
+    c.active_node-n.ensures.0,
+    entry-node (state_of c.args.b.now) c.loop-i.i c.requires.1 (omega arith),
+  ),
+)
 
 pub returns-then-grow_state-x : goal.returns-then-grow_state-x
 returns-then-grow_state-x c =

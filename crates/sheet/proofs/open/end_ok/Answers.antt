@@ -1,6 +1,5 @@
 use Rattle.graph.specs.Opening.{edge_at}
 use Rattle.sheet.specs.Called.{ends_ok}
-use borrow.Author.Rules.{rules}
 use Rattle.sheet.proofs.open.end_ok.Goals as goal
 
 pub returns : goal.returns

@@ -1,14 +1,10 @@
 use Prim.Native.Nat.{◌-◌, ◌≤◌}
-use native.Mathlib.Omega.{arith}
-use mathlib.Core.Path.{◌≡◌, refl, sym, ◌∙◌}
+use mathlib.Core.Path.{◌≡◌}
 use mathlib.Core.Bool.{true}
 use lib.ListN.{take}
 use Rattle.graph.specs.Basic.{all}
-use Rattle.graph.specs.Opening.{edge_at, edges_from}
-use Rattle.graph.specs.laws.Scan.{list-more, list-fails, list_done}
-use Rattle.open_graph.specs.laws.Open.{edges-count, edges-get}
+use Rattle.graph.specs.Opening.{edges_from}
 use Rattle.sheet.specs.Called.{ends_ok}
-use borrow.Author.Rules.{rules}
 use Rattle.sheet.proofs.open.ends_ok.Given as goal
 
 abbrev pub invariant-loop-i : goal.invariant-loop-i

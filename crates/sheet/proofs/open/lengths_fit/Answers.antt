@@ -1,7 +1,6 @@
 use native.Mathlib.Omega.{arith}
 use Rattle.graph.specs.Opening.{fits}
 use Rattle.graph.specs.laws.Size.{sizes-in}
-use borrow.Author.Rules.{rules}
 use Rattle.sheet.proofs.open.lengths_fit.Goals as goal
 
 pub scratch_length-requires : goal.scratch_length-requires

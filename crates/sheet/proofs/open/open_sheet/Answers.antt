@@ -3,7 +3,6 @@ use native.Mathlib.Omega.{arith}
 use Rattle.graph.specs.Opening.{fits}
 use Rattle.sheet.specs.Called.{sheet_refusal}
 use Rattle.sheet.specs.laws.Called.{sheet-accepted, refused-done, opened-done}
-use borrow.Author.Rules.{rules}
 use Rattle.sheet.proofs.open.open_sheet.Goals.{Else-k-ne0}
 use Rattle.sheet.proofs.open.open_sheet.Goals as goal
 

@@ -4,14 +4,12 @@ use mathlib.Core.Path.{◌≡◌, sym, ◌∙◌}
 use mathlib.Core.Bool.{true, false, ◌&&◌}
 use lib.Dec.{ltb, eqb}
 use lib.ListN.{length}
-use borrow.Author.Tests.{not-true, not-false}
 use Rattle.graph.specs.Basic.{all}
 use Rattle.graph.specs.Open.{sizes_ok}
 use Rattle.graph.specs.Opening.{edges_in, edges_from, virtuals_from, fits}
 use Rattle.graph.specs.laws.Size.{sizes-in}
 use Rattle.open_graph.specs.laws.Open.{first-passed}
 use Rattle.sheet.specs.Called.{ends_ok, sheet_refusal}
-use borrow.Author.Rules.{rules}
 use Rattle.sheet.proofs.open.refusal.Goals.{Else-not-sizes_ok-edges_in}
 use Rattle.sheet.proofs.open.refusal.Goals.{Else-not-lengths_fit}
 use Rattle.sheet.proofs.open.refusal.Goals.{Else-not-virtuals_ok}

@@ -1,15 +1,12 @@
-use Prim.Native.Nat.{◌-◌, ◌≤◌, ◌<◌}
+use Prim.Native.Nat.{◌≤◌, ◌<◌}
 use native.Mathlib.Omega.{arith}
-use mathlib.Core.Path.{◌≡◌, refl, sym}
-use mathlib.Core.Bool.{true}
-use lib.ListN.{length, take}
+use mathlib.Core.Path.{refl, sym}
 use borrow.Author.Tests.{le-leb, lt-leb}
 use Rattle.graph.specs.Basic.{all}
 use Rattle.graph.specs.Word.{word_at}
 use Rattle.graph.specs.laws.Scan.{list-more, list-fails, list_done}
 use Rattle.sheet.specs.Sheet.{values_from, in_range}
 use Rattle.sheet.specs.laws.Sheet.{values-count, values-get}
-use borrow.Author.Rules.{rules}
 use Rattle.sheet.proofs.values.all_in_range.Goals as goal
 
 pub loop-i-init : goal.loop-i-init

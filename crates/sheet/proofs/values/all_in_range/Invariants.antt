@@ -1,15 +1,9 @@
-use Prim.Native.Nat.{◌-◌, ◌≤◌, ◌<◌}
-use native.Mathlib.Omega.{arith}
-use mathlib.Core.Path.{◌≡◌, refl, sym}
+use Prim.Native.Nat.{◌-◌}
+use mathlib.Core.Path.{◌≡◌}
 use mathlib.Core.Bool.{true}
 use lib.ListN.{length, take}
-use borrow.Author.Tests.{le-leb, lt-leb}
 use Rattle.graph.specs.Basic.{all}
-use Rattle.graph.specs.Word.{word_at}
-use Rattle.graph.specs.laws.Scan.{list-more, list-fails, list_done}
 use Rattle.sheet.specs.Sheet.{values_from, in_range}
-use Rattle.sheet.specs.laws.Sheet.{values-count, values-get}
-use borrow.Author.Rules.{rules}
 use Rattle.sheet.proofs.values.all_in_range.Given as goal
 
 abbrev pub invariant-loop-i : goal.invariant-loop-i

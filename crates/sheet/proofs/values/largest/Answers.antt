@@ -1,8 +1,6 @@
-use Prim.Native.Nat.{◌-◌, ◌≤◌, max}
+use Prim.Native.Nat.{max}
 use native.Mathlib.Omega.{arith}
-use mathlib.Core.Path.{◌≡◌, refl, sym, ◌∙◌}
-use lib.ListN.{length, drop}
-use Rattle.graph.specs.Basic.{fold}
+use mathlib.Core.Path.{refl, sym, ◌∙◌}
 use Rattle.graph.specs.laws.State.{fold-rest, fold-rest-end}
 use Rattle.sheet.specs.Sheet.{values_from, largest}
 use Rattle.sheet.specs.laws.Sheet.{values-count, values-get}

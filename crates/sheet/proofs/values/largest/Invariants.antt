@@ -1,12 +1,8 @@
 use Prim.Native.Nat.{◌-◌, ◌≤◌, max}
-use native.Mathlib.Omega.{arith}
-use mathlib.Core.Path.{◌≡◌, refl, sym, ◌∙◌}
+use mathlib.Core.Path.{◌≡◌}
 use lib.ListN.{length, drop}
 use Rattle.graph.specs.Basic.{fold}
-use Rattle.graph.specs.laws.State.{fold-rest, fold-rest-end}
 use Rattle.sheet.specs.Sheet.{values_from, largest}
-use Rattle.sheet.specs.laws.Sheet.{values-count, values-get}
-use borrow.Author.Rules.{rules}
 use Rattle.sheet.proofs.values.largest.Given as goal
 
 abbrev pub invariant-loop-i : goal.invariant-loop-i

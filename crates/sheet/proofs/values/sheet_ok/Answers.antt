@@ -1,5 +1,4 @@
 use Rattle.sheet.specs.Sheet.{sheet_ok}
-use borrow.Author.Rules.{rules}
 use Rattle.sheet.proofs.values.sheet_ok.Goals as goal
 
 pub returns : goal.returns

@@ -1,7 +1,6 @@
 use mathlib.Core.Path.{refl}
 use Rattle.sheet.specs.Weight.{half_weight}
 use Rattle.sheet.specs.laws.Weight.{half_at_most}
-use borrow.Author.Rules.{rules}
 use Rattle.sheet.proofs.weights.half_weight.Goals as goal
 
 pub returns : goal.returns

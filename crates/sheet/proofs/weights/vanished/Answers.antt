@@ -1,10 +1,8 @@
-use Prim.Native.Nat.{◌-◌, ◌≤◌}
 use native.Mathlib.Omega.{arith}
 use mathlib.Core.Path.{sym, ◌∙◌}
-use lib.ListN.{length}
-use Rattle.sheet.specs.Sheet.{values_from, vanishes, vanished}
+use Rattle.sheet.specs.Sheet.{values_from, vanished}
 use Rattle.sheet.specs.laws.Sheet.{values-count, values-get, value-within}
-use Rattle.sheet.specs.laws.Count.{Counting, counting-none, counting-all, counted, passed_over}
+use Rattle.sheet.specs.laws.Count.{counting-none, counting-all, counted, passed_over}
 use borrow.Author.Rules.{rules}
 use Rattle.sheet.proofs.weights.vanished.Goals as goal
 

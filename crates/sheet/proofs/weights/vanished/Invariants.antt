@@ -1,11 +1,7 @@
 use Prim.Native.Nat.{◌-◌, ◌≤◌}
-use native.Mathlib.Omega.{arith}
-use mathlib.Core.Path.{sym, ◌∙◌}
 use lib.ListN.{length}
-use Rattle.sheet.specs.Sheet.{values_from, vanishes, vanished}
-use Rattle.sheet.specs.laws.Sheet.{values-count, values-get, value-within}
-use Rattle.sheet.specs.laws.Count.{Counting, counting-none, counting-all, counted, passed_over}
-use borrow.Author.Rules.{rules}
+use Rattle.sheet.specs.Sheet.{values_from, vanishes}
+use Rattle.sheet.specs.laws.Count.{Counting}
 use Rattle.sheet.proofs.weights.vanished.Given as goal
 
 abbrev pub invariant-loop-i : goal.invariant-loop-i

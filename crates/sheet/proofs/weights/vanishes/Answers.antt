@@ -2,7 +2,6 @@ use mathlib.Core.Path.{ap}
 use mathlib.Core.Bool.{◌&&◌}
 use lib.Dec.{ltb, eqb}
 use Rattle.sheet.specs.Sheet.{vanishes}
-use borrow.Author.Rules.{rules}
 use Rattle.sheet.proofs.weights.vanishes.Goals as goal
 
 pub returns : goal.returns

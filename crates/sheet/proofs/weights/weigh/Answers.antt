@@ -1,10 +1,8 @@
-use Prim.Native.Nat.{◌-◌, ◌≤◌}
 use native.Mathlib.Omega.{arith}
-use mathlib.Core.Path.{◌≡◌, refl, ◌∙◌}
-use lib.ListN.{length}
+use mathlib.Core.Path.{refl, ◌∙◌}
 use Rattle.graph.specs.Basic.{fold, below}
 use Rattle.sheet.specs.Sheet.{values_from}
-use Rattle.sheet.specs.laws.Sheet.{values-count, values-get, value-within, weighed_to, weigh-more, weigh-all}
+use Rattle.sheet.specs.laws.Sheet.{values-count, values-get, value-within, weigh-more, weigh-all}
 use borrow.Author.Rules.{rules}
 use Rattle.sheet.proofs.weights.weigh.Goals as goal
 

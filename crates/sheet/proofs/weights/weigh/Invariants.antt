@@ -1,11 +1,8 @@
 use Prim.Native.Nat.{◌-◌, ◌≤◌}
-use native.Mathlib.Omega.{arith}
-use mathlib.Core.Path.{◌≡◌, refl, ◌∙◌}
+use mathlib.Core.Path.{◌≡◌}
 use lib.ListN.{length}
-use Rattle.graph.specs.Basic.{fold, below}
 use Rattle.sheet.specs.Sheet.{values_from}
-use Rattle.sheet.specs.laws.Sheet.{values-count, values-get, value-within, weighed_to, weigh-more, weigh-all}
-use borrow.Author.Rules.{rules}
+use Rattle.sheet.specs.laws.Sheet.{weighed_to}
 use Rattle.sheet.proofs.weights.weigh.Given as goal
 
 abbrev pub invariant-loop-i : goal.invariant-loop-i

@@ -6,11 +6,11 @@ use Rattle.shrink_pass.proofs.shrink.note_end.Goals as goal
 
 pub note-requires : goal.note-requires
 note-requires c = let v = c.end-v in (
-      omega arith,
-      end-room c.requires.0 c.args.s v.result v.ensures.0 v.ensures.1
-          (λ z. c.if-holder-eq0.false (c.holder.ensures.0 ∙ z)) c.requires.2 c.requires.3,
-      omega arith,
-    )
+  omega arith,
+  end-room c.requires.0 c.args.s v.result v.ensures.0 v.ensures.1
+      (λ z. c.if-holder-eq0.false (c.holder.ensures.0 ∙ z)) c.requires.2 c.requires.3,
+  omega arith,
+)
 
 pub returns-then-holder-eq0 : goal.returns-then-holder-eq0
 returns-then-holder-eq0 c = does-end-free c.requires.0 c.args.s _ c.end-v.ensures.0 (sym c.holder.ensures.0 ∙ c.if-holder-eq0.true)

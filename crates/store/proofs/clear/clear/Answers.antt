@@ -1,5 +1,4 @@
 use Rattle.store.specs.laws.Clear.{cleared-of}
-use borrow.Author.Rules.{rules}
 use Rattle.store.proofs.clear.clear.Goals as goal
 
 pub returns : goal.returns

@@ -1,5 +1,4 @@
 use Rattle.store.specs.laws.Clear.{sides-rewritten}
-use borrow.Author.Rules.{rules}
 use Rattle.store.proofs.clear.clear_sides.Goals as goal
 
 pub returns : goal.returns

@@ -1,5 +1,4 @@
 use Rattle.store.specs.laws.Clear.{vertices-rewritten}
-use borrow.Author.Rules.{rules}
 use Rattle.store.proofs.clear.clear_vertices.Goals as goal
 
 pub returns : goal.returns

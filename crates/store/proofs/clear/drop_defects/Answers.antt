@@ -1,14 +1,14 @@
 use borrow.Author.Rules.{rules}
 use native.Mathlib.Omega.{arith}
-use Prim.Native.Nat.{ℕ, ◌≤◌, ◌<◌, ◌-◌, ◌%◌}
-use mathlib.Core.Path.{◌≡◌, ◌∙◌, ap}
+use Prim.Native.Nat.{ℕ, ◌<◌, ◌%◌}
+use mathlib.Core.Path.{◌≡◌, ◌∙◌}
 use mathlib.Core.List.{List}
 use lib.ListN.{get_or, set, length}
 use Rattle.graph.specs.inner.Form.{Rowed}
 use Rattle.graph.specs.Layout.{rows_of, row}
 use Rattle.graph.specs.Rows.{flags_row}
 use Rattle.graph.specs.laws.Row.{rowed-put, rows_get}
-use Rattle.graph.specs.laws.Table.{Tabled, tabled-none, tabled-more, tabled-all, tabled-rest, table-list, vertex-row}
+use Rattle.graph.specs.laws.Table.{tabled-none, tabled-more, tabled-all, tabled-rest, table-list, vertex-row}
 use Rattle.store.specs.laws.From.{vertex-from}
 use Rattle.store.proofs.clear.drop_defects.Goals as goal
 

@@ -1,7 +1,6 @@
 use native.Mathlib.Omega.{arith}
 use Rattle.graph.specs.Form.{Laid}
 use Rattle.store.specs.laws.Clear.{active-recounted}
-use borrow.Author.Rules.{rules}
 use Rattle.store.proofs.clear.put_active_count.Goals as goal
 
 pub put-requires : goal.put-requires

@@ -1,7 +1,6 @@
 use native.Mathlib.Omega.{arith}
 use Rattle.graph.specs.Form.{Laid}
 use Rattle.store.specs.laws.Clear.{recounted}
-use borrow.Author.Rules.{rules}
 use Rattle.store.proofs.clear.put_node_count.Goals as goal
 
 pub put-requires : goal.put-requires

@@ -1,5 +1,5 @@
 use native.Mathlib.Omega.{arith}
-use Prim.Native.Nat.{ℕ, ◌+◌, ◌≤◌, ◌-◌}
+use Prim.Native.Nat.{ℕ, ◌+◌}
 use mathlib.Core.Path.{◌≡◌, ap, ◌∙◌}
 use mathlib.Core.List.{List}
 use lib.ListN.{get_or, set, length}
@@ -8,7 +8,7 @@ use Rattle.graph.specs.Word.{word_at}
 use Rattle.graph.specs.Layout.{rows_of, row}
 use Rattle.graph.specs.Rows.{weight_row, original_row}
 use Rattle.graph.specs.laws.Row.{rowed-copy, rows_get}
-use Rattle.graph.specs.laws.Table.{Tabled, tabled-none, tabled-more, tabled-all, table-itself, edge_row, original-row, rowed-other}
+use Rattle.graph.specs.laws.Table.{tabled-none, tabled-more, tabled-all, table-itself, edge_row, original-row, rowed-other}
 use Rattle.store.specs.laws.From.{weight-from, original-from}
 use borrow.Author.Rules.{rules}
 use Rattle.store.proofs.clear.restore_weights.Goals as goal

@@ -1,9 +1,5 @@
-use native.Mathlib.Omega.{arith}
 use Prim.Native.Nat.{◌≤◌, ◌-◌, ◌+◌}
-use Rattle.graph.specs.laws.Row.{rowed-put}
-use Rattle.graph.specs.laws.Table.{Tabled, tabled-none, tabled-more, tabled-zeros, side-row}
-use Rattle.store.specs.laws.From.{side-from}
-use borrow.Author.Rules.{rules}
+use Rattle.graph.specs.laws.Table.{Tabled}
 use Rattle.store.proofs.clear.zero_sides.Given as goal
 
 abbrev pub invariant-loop-s : goal.invariant-loop-s

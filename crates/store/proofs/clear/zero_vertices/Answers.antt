@@ -1,7 +1,7 @@
 use native.Mathlib.Omega.{arith}
-use Prim.Native.Nat.{◌≤◌, ◌-◌, ◌+◌}
+use Prim.Native.Nat.{◌+◌}
 use Rattle.graph.specs.laws.Row.{rowed-put}
-use Rattle.graph.specs.laws.Table.{Tabled, tabled-none, tabled-more, tabled-zeros, vertex-row}
+use Rattle.graph.specs.laws.Table.{tabled-none, tabled-more, tabled-zeros, vertex-row}
 use Rattle.store.specs.laws.From.{vertex-from}
 use borrow.Author.Rules.{rules}
 use Rattle.store.proofs.clear.zero_vertices.Goals as goal

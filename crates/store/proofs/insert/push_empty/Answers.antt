@@ -4,7 +4,6 @@ use Rattle.graph.specs.Form.{Laid}
 use Rattle.graph.specs.inner.Insert.{tail_put}
 use Rattle.graph.specs.laws.Used.{entries-total}
 use Rattle.store.specs.laws.Insert.{rewritten-then, pushed-empty, head-limit, tail-limit}
-use borrow.Author.Rules.{rules}
 use Rattle.store.proofs.insert.push_empty.Goals as goal
 
 pub put_head-requires : goal.put_head-requires
@@ -15,8 +14,7 @@ put_head-requires c =
 pub put_tail-requires : goal.put_tail-requires
 unfolding Laid
 put_tail-requires c =
-    let p = c.put_head.ensures in
-    (
+    let p = c.put_head.ensures in (
       p.kept.laid,
       omega (
         arith,
@@ -31,8 +29,7 @@ put_tail-requires c =
 pub put_node_count-requires : goal.put_node_count-requires
 put_node_count-requires c =
     let q = c.put_tail.ensures in
-    let p = c.put_head.ensures in
-    (
+    let p = c.put_head.ensures in (
       q.kept.laid,
       omega (
         arith,

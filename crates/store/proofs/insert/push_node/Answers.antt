@@ -5,7 +5,6 @@ use Rattle.graph.specs.Word.{numbers_at}
 use Rattle.graph.specs.laws.Number.{numbers-none}
 use Rattle.graph.specs.laws.Form.{formed-shape}
 use Rattle.store.specs.laws.Insert.{new-room, pushed-lists}
-use borrow.Author.Rules.{rules}
 use Rattle.store.proofs.insert.push_node.Goals as goal
 
 pub replace_lists-requires : goal.replace_lists-requires

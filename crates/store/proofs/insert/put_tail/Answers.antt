@@ -1,6 +1,5 @@
 use Rattle.store.specs.laws.Clear.{rewritten-first}
 use Rattle.store.specs.laws.Insert.{rewritten-put}
-use borrow.Author.Rules.{rules}
 use Rattle.store.proofs.insert.put_tail.Goals as goal
 
 pub returns : goal.returns

@@ -1,5 +1,4 @@
 use native.Mathlib.Omega.{arith}
-use borrow.Author.Rules.{rules}
 use Rattle.graph.specs.laws.List.{store-max}
 use Rattle.graph.specs.laws.Row.{rowed-copy, rows_get}
 use Rattle.store.specs.laws.From.{store-from}
@@ -12,11 +11,10 @@ pub overflow_add-a-2 : goal.overflow_add-a-2
 overflow_add-a-2 c = omega (arith, store-max c.args.b.now c.requires.0)
 
 pub copy-requires : goal.copy-requires
-copy-requires c =
-    (
-      (store-from c.args.b.now c.args.i c.args.a c.requires.0 c.requires.2 c.requires.1).within,
-      (store-from c.args.b.now c.args.j c.args.a c.requires.0 c.requires.3 c.requires.1).within,
-    )
+copy-requires c = (
+  (store-from c.args.b.now c.args.i c.args.a c.requires.0 c.requires.2 c.requires.1).within,
+  (store-from c.args.b.now c.args.j c.args.a c.requires.0 c.requires.3 c.requires.1).within,
+)
 
 pub returns : goal.returns
 returns c =

@@ -1,14 +1,9 @@
-use borrow.Author.Rules.{rules}
 use native.Mathlib.Omega.{arith}
-use Prim.Native.Nat.{◌+◌, ◌-◌, ◌≤◌}
+use Prim.Native.Nat.{◌+◌}
 use mathlib.Core.Path.{◌≡◌, refl}
-use Rattle.graph.specs.Rows.{store_row}
-use Rattle.graph.specs.Layout.{state_of}
-use Rattle.graph.specs.inner.Found.{Found}
 use Rattle.graph.specs.laws.List.{store-max}
 use Rattle.store.specs.laws.From.{store-begins}
 use Rattle.store.specs.laws.Move.{wrote_none, fill_more}
-use Rattle.store.specs.inner.Wrote.{Filled}
 use Rattle.store.proofs.replace.fill.Goals as goal
 
 pub returns-then-n-eq0 : goal.returns-then-n-eq0
@@ -16,18 +11,16 @@ returns-then-n-eq0 c =
     wrote_none 18 c.args.b.now c.args.at (c.args.at + c.args.n) _ c.requires.0 (λ p x y. absurd (omega arith))
 
 pub loop-i-init : goal.loop-i-init
-loop-i-init c =
-    (
-      omega arith,
-      store-max c.args.b.now c.requires.0,
-      wrote_none 18 c.args.b.now c.args.at (c.args.at + 0) _ c.requires.0 (λ p x y. absurd (omega arith)),
-      c.store_place-a.ensures,
-    )
+loop-i-init c = (
+  omega arith,
+  store-max c.args.b.now c.requires.0,
+  wrote_none 18 c.args.b.now c.args.at (c.args.at + 0) _ c.requires.0 (λ p x y. absurd (omega arith)),
+  c.store_place-a.ensures,
+)
 
 pub loop-i-preserved : goal.loop-i-preserved
 loop-i-preserved c =
-    let a = c.loop-i in
-    (
+    let a = c.loop-i in (
       omega arith,
       a.invariant.1,
       fill_more c.requires.0 c.args.t.now c.args.q c.args.at a.i _ a.invariant.2 (omega arith)

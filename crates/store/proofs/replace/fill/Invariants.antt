@@ -1,13 +1,7 @@
-use borrow.Author.Rules.{rules}
-use native.Mathlib.Omega.{arith}
-use Prim.Native.Nat.{◌+◌, ◌-◌, ◌≤◌}
-use mathlib.Core.Path.{◌≡◌, refl}
+use Prim.Native.Nat.{◌-◌, ◌≤◌}
 use Rattle.graph.specs.Rows.{store_row}
 use Rattle.graph.specs.Layout.{state_of}
 use Rattle.graph.specs.inner.Found.{Found}
-use Rattle.graph.specs.laws.List.{store-max}
-use Rattle.store.specs.laws.From.{store-begins}
-use Rattle.store.specs.laws.Move.{wrote_none, fill_more}
 use Rattle.store.specs.inner.Wrote.{Filled}
 use Rattle.store.proofs.replace.fill.Given as goal
 

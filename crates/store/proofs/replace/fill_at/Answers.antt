@@ -1,5 +1,4 @@
 use native.Mathlib.Omega.{arith}
-use borrow.Author.Rules.{rules}
 use Rattle.graph.specs.laws.List.{store-max}
 use Rattle.graph.specs.laws.Row.{rowed-copy}
 use Rattle.store.specs.laws.From.{store-from}

@@ -1,16 +1,9 @@
-use borrow.Author.Rules.{rules}
 use native.Mathlib.Omega.{arith}
-use Prim.Native.Nat.{◌+◌, ◌-◌, ◌≤◌}
+use Prim.Native.Nat.{◌+◌, ◌-◌}
 use mathlib.Core.Path.{◌≡◌, refl}
-use Rattle.graph.specs.Rows.{store_row}
-use Rattle.graph.specs.Layout.{state_of}
-use Rattle.graph.specs.inner.Found.{Found}
 use Rattle.graph.specs.laws.List.{store-max}
 use Rattle.store.specs.laws.From.{store-begins}
 use Rattle.store.specs.laws.Move.{wrote_none, move-up-more}
-use Rattle.graph.specs.inner.Lists.{store_of}
-use Rattle.store.specs.inner.Wrote.{Wrote}
-use lib.ListN.{get_or}
 use Rattle.store.proofs.replace.move_up.Goals as goal
 
 pub returns-then-n-eq0 : goal.returns-then-n-eq0
@@ -18,13 +11,12 @@ returns-then-n-eq0 c =
     wrote_none 18 c.args.b.now c.args.to (c.args.to + c.args.n) _ c.requires.0 (λ p x y. absurd (omega arith))
 
 pub loop-i-init : goal.loop-i-init
-loop-i-init c =
-    (
-      omega arith,
-      store-max c.args.b.now c.requires.0,
-      wrote_none 18 c.args.b.now (c.args.to + c.args.n) (c.args.to + c.args.n) _ c.requires.0 (λ p x y. absurd (omega arith)),
-      c.store_place-a.ensures,
-    )
+loop-i-init c = (
+  omega arith,
+  store-max c.args.b.now c.requires.0,
+  wrote_none 18 c.args.b.now (c.args.to + c.args.n) (c.args.to + c.args.n) _ c.requires.0 (λ p x y. absurd (omega arith)),
+  c.store_place-a.ensures,
+)
 
 pub loop-i-preserved : goal.loop-i-preserved
 loop-i-preserved c =

@@ -1,13 +1,7 @@
-use borrow.Author.Rules.{rules}
-use native.Mathlib.Omega.{arith}
 use Prim.Native.Nat.{◌+◌, ◌-◌, ◌≤◌}
-use mathlib.Core.Path.{◌≡◌, refl}
 use Rattle.graph.specs.Rows.{store_row}
 use Rattle.graph.specs.Layout.{state_of}
 use Rattle.graph.specs.inner.Found.{Found}
-use Rattle.graph.specs.laws.List.{store-max}
-use Rattle.store.specs.laws.From.{store-begins}
-use Rattle.store.specs.laws.Move.{wrote_none, move-up-more}
 use Rattle.graph.specs.inner.Lists.{store_of}
 use Rattle.store.specs.inner.Wrote.{Wrote}
 use lib.ListN.{get_or}

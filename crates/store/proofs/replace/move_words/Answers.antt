@@ -1,6 +1,5 @@
 use native.Mathlib.Omega.{arith}
 use Rattle.store.specs.laws.Move.{moved_none}
-use borrow.Author.Rules.{rules}
 use Rattle.store.proofs.replace.move_words.Goals as goal
 
 pub returns-else-to-from : goal.returns-else-to-from

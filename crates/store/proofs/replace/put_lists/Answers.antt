@@ -1,5 +1,4 @@
 use Rattle.store.specs.laws.Store.{stored}
-use borrow.Author.Rules.{rules}
 use Rattle.store.proofs.replace.put_lists.Goals as goal
 
 pub returns : goal.returns

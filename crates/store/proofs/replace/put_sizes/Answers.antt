@@ -1,5 +1,4 @@
 use Rattle.store.specs.laws.Store.{resized}
-use borrow.Author.Rules.{rules}
 use Rattle.store.proofs.replace.put_sizes.Goals as goal
 
 pub returns : goal.returns

@@ -1,5 +1,4 @@
 use Rattle.store.specs.laws.Replace.{asked-sizes, replaced}
-use borrow.Author.Rules.{rules}
 use Rattle.store.proofs.replace.replace_at.Goals as goal
 
 pub put_sizes-requires : goal.put_sizes-requires

@@ -1,5 +1,4 @@
 use Rattle.store.specs.laws.Replace.{asked-part, asked_of}
-use borrow.Author.Rules.{rules}
 use Rattle.store.proofs.replace.replace_lists.Goals as goal
 
 pub overflow_sub-rest : goal.overflow_sub-rest
@@ -10,14 +9,13 @@ overflow_sub-rest c =
     c.entry_count.ensures.0
 
 pub replace_at-requires : goal.replace_at-requires
-replace_at-requires c =
-    (
-      c.requires.0,
-      asked_of c.args.b.now c.args.n _ _ _ _ c.requires.0.laid c.requires.0.listed c.requires.1
-          c.start-start.ensures.0
-          c.boundary_len-boundary.ensures.0
-          c.overgrown_len.ensures.0 c.entry_count.ensures.0 c.args.k c.args.m
-          c.args.o c.requires.4 c.requires.5,
-      c.requires.2,
-      c.requires.3,
-    )
+replace_at-requires c = (
+  c.requires.0,
+  asked_of c.args.b.now c.args.n _ _ _ _ c.requires.0.laid c.requires.0.listed c.requires.1
+      c.start-start.ensures.0
+      c.boundary_len-boundary.ensures.0
+      c.overgrown_len.ensures.0 c.entry_count.ensures.0 c.args.k c.args.m
+      c.args.o c.requires.4 c.requires.5,
+  c.requires.2,
+  c.requires.3,
+)

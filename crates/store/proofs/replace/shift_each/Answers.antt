@@ -1,15 +1,13 @@
-use borrow.Author.Rules.{rules}
 use native.Mathlib.Omega.{arith}
-use Prim.Native.Nat.{◌+◌, ◌-◌, ◌≤◌}
+use Prim.Native.Nat.{◌+◌, ◌-◌}
 use mathlib.Core.Path.{◌≡◌, ◌∙◌}
 use lib.ListN.{set}
 use Rattle.graph.specs.Rows.{start_row}
-use Rattle.graph.specs.Layout.{rows_of, row, state_of}
+use Rattle.graph.specs.Layout.{rows_of, row}
 use Rattle.graph.specs.inner.Form.{Rowed}
 use Rattle.graph.specs.laws.Row.{rowed-put, rows_get}
 use Rattle.store.specs.laws.From.{node-from, node-max}
 use Rattle.store.specs.laws.Move.{wrote_none, shift-more}
-use Rattle.store.specs.inner.Wrote.{Shifted}
 use Rattle.store.proofs.replace.shift_each.Goals as goal
 
 pub returns-then-hi-lo : goal.returns-then-hi-lo
@@ -17,13 +15,12 @@ returns-then-hi-lo c =
     wrote_none 15 c.args.b.now c.args.lo c.args.hi _ c.requires.0 (λ p x y. absurd (omega arith))
 
 pub loop-i-init : goal.loop-i-init
-loop-i-init c =
-    (
-      omega arith,
-      omega arith,
-      wrote_none 15 c.args.b.now c.args.lo c.args.lo _ c.requires.0 (λ p x y. absurd (omega arith)),
-      node-max c.args.b.now c.requires.0,
-    )
+loop-i-init c = (
+  omega arith,
+  omega arith,
+  wrote_none 15 c.args.b.now c.args.lo c.args.lo _ c.requires.0 (λ p x y. absurd (omega arith)),
+  node-max c.args.b.now c.requires.0,
+)
 
 pub word-x-requires : goal.word-x-requires
 word-x-requires c =

@@ -1,14 +1,5 @@
-use borrow.Author.Rules.{rules}
-use native.Mathlib.Omega.{arith}
-use Prim.Native.Nat.{◌+◌, ◌-◌, ◌≤◌}
-use mathlib.Core.Path.{◌≡◌, ◌∙◌}
-use lib.ListN.{set}
-use Rattle.graph.specs.Rows.{start_row}
-use Rattle.graph.specs.Layout.{rows_of, row, state_of}
-use Rattle.graph.specs.inner.Form.{Rowed}
-use Rattle.graph.specs.laws.Row.{rowed-put, rows_get}
-use Rattle.store.specs.laws.From.{node-from, node-max}
-use Rattle.store.specs.laws.Move.{wrote_none, shift-more}
+use Prim.Native.Nat.{◌-◌, ◌≤◌}
+use Rattle.graph.specs.Layout.{state_of}
 use Rattle.store.specs.inner.Wrote.{Shifted}
 use Rattle.store.proofs.replace.shift_each.Given as goal
 

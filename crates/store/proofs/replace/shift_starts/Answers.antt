@@ -1,4 +1,3 @@
-use borrow.Author.Rules.{rules}
 use native.Mathlib.Omega.{arith}
 use Rattle.store.specs.laws.Move.{shifted_none}
 use Rattle.store.proofs.replace.shift_starts.Goals as goal

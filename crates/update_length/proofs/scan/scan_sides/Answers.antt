@@ -18,15 +18,14 @@ pub loop-i-init : goal.loop-i-init
 loop-i-init c = let a = c.args in (scan-none (state_of a.b.now) a.n a.d a.start a.boundary.now c.requires.4, omega arith)
 
 pub look_side-l-requires : goal.look_side-l-requires
-look_side-l-requires c =
-    (
-      c.requires.0,
-      c.requires.1,
-      rw c.word-s.ensures.0
-          (word_below (side_count (state_of c.args.b.now)) c.args.boundary.now c.loop-i.i c.requires.3
-          c.loop-i-test.true),
-      c.requires.2,
-    )
+look_side-l-requires c = (
+  c.requires.0,
+  c.requires.1,
+  rw c.word-s.ensures.0
+      (word_below (side_count (state_of c.args.b.now)) c.args.boundary.now c.loop-i.i c.requires.3
+      c.loop-i-test.true),
+  c.requires.2,
+)
 
 pub returns-then-is_over : goal.returns-then-is_over
 returns-then-is_over c =

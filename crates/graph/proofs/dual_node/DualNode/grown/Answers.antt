@@ -1,5 +1,4 @@
 use Rattle.graph.specs.Node.{grown_node}
-use borrow.Author.Rules.{rules}
 use Rattle.graph.proofs.dual_node.DualNode.grown.Goals as goal
 
 pub returns : goal.returns
