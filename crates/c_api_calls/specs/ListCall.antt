@@ -1,6 +1,6 @@
 -- A list of calls in words (SPECIFICATION 25): four words a call, its kind and three more.
-use Rattle.std.specs.Prelude.{ℕ, ◌+◌, ◌*◌, Bool, List, map, ℤ, pos, eqb, leb, length, take, drop, get_or}
-use Rattle.graph.specs.Basic.{if◌then◌else◌, below}
+use Rattle.std.specs.Prelude.{ℕ, ◌+◌, ◌*◌, Bool, List, map, ℤ, pos, eqb, leb, length, take, drop, get_or, if◌then◌else◌}
+use Rattle.graph.specs.Basic.{below}
 use Rattle.graph.specs.Word.{word_at}
 
 -- a call of a list

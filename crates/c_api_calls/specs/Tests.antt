@@ -1,6 +1,5 @@
 -- How often memory is tested while a list of calls is made: before the first, and where it is not certain that a call kept the block sound.
-use Rattle.std.specs.Prelude.{ℕ, ◌+◌, Bool, true, List, [], ◌∷◌, map, ℤ, eqb}
-use Rattle.graph.specs.Basic.{if◌then◌else◌}
+use Rattle.std.specs.Prelude.{ℕ, ◌+◌, Bool, true, List, [], ◌∷◌, map, ℤ, eqb, if◌then◌else◌}
 use Rattle.graph.specs.State.{State}
 use Rattle.graph.specs.Sound.{state_sound}
 use Rattle.graph.specs.Word.{to_nat}

@@ -1,6 +1,5 @@
 -- What `fb_calls` promises: what the exported calls would, one after another, each with five numbers of the list for its answer.
-use Rattle.std.specs.Prelude.{ℕ, ◌/◌, ◌%◌, min, ◌≡◌, ◌≢◌, List, [], ◌∷◌, ◌++◌, ℤ, eqb, length}
-use Rattle.graph.specs.Basic.{if◌then◌else◌}
+use Rattle.std.specs.Prelude.{ℕ, ◌/◌, ◌%◌, min, ◌≡◌, ◌≢◌, List, [], ◌∷◌, ◌++◌, ℤ, eqb, length, if◌then◌else◌}
 use Rattle.graph.specs.Layout.{memory_refusal}
 use Rattle.answers.specs.declared.Answer.TheVariants.{Refused as RefusedCall}
 use Rattle.answers.specs.Numbers.{OnPaper}

@@ -1,6 +1,6 @@
 -- Contacts (SPECIFICATION 22): the full edges that join two clusters, or a cluster and the code's open boundary.
-use Rattle.std.specs.Prelude.{◌≡◌, ℕ, zero, suc, ◌+◌, ◌-◌, ◌*◌, ◌<◌, Bool, not, ◌&&◌, ◌≢◌, List, [], ◌∷◌, map, ℤ, pos, negsuc, ◌==◌}
-use Rattle.graph.specs.Basic.{if◌then◌else◌, only, below}
+use Rattle.std.specs.Prelude.{◌≡◌, ℕ, zero, suc, ◌+◌, ◌-◌, ◌*◌, ◌<◌, Bool, not, ◌&&◌, ◌≢◌, List, [], ◌∷◌, map, ℤ, pos, negsuc, ◌==◌, if◌then◌else◌}
+use Rattle.graph.specs.Basic.{only, below}
 use Rattle.graph.specs.State.{State, edge_count, node_count, end_at, growth_at, holder_at, weight_at, virtual_at, vertex_holder_at, parent_of}
 
 -- ---- the ends of an edge

@@ -1,6 +1,6 @@
 -- A change of weights for one shot (SPECIFICATION 24): a list of edges, each with the weight that it takes.
-use Rattle.std.specs.Prelude.{ℕ, ◌+◌, ◌*◌, ◌/◌, Bool, not, ◌||◌, List, [], ◌∷◌, map, length, ℤ, ◌==◌, nat_le, nat_lt}
-use Rattle.graph.specs.Basic.{if◌then◌else◌, fold, all, below}
+use Rattle.std.specs.Prelude.{ℕ, ◌+◌, ◌*◌, ◌/◌, Bool, not, ◌||◌, List, [], ◌∷◌, map, length, ℤ, ◌==◌, nat_le, nat_lt, if◌then◌else◌}
+use Rattle.graph.specs.Basic.{fold, all, below}
 use Rattle.graph.specs.State.{State, edge_count, node_count, with_edge_weight, with_reweighted}
 use Rattle.graph.specs.Open.{weight_limit}
 use Rattle.graph.specs.Opening.{given_at}

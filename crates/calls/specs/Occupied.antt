@@ -1,7 +1,6 @@
 -- The test for refusal 5, as it is made (SPECIFICATION 19): the vertex first, then its sides by rising edge, up to the
 -- first held one.
-use Rattle.std.specs.Prelude.{◌≡◌, ℕ, suc, ◌<◌, Bool, true, false, not, ◌||◌, List, [], ◌∷◌, length, ◌==◌, slice_index}
-use Rattle.graph.specs.Basic.{if◌then◌else◌}
+use Rattle.std.specs.Prelude.{◌≡◌, ℕ, suc, ◌<◌, Bool, true, false, not, ◌||◌, List, [], ◌∷◌, length, ◌==◌, slice_index, if◌then◌else◌}
 use Rattle.graph.specs.State.{State, holder_at, sides_at, virtual_at, defect_at, vertex_holder_at}
 
 -- vertex v is virtual, a defect or held, whatever its sides are

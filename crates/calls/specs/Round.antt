@@ -1,7 +1,7 @@
 -- All clusters at once (SPECIFICATION 14): renewal of the active list, a preparation, a length and a growth of every
 -- active node. The last three are tried node by node, Shrink nodes first, and leave nothing where one node is refused.
-use Rattle.std.specs.Prelude.{ℕ, zero, suc, ◌+◌, Bool, true, false, not, ◌&&◌, ◌||◌, List, [], ◌∷◌, ◌++◌, length, ℤ, pos, negsuc, ◌==◌, nat_le}
-use Rattle.graph.specs.Basic.{if◌then◌else◌, fold, all, only}
+use Rattle.std.specs.Prelude.{ℕ, zero, suc, ◌+◌, Bool, true, false, not, ◌&&◌, ◌||◌, List, [], ◌∷◌, ◌++◌, length, ℤ, pos, negsuc, ◌==◌, nat_le, if◌then◌else◌}
+use Rattle.graph.specs.Basic.{fold, all, only}
 use Rattle.graph.specs.State.{State, grow_state_of, growing, shrinking, down, up}
 use Rattle.graph.specs.Sound.{state_sound}
 use Rattle.graph.specs.Active.{renewed, active_in}

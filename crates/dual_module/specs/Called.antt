@@ -1,6 +1,5 @@
 -- A call on memory that a host lends (SPECIFICATION 7.1): what it answers, and what block and scratch hold afterwards.
-use Rattle.std.specs.Prelude.{◌≡◌, ℕ, Bool, true, false, not, ◌&&◌, List, [], ◌∷◌, map, length, ℤ, pos, ◌==◌, nat_lt, unsigned_abs}
-use Rattle.graph.specs.Basic.{if◌then◌else◌}
+use Rattle.std.specs.Prelude.{◌≡◌, ℕ, Bool, true, false, not, ◌&&◌, List, [], ◌∷◌, map, length, ℤ, pos, ◌==◌, nat_lt, unsigned_abs, if◌then◌else◌}
 use Rattle.graph.specs.State.{State, stay, shrinking, up, grow_state_of}
 use Rattle.graph.specs.Word.{to_nat}
 use Rattle.graph.specs.Layout.{state_of, memory_refusal, list_refusal}

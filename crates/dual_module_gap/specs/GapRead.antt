@@ -1,6 +1,5 @@
 -- The gap of an edge on memory that a host lends: what is told.
-use Rattle.std.specs.Prelude.{ℕ, ◌≡◌, List, ℤ, eqb, leb}
-use Rattle.graph.specs.Basic.{if◌then◌else◌}
+use Rattle.std.specs.Prelude.{ℕ, ◌≡◌, List, ℤ, eqb, leb, if◌then◌else◌}
 use Rattle.graph.specs.State.{State, edge_count}
 use Rattle.graph.specs.Layout.{state_of, memory_refusal}
 use Rattle.gap.specs.Gap.{edge_gap}

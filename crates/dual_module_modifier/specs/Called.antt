@@ -1,6 +1,5 @@
 -- A change of weights on memory that a host lends (SPECIFICATION 24.1): what it answers, and what the block holds afterwards.
-use Rattle.std.specs.Prelude.{ℕ, ◌%◌, Bool, ◌&&◌, not, List, ℤ, eqb, length}
-use Rattle.graph.specs.Basic.{if◌then◌else◌}
+use Rattle.std.specs.Prelude.{ℕ, ◌%◌, Bool, ◌&&◌, not, List, ℤ, eqb, length, if◌then◌else◌}
 use Rattle.graph.specs.State.{State}
 use Rattle.graph.specs.Layout.{state_of, memory_refusal}
 use Rattle.answers.specs.declared.Answer.{Answer}

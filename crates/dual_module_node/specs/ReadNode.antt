@@ -1,6 +1,5 @@
 -- What is told of a node: what it stands for, its grow state, the blossom that it lies in, and its dual variable.
-use Rattle.std.specs.Prelude.{ℕ, ◌≡◌, List, ℤ, eqb}
-use Rattle.graph.specs.Basic.{if◌then◌else◌}
+use Rattle.std.specs.Prelude.{ℕ, ◌≡◌, List, ℤ, eqb, if◌then◌else◌}
 use Rattle.graph.specs.State.{State, NodeClass, defect_vertex, blossom, removed, class_of, grow_state_of, parent_of, dual_of}
 use Rattle.graph.specs.Layout.{state_of, memory_refusal}
 use Rattle.calls.specs.Refuse.{bad_node}

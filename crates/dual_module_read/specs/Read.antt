@@ -1,6 +1,5 @@
 -- The calls that only read block and scratch: the representative vertex of a node, the growth table, the contacts.
-use Rattle.std.specs.Prelude.{ℕ, ◌≡◌, List, map, ℤ, pos, eqb, length}
-use Rattle.graph.specs.Basic.{if◌then◌else◌}
+use Rattle.std.specs.Prelude.{ℕ, ◌≡◌, List, map, ℤ, pos, eqb, length, if◌then◌else◌}
 use Rattle.graph.specs.Layout.{state_of, memory_refusal, list_refusal}
 use Rattle.answers.specs.declared.Answer.{Answer}
 use Rattle.answers.specs.declared.Answer.TheVariants.{Done}

@@ -1,7 +1,6 @@
 -- The calls on all clusters, on memory that a host lends. A trial is worked on a second block and copied back only if no node refuses; what the
 -- answer is, and what block, second block, scratch and list hold afterwards.
-use Rattle.std.specs.Prelude.{ℕ, zero, suc, ◌*◌, ◌≡◌, ◌≢◌, Bool, true, false, ◌&&◌, List, ℤ, pos, negsuc, eqb, length}
-use Rattle.graph.specs.Basic.{if◌then◌else◌}
+use Rattle.std.specs.Prelude.{ℕ, zero, suc, ◌*◌, ◌≡◌, ◌≢◌, Bool, true, false, ◌&&◌, List, ℤ, pos, negsuc, eqb, length, if◌then◌else◌}
 use Rattle.graph.specs.State.{State}
 use Rattle.graph.specs.Layout.{n_of, state_of, sized, memory_fits, block_refusal}
 use Rattle.graph.specs.Form.{Formed}

@@ -3,8 +3,7 @@
 // The calls on all clusters, on memory that a host lends. A trial is worked on a second block, which becomes the block's copy first; at its end the
 // block is copied back to the second one where a node was refused, and the second to the block else.
 
-ghost use Rattle.std.specs.Prelude.{◌≡◌, ◌&&◌, ◌*◌, ◌<◌, ◌≤◌, pos, eqb, length, get_or, set};
-ghost use Rattle.graph.specs.Basic.{if◌then◌else◌};
+ghost use Rattle.std.specs.Prelude.{◌≡◌, ◌&&◌, ◌*◌, ◌<◌, ◌≤◌, pos, eqb, length, get_or, set, if◌then◌else◌};
 ghost use Rattle.graph.specs.Layout.{n_of, state_of, sized};
 ghost use Rattle.pass.specs.Scratch.{zero_scratch};
 ghost use Rattle.calls.specs.Round.{is_refused};

@@ -1,6 +1,5 @@
 -- The gap of an edge.
-use Rattle.std.specs.Prelude.{ℕ, ◌+◌, ◌-◌, ◌*◌, Bool, ◌&&◌, not, eqb, ltb}
-use Rattle.graph.specs.Basic.{if◌then◌else◌}
+use Rattle.std.specs.Prelude.{ℕ, ◌+◌, ◌-◌, ◌*◌, Bool, ◌&&◌, not, eqb, ltb, if◌then◌else◌}
 use Rattle.graph.specs.State.{State, growth_at, holder_at, weight_at}
 use Rattle.gap.specs.declared.Gap.{Gap}
 use Rattle.gap.specs.declared.Gap.TheVariants.{Inner, Over, Left}

@@ -3,8 +3,7 @@
 -- whether a change of weights stands, the rest free); over vertices
 -- flags, holder, grandson and first; over sides end, growth, holder, grandson and at; over edges weight; over nodes class, grow state,
 -- parent, dual variable, start, boundary length and overgrown length; the list store; the active list; over edges the original weight.
-use Rattle.std.specs.Prelude.{ℕ, ◌+◌, ◌-◌, ◌*◌, ◌/◌, ◌%◌, min, Bool, true, ◌&&◌, List, [], ◌∷◌, map, reverse, ℤ, ltb, leb, eqb, length, get_or, take, drop}
-use Rattle.graph.specs.Basic.{if◌then◌else◌}
+use Rattle.std.specs.Prelude.{ℕ, ◌+◌, ◌-◌, ◌*◌, ◌/◌, ◌%◌, min, Bool, true, ◌&&◌, List, [], ◌∷◌, map, reverse, ℤ, ltb, leb, eqb, length, get_or, take, drop, if◌then◌else◌}
 use Rattle.graph.specs.State.{State, Overgrown, NodeClass, vertex_count, edge_count, defect_vertex, blossom, removed, removed_place}
 use Rattle.graph.specs.Open.{sizes_ok}
 use Rattle.graph.specs.Sound.{state_sound}

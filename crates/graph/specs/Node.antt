@@ -1,6 +1,5 @@
 -- A node as a value, and how growth moves its numbers.
-use Rattle.std.specs.Prelude.{ℕ, ◌+◌, ◌-◌, ◌≤◌, ◌<◌, ◌≡◌, ◌≢◌, List, [], ◌∷◌, eqb, length}
-use Rattle.graph.specs.Basic.{if◌then◌else◌}
+use Rattle.std.specs.Prelude.{ℕ, ◌+◌, ◌-◌, ◌≤◌, ◌<◌, ◌≡◌, ◌≢◌, List, [], ◌∷◌, eqb, length, if◌then◌else◌}
 use Rattle.graph.specs.State.{State, NodeClass, defect_vertex, blossom, removed, removed_place, Overgrown, up, vertex_count, class_of, grow_state_of, parent_of, dual_of, overgrown_of}
 use Rattle.graph.specs.declared.dual_node.DualNode.{DualNode}
 

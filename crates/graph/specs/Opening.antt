@@ -1,6 +1,6 @@
 -- Opening a graph in a block: what the words that the host gives say, and every word of the opened block. Clearing a block.
-use Rattle.std.specs.Prelude.{ℕ, ◌+◌, ◌*◌, ◌/◌, ◌%◌, ◌≡◌, Bool, ◌&&◌, List, [], ◌∷◌, ◌++◌, map, ℤ, pos, negsuc, eqb, length, get_or, set, replicate}
-use Rattle.graph.specs.Basic.{if◌then◌else◌, below, sum_below}
+use Rattle.std.specs.Prelude.{ℕ, ◌+◌, ◌*◌, ◌/◌, ◌%◌, ◌≡◌, Bool, ◌&&◌, List, [], ◌∷◌, ◌++◌, map, ℤ, pos, negsuc, eqb, length, get_or, set, replicate, if◌then◌else◌}
+use Rattle.graph.specs.Basic.{below, sum_below}
 use Rattle.graph.specs.Word.{to_nat}
 use Rattle.graph.specs.State.{vertex_count, edge_count, side_count, node_count}
 use Rattle.graph.specs.Open.{Edge, ends_of, sides_of, flag_in, cleared, open_refusal}

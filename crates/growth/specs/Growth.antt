@@ -1,6 +1,6 @@
 -- Growth of a prepared node by a length l above 0, up or down: what refuses it, and the state that it leaves.
-use Rattle.std.specs.Prelude.{ℕ, ◌+◌, Bool, false, ◌&&◌, ◌||◌, not, List, [], ◌∷◌, ltb, eqb}
-use Rattle.graph.specs.Basic.{if◌then◌else◌, fold, any}
+use Rattle.std.specs.Prelude.{ℕ, ◌+◌, Bool, false, ◌&&◌, ◌||◌, not, List, [], ◌∷◌, ltb, eqb, if◌then◌else◌}
+use Rattle.graph.specs.Basic.{fold, any}
 use Rattle.graph.specs.State.{State, Overgrown, opposite, growth_at, holder_at, dual_of, boundary_of, overgrown_of, grown_over, weight_over, with_growth, with_dual, with_overgrown, up}
 use Rattle.graph.specs.Node.{moved}
 use Rattle.graph.specs.Open.{dual_limit, growth_limit}

@@ -1,6 +1,5 @@
 -- What a run hands over of itself.
-use Rattle.std.specs.Prelude.{ℕ, ◌+◌, ◌*◌, ◌<◌, ◌≡◌, List, map, ℤ, pos, negsuc, ltb, length, get_or}
-use Rattle.graph.specs.Basic.{if◌then◌else◌}
+use Rattle.std.specs.Prelude.{ℕ, ◌+◌, ◌*◌, ◌<◌, ◌≡◌, List, map, ℤ, pos, negsuc, ltb, length, get_or, if◌then◌else◌}
 use Rattle.graph.specs.Word.{to_nat}
 use Rattle.graph.specs.Open.{Edge}
 use Rattle.graph.specs.Opening.{edges_from, virtuals_from}

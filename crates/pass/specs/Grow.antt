@@ -1,6 +1,6 @@
 -- One growing pass over node n: it takes the free vertices behind full boundary edges.
-use Rattle.std.specs.Prelude.{ℕ, Bool, ◌&&◌, eqb, length}
-use Rattle.graph.specs.Basic.{if◌then◌else◌, fold}
+use Rattle.std.specs.Prelude.{ℕ, Bool, ◌&&◌, eqb, length, if◌then◌else◌}
+use Rattle.graph.specs.Basic.{fold}
 use Rattle.graph.specs.State.{State, opposite, end_at, holder_at, grandson_at, sides_at, passable, vertex_holder_at, boundary_of, overgrown_of, grown_over, weight_over, held_side, held_vertex}
 use Rattle.pass.specs.Work.{Work, on_state, keep, note, push, call_another, start_pass}
 

@@ -1,6 +1,5 @@
 -- Preparation: passes until none is called for.
-use Rattle.std.specs.Prelude.{ℕ, zero, suc, ◌+◌, true, false, eqb}
-use Rattle.graph.specs.Basic.{if◌then◌else◌}
+use Rattle.std.specs.Prelude.{ℕ, zero, suc, ◌+◌, true, false, eqb, if◌then◌else◌}
 use Rattle.graph.specs.State.{State, vertex_count, up}
 use Rattle.pass.specs.Work.{Work, finish_pass}
 use Rattle.pass.specs.Grow.{grow_pass}

@@ -1,6 +1,6 @@
 -- One shrinking pass over node n: it releases overgrown vertices of amount 0, then the vertices behind boundary sides of growth 0.
-use Rattle.std.specs.Prelude.{ℕ, ◌+◌, Bool, ◌&&◌, List, [], ◌∷◌, eqb, leb}
-use Rattle.graph.specs.Basic.{if◌then◌else◌, fold}
+use Rattle.std.specs.Prelude.{ℕ, ◌+◌, Bool, ◌&&◌, List, [], ◌∷◌, eqb, leb, if◌then◌else◌}
+use Rattle.graph.specs.Basic.{fold}
 use Rattle.graph.specs.State.{State, Overgrown, opposite, end_at, growth_at, holder_at, sides_at, defect_at, vertex_holder_at, boundary_of, overgrown_of, grown_over, weight_over, free_side, free_vertex}
 use Rattle.pass.specs.Work.{Work, on_state, keep_once, note, call_another, start_pass}
 

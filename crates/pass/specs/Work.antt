@@ -1,6 +1,6 @@
 -- What a pass holds while it runs, and the small changes that its loops make.
-use Rattle.std.specs.Prelude.{ℕ, Bool, false, ◌||◌, List, [], ◌∷◌, ◌++◌}
-use Rattle.graph.specs.Basic.{if◌then◌else◌, member}
+use Rattle.std.specs.Prelude.{ℕ, Bool, false, ◌||◌, List, [], ◌∷◌, ◌++◌, if◌then◌else◌}
+use Rattle.graph.specs.Basic.{member}
 use Rattle.graph.specs.State.{State, Overgrown, with_boundary, with_overgrown}
 
 pub record Work : Type 0 where

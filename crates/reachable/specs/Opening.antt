@@ -1,6 +1,6 @@
 -- What the theorems on opening a blossom speak of (SPECIFICATION 18.4).
-use Rattle.std.specs.Prelude.{ℕ, ◌+◌, ◌≤◌, ◌≡◌, Bool, true, false, List, [], ◌∷◌, eqb}
-use Rattle.graph.specs.Basic.{if◌then◌else◌, fold, member}
+use Rattle.std.specs.Prelude.{ℕ, ◌+◌, ◌≤◌, ◌≡◌, Bool, true, false, List, [], ◌∷◌, eqb, if◌then◌else◌}
+use Rattle.graph.specs.Basic.{fold, member}
 use Rattle.graph.specs.State.{State, removed, node_count, growth_at, holder_at, grandson_at, vertex_holder_at, vertex_grandson_at, class_of, parent_of, dual_of, boundary_of, overgrown_of}
 use Rattle.graph.specs.Open.{opened}
 use Rattle.calls.specs.Refuse.{bad_node}

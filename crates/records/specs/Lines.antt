@@ -1,6 +1,5 @@
 -- The lines of an outcome, as bytes. Each has the record's number in front and a line feed behind.
-use Rattle.std.specs.Prelude.{ℕ, ◌+◌, ◌-◌, List, [], ◌∷◌, ◌++◌, map, eqb, leb, length, drop}
-use Rattle.graph.specs.Basic.{if◌then◌else◌}
+use Rattle.std.specs.Prelude.{ℕ, ◌+◌, ◌-◌, List, [], ◌∷◌, ◌++◌, map, eqb, leb, length, drop, if◌then◌else◌}
 use Rattle.answers.specs.declared.Answer.{Answer}
 use Rattle.answers.specs.declared.Answer.TheVariants.{Length, Done, Node, Prepared, Refused, Vertex}
 use Rattle.answers.specs.declared.MaxUpdateLength.{MaxUpdateLength}

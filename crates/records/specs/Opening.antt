@@ -1,6 +1,5 @@
 -- The opening, by what the memory holds.
-use Rattle.std.specs.Prelude.{ℕ, ◌*◌, ◌≡◌, Bool, true, ◌&&◌, ◌||◌, List, ◌++◌, ℤ, ltb, eqb, take, drop}
-use Rattle.graph.specs.Basic.{if◌then◌else◌}
+use Rattle.std.specs.Prelude.{ℕ, ◌*◌, ◌≡◌, Bool, true, ◌&&◌, ◌||◌, List, ◌++◌, ℤ, ltb, eqb, take, drop, if◌then◌else◌}
 use Rattle.graph.specs.Open.{Edge, sizes_ok, opened, open_refusal}
 use Rattle.graph.specs.Opening.{edges_from, opened_block}
 use Rattle.graph.specs.Layout.{block_length, state_of}

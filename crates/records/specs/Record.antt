@@ -1,8 +1,7 @@
 -- Records (SPECIFICATION 10): length of the rest (2 bytes), kind (2 bytes), fields of 4 bytes, all little-endian.
 -- A field is read as a number without sign. A negative one reads as 2^31 or more, which is above every limit, so it is
 -- refused just as the negative number is. Only the length of a growth is given its sign.
-use Rattle.std.specs.Prelude.{ℕ, zero, suc, ◌+◌, ◌-◌, ◌*◌, ◌/◌, ◌%◌, Bool, ◌&&◌, ◌||◌, List, [], ◌∷◌, ℤ, pos, negsuc, leb, ltb, eqb, length, get_or, take, drop}
-use Rattle.graph.specs.Basic.{if◌then◌else◌}
+use Rattle.std.specs.Prelude.{ℕ, zero, suc, ◌+◌, ◌-◌, ◌*◌, ◌/◌, ◌%◌, Bool, ◌&&◌, ◌||◌, List, [], ◌∷◌, ℤ, pos, negsuc, leb, ltb, eqb, length, get_or, take, drop, if◌then◌else◌}
 use Rattle.graph.specs.Open.{Edge}
 use Rattle.calls.specs.Calls.{Call, InsertDefect, InsertBlossom, SetGrowState, Prepare, UpdateLength, Grow, ReadTable, Advance, Contacts, Clear}
 

@@ -1,6 +1,6 @@
 -- What is read before the opening, in memory: the struct of src/setup.rt, the words of the edges and those of the virtual vertices.
-use Rattle.std.specs.Prelude.{ℕ, ◌+◌, ◌*◌, min, ◌≤◌, ◌<◌, ◌≡◌, Bool, true, false, ◌&&◌, not, List, ℤ, pos, leb, ltb, length, get_or, set, take}
-use Rattle.graph.specs.Basic.{if◌then◌else◌, all, member, distinct}
+use Rattle.std.specs.Prelude.{ℕ, ◌+◌, ◌*◌, min, ◌≤◌, ◌<◌, ◌≡◌, Bool, true, false, ◌&&◌, not, List, ℤ, pos, leb, ltb, length, get_or, set, take, if◌then◌else◌}
+use Rattle.graph.specs.Basic.{all, member, distinct}
 use Rattle.graph.specs.Open.{Edge}
 use Rattle.graph.specs.Opening.{edge_at, virtuals_from}
 use Rattle.records.specs.Run.{Gathered}

@@ -1,7 +1,7 @@
 -- Text written into bytes, and lines written one behind the other as far as they fit.
-use Rattle.std.specs.Prelude.{ℕ, ◌+◌, ◌≤◌, ◌≡◌, Bool, true, false, List, leb, length}
+use Rattle.std.specs.Prelude.{ℕ, ◌+◌, ◌≤◌, ◌≡◌, Bool, true, false, List, leb, length, if◌then◌else◌}
 use Rattle.std.proofs.lemmas.List.Edits.{sets}
-use Rattle.graph.specs.Basic.{if◌then◌else◌, fold, all}
+use Rattle.graph.specs.Basic.{fold, all}
 
 -- the bytes b with the text w from place n on are c, and m is the place behind it
 pub record Written (b : List ℕ) (n : ℕ) (c : List ℕ) (m : ℕ) (w : List ℕ) : Type 0 where

@@ -1,8 +1,8 @@
 // The opened state: the blossom's sides lose their holder, the members hold theirs again and lie in nothing, and the
 // blossom stands for nothing.
 
-ghost use Rattle.std.specs.Prelude.{◌<◌};
-ghost use Rattle.graph.specs.Basic.{if◌then◌else◌, fold};
+ghost use Rattle.std.specs.Prelude.{◌<◌, if◌then◌else◌};
+ghost use Rattle.graph.specs.Basic.{fold};
 ghost use Rattle.graph.specs.State.{node_count, boundary_of};
 ghost use Rattle.graph.specs.Layout.{state_of};
 ghost use Rattle.graph.specs.Form.{Formed};

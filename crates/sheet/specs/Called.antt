@@ -1,6 +1,6 @@
 -- Opening a graph from a sheet: what is refused, what is answered, and what edges and block are then.
-use Rattle.std.specs.Prelude.{ℕ, ◌*◌, ◌≡◌, Bool, ◌&&◌, not, List, map, ℤ, pos, ltb, eqb, length}
-use Rattle.graph.specs.Basic.{if◌then◌else◌, all}
+use Rattle.std.specs.Prelude.{ℕ, ◌*◌, ◌≡◌, Bool, ◌&&◌, not, List, map, ℤ, pos, ltb, eqb, length, if◌then◌else◌}
+use Rattle.graph.specs.Basic.{all}
 use Rattle.graph.specs.Open.{Edge, sizes_ok}
 use Rattle.graph.specs.Opening.{edges_in, edges_from, virtuals_from, fits, opened_words}
 use Rattle.sheet.specs.declared.SheetOpened.{SheetOpened}

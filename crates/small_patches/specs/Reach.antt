@@ -1,6 +1,6 @@
 -- Whether every vertex of a patch reaches vertex 3.
-use Rattle.std.specs.Prelude.{Bool, List, [], ◌∷◌, ℕ, zero, suc, ◌<◌, ltb, get_or, set}
-use Rattle.graph.specs.Basic.{if◌then◌else◌, fold, all_below}
+use Rattle.std.specs.Prelude.{Bool, List, [], ◌∷◌, ℕ, zero, suc, ◌<◌, ltb, get_or, set, if◌then◌else◌}
+use Rattle.graph.specs.Basic.{fold, all_below}
 use Rattle.graph.specs.Open.{Edge}
 use Rattle.distance.specs.Graph.{Walk}
 use Rattle.small_patches.specs.SmallPatch.{patch_graph}

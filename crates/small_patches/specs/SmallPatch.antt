@@ -1,6 +1,5 @@
 -- The graphs, and their list.
-use Rattle.std.specs.Prelude.{◌≡◌, Bool, true, ◌&&◌, ◌||◌, not, List, [], ◌∷◌, ◌++◌, map, ℕ, ◌≤◌, eqb, ltb, length, get_or, drop}
-use Rattle.graph.specs.Basic.{if◌then◌else◌}
+use Rattle.std.specs.Prelude.{◌≡◌, Bool, true, ◌&&◌, ◌||◌, not, List, [], ◌∷◌, ◌++◌, map, ℕ, ◌≤◌, eqb, ltb, length, get_or, drop, if◌then◌else◌}
 use Rattle.graph.specs.Open.{Edge, open_refusal}
 use Rattle.distance.specs.Graph.{WeightedGraph}
 use Rattle.opened_graph.specs.OpenedGraph.{opened_graph}

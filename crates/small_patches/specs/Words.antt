@@ -1,7 +1,6 @@
 -- The edges of a patch as words, and by the digits of its number: what the code works with.
-use Rattle.std.specs.Prelude.{◌≡◌, List, [], ◌∷◌, ◌++◌, ℕ, zero, suc, ◌+◌, ◌*◌, ◌/◌, ◌%◌, ℤ, pos, eqb, length}
+use Rattle.std.specs.Prelude.{◌≡◌, List, [], ◌∷◌, ◌++◌, ℕ, zero, suc, ◌+◌, ◌*◌, ◌/◌, ◌%◌, ℤ, pos, eqb, length, if◌then◌else◌}
 use Rattle.std.proofs.lemmas.List.Edits.{sets}
-use Rattle.graph.specs.Basic.{if◌then◌else◌}
 use Rattle.graph.specs.Open.{Edge}
 use Rattle.small_patches.specs.SmallPatch.{Pair, pair, edge_over}
 

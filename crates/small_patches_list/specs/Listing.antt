@@ -1,6 +1,5 @@
 -- The lines that the program writes.
-use Rattle.std.specs.Prelude.{Bool, List, [], ◌∷◌, ℕ, zero, suc, ◌+◌}
-use Rattle.graph.specs.Basic.{if◌then◌else◌}
+use Rattle.std.specs.Prelude.{Bool, List, [], ◌∷◌, ℕ, zero, suc, ◌+◌, if◌then◌else◌}
 use Rattle.records.specs.Text.{ascii}
 use Rattle.records.specs.Lines.{line}
 use Rattle.small_patches.specs.SmallPatch.{patch_at}

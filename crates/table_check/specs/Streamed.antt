@@ -1,6 +1,6 @@
 -- The same row by row, so that the distances of one defect at a time need memory. `row-by-row` says that it is the verdict on the whole.
-use Rattle.std.specs.Prelude.{ℕ, zero, suc, ◌*◌, Bool, ◌&&◌, List, ℤ, replicate}
-use Rattle.graph.specs.Basic.{if◌then◌else◌, all_below}
+use Rattle.std.specs.Prelude.{ℕ, zero, suc, ◌*◌, Bool, ◌&&◌, List, ℤ, replicate, if◌then◌else◌}
+use Rattle.graph.specs.Basic.{all_below}
 use Rattle.graph.specs.Word.{word_at}
 use Rattle.table_words.specs.Handed.{distance_in, row_of}
 use Rattle.table_refuse.specs.Refuse.{distances_in_range, head_in_range}

@@ -1,6 +1,6 @@
 -- What the code tests: marks on the vertices that reach a virtual one, and the table row by row.
-use Rattle.std.specs.Prelude.{ℕ, zero, suc, ◌*◌, Bool, true, false, ◌&&◌, not, List, ℤ, ltb, length, replicate}
-use Rattle.graph.specs.Basic.{if◌then◌else◌, all_below}
+use Rattle.std.specs.Prelude.{ℕ, zero, suc, ◌*◌, Bool, true, false, ◌&&◌, not, List, ℤ, ltb, length, replicate, if◌then◌else◌}
+use Rattle.graph.specs.Basic.{all_below}
 use Rattle.graph.specs.Word.{word_at}
 use Rattle.table_words.specs.Sides.{near_in, across_in, weight_in, marked, mark_if, marks_by}
 use Rattle.table_rows.specs.Row.{row_right, cover_marks, free_at}

@@ -1,6 +1,6 @@
 -- The verdict on a table from another decoder: when the answer is yes.
-use Rattle.std.specs.Prelude.{ℕ, ◌+◌, ◌≤◌, ◌<◌, ◌≡◌, ◌≢◌, Bool, ◌&&◌, ◌||◌, List, [], ◌∷◌, map, ℤ, leb, ltb, eqb, length, get_or}
-use Rattle.graph.specs.Basic.{if◌then◌else◌, below, all_below, same}
+use Rattle.std.specs.Prelude.{ℕ, ◌+◌, ◌≤◌, ◌<◌, ◌≡◌, ◌≢◌, Bool, ◌&&◌, ◌||◌, List, [], ◌∷◌, map, ℤ, leb, ltb, eqb, length, get_or, if◌then◌else◌}
+use Rattle.graph.specs.Basic.{below, all_below, same}
 use Rattle.distance.specs.Graph.{WeightedGraph, Positive, sides, weight}
 use Rattle.distance.specs.Distance.{unreachable, dist}
 use Rattle.distance.specs.Nearest.{VirtualInReach, nearest_virtual}

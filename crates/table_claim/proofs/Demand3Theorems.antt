@@ -1,7 +1,6 @@
 -- The theorem: demand 3 (SPECIFICATION 11.3) holds of every suitable graph. Beside it: a node that is read is the one of
 -- the history.
-use Rattle.std.specs.Prelude.{ℕ, ◌≤◌, ◌≡◌, List, ℤ, pos, length, get_or}
-use Rattle.graph.specs.Basic.{if◌then◌else◌}
+use Rattle.std.specs.Prelude.{ℕ, ◌≤◌, ◌≡◌, List, ℤ, pos, length, get_or, if◌then◌else◌}
 use Rattle.graph.specs.Open.{Edge}
 use Rattle.c_api.specs.Words.{Tells}
 use Rattle.dual_module_node.specs.declared.NodeRead.{NodeRead}

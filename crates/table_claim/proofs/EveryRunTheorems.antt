@@ -1,7 +1,6 @@
 -- What holds after every list of calls on lent memory (Lent, Run): blossoms, weights of 0 and refused calls among them.
-use Rattle.std.specs.Prelude.{ℕ, ◌≤◌, ◌≡◌, ◌⊎◌, true, List, [], map, ℤ, length, get_or}
+use Rattle.std.specs.Prelude.{ℕ, ◌≤◌, ◌≡◌, ◌⊎◌, true, List, [], map, ℤ, length, get_or, if◌then◌else◌}
 use Rattle.std.proofs.Common.{subst, ⊎_elim, inl, inr}
-use Rattle.graph.specs.Basic.{if◌then◌else◌}
 use Rattle.graph.specs.Open.{Edge}
 use Rattle.graph.specs.Layout.{state_of, sized, block_sound, memory_refusal, list_refusal}
 use Rattle.gap.specs.declared.Gap.TheVariants.{Over}

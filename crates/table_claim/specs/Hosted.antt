@@ -1,6 +1,5 @@
 -- Lists of calls of the functions that are exported for C (crate `c_api`), each by what its contract promises.
-use Rattle.std.specs.Prelude.{ℕ, ◌≤◌, ◌≡◌, Bool, true, List, [], ◌∷◌, ◌++◌, map, ℤ, pos, leb, length, drop, get_or}
-use Rattle.graph.specs.Basic.{if◌then◌else◌}
+use Rattle.std.specs.Prelude.{ℕ, ◌≤◌, ◌≡◌, Bool, true, List, [], ◌∷◌, ◌++◌, map, ℤ, pos, leb, length, drop, get_or, if◌then◌else◌}
 use Rattle.graph.specs.State.{State}
 use Rattle.graph.specs.Open.{Edge, opened}
 use Rattle.graph.specs.Opening.{edges_from, virtuals_from}

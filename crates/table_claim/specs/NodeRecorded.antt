@@ -1,6 +1,5 @@
 -- What the history of a list of calls says of a node that is read.
-use Rattle.std.specs.Prelude.{ℕ, ◌≤◌, ◌≡◌, List, ltb, length, get_or}
-use Rattle.graph.specs.Basic.{if◌then◌else◌}
+use Rattle.std.specs.Prelude.{ℕ, ◌≤◌, ◌≡◌, List, ltb, length, get_or, if◌then◌else◌}
 use Rattle.dual_module_node.specs.declared.NodeRead.{NodeRead}
 use Rattle.dual_module_node.specs.declared.NodeRead.TheVariants.{Defect, Refused}
 use Rattle.table_theorem.specs.History.{History, entry_at, natural}

@@ -1,6 +1,5 @@
 -- A run: an accepted opening and a list of calls. What the definitions give for it, by the calls alone: the state, the answers, the history.
-use Rattle.std.specs.Prelude.{ℕ, ◌*◌, ◌%◌, ◌≡◌, refl, Bool, true, ◌&&◌, List, [], ◌∷◌, ◌++◌, map, ℤ, pos, eqb, length}
-use Rattle.graph.specs.Basic.{if◌then◌else◌}
+use Rattle.std.specs.Prelude.{ℕ, ◌*◌, ◌%◌, ◌≡◌, refl, Bool, true, ◌&&◌, List, [], ◌∷◌, ◌++◌, map, ℤ, pos, eqb, length, if◌then◌else◌}
 use Rattle.graph.specs.State.{State}
 use Rattle.graph.specs.Word.{to_nat}
 use Rattle.graph.specs.Layout.{block_length, scratch_length, state_of}

@@ -1,6 +1,6 @@
 -- What is said of a table record: the graph and the calls before it, their book, and where its lines stand in written bytes.
-use Rattle.std.specs.Prelude.{ℕ, suc, ◌+◌, ◌-◌, ◌≤◌, ◌≡◌, true, false, List, [], ◌∷◌, ◌++◌, leb, length, take, drop}
-use Rattle.graph.specs.Basic.{if◌then◌else◌, any}
+use Rattle.std.specs.Prelude.{ℕ, suc, ◌+◌, ◌-◌, ◌≤◌, ◌≡◌, true, false, List, [], ◌∷◌, ◌++◌, leb, length, take, drop, if◌then◌else◌}
+use Rattle.graph.specs.Basic.{any}
 use Rattle.graph.specs.Open.{Edge}
 use Rattle.calls.specs.Calls.{Call, ReadTable}
 use Rattle.records.specs.Record.{Record, ask}

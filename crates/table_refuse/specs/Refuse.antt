@@ -1,6 +1,6 @@
 -- What refuses a table from another decoder.
-use Rattle.std.specs.Prelude.{ℕ, ◌*◌, Bool, ◌&&◌, not, List, map, ℤ, leb, ltb, eqb, length}
-use Rattle.graph.specs.Basic.{if◌then◌else◌, all, distinct}
+use Rattle.std.specs.Prelude.{ℕ, ◌*◌, Bool, ◌&&◌, not, List, map, ℤ, leb, ltb, eqb, length, if◌then◌else◌}
+use Rattle.graph.specs.Basic.{all, distinct}
 use Rattle.graph.specs.Word.{to_nat}
 use Rattle.graph.specs.Open.{dual_limit, growth_limit, sizes_ok, edge_ok}
 use Rattle.graph.specs.Opening.{edges_in, edges_from, virtuals_from}

@@ -1,7 +1,7 @@
 -- The history of a list of calls, or its book (SPECIFICATION 11.1): each node's vertex, grow state and dual variable,
 -- told by the calls and by the answers of the definitions alone. The growth table of a state never enters it.
-use Rattle.std.specs.Prelude.{ℕ, suc, Bool, true, false, ◌&&◌, not, List, [], ◌∷◌, ◌++◌, map, ℤ, pos, negsuc, neg_ℤ, ◌+ℤ◌, eqb, get_or, set}
-use Rattle.graph.specs.Basic.{if◌then◌else◌, below}
+use Rattle.std.specs.Prelude.{ℕ, suc, Bool, true, false, ◌&&◌, not, List, [], ◌∷◌, ◌++◌, map, ℤ, pos, negsuc, neg_ℤ, ◌+ℤ◌, eqb, get_or, set, if◌then◌else◌}
+use Rattle.graph.specs.Basic.{below}
 use Rattle.graph.specs.State.{State, stay, growing, shrinking}
 use Rattle.calls.specs.Insert.{insert_defect, insert_blossom}
 use Rattle.calls.specs.Calls.{set_grow_state, max_update_length, grow_dual_node, signed_for, toward, advance, clear, Call, InsertDefect, InsertBlossom, SetGrowState, Prepare, UpdateLength, Grow, ReadTable, Advance, Contacts, RepresentativeVertex, Clear, RenewActiveList, PrepareAll, GroupLength, Round, RemoveBlossom, LoadEdgeModifier, respond}

@@ -1,6 +1,5 @@
 -- What a lab hands over: the words, and the graph and the numbers that they give.
-use Rattle.std.specs.Prelude.{ℕ, zero, suc, ◌*◌, List, map, ℤ, pos, negsuc, leb, get_or, take, drop}
-use Rattle.graph.specs.Basic.{if◌then◌else◌}
+use Rattle.std.specs.Prelude.{ℕ, zero, suc, ◌*◌, List, map, ℤ, pos, negsuc, leb, get_or, take, drop, if◌then◌else◌}
 use Rattle.graph.specs.Word.{to_nat}
 use Rattle.graph.specs.Opening.{edges_from, virtuals_from}
 use Rattle.distance.specs.Graph.{WeightedGraph}

@@ -1,6 +1,5 @@
 -- Sides in the words of the edges, and marks on vertices.
-use Rattle.std.specs.Prelude.{ℕ, zero, suc, ◌+◌, ◌-◌, ◌*◌, ◌/◌, ◌%◌, Bool, List, ℤ, ltb, get_or, set}
-use Rattle.graph.specs.Basic.{if◌then◌else◌}
+use Rattle.std.specs.Prelude.{ℕ, zero, suc, ◌+◌, ◌-◌, ◌*◌, ◌/◌, ◌%◌, Bool, List, ℤ, ltb, get_or, set, if◌then◌else◌}
 use Rattle.graph.specs.Opening.{given_at}
 
 -- ---- sides, in the words of the edges

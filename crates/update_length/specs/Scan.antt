@@ -1,7 +1,7 @@
 -- The length answer on the state as it is.
-use Rattle.std.specs.Prelude.{ℕ, ◌+◌, ◌-◌, ◌/◌, min, Bool, true, false, ◌&&◌, not, List, [], ◌∷◌, ℤ, pos, negsuc, neg_ℤ, leb, eqb}
+use Rattle.std.specs.Prelude.{ℕ, ◌+◌, ◌-◌, ◌/◌, min, Bool, true, false, ◌&&◌, not, List, [], ◌∷◌, ℤ, pos, negsuc, neg_ℤ, leb, eqb, if◌then◌else◌}
 use Rattle.std.proofs.Math.IntN.{sub_ℕ}
-use Rattle.graph.specs.Basic.{if◌then◌else◌, fold}
+use Rattle.graph.specs.Basic.{fold}
 use Rattle.graph.specs.State.{State, Overgrown, NodeClass, defect_vertex, blossom, removed, opposite, end_at, growth_at, holder_at, grandson_at, sides_at, passable, class_of, grow_state_of, dual_of, boundary_of, overgrown_of, grown_over, weight_over, growing, shrinking, up}
 use Rattle.answers.specs.declared.Answer.{Answer}
 use Rattle.answers.specs.declared.MaxUpdateLength.{MaxUpdateLength}

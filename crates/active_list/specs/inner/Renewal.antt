@@ -1,6 +1,5 @@
 -- Renewal in place, entry by entry: what one entry does to the list and to the number of those kept.
-use Rattle.std.specs.Prelude.{ℕ, ◌+◌, List, get_or, set}
-use Rattle.graph.specs.Basic.{if◌then◌else◌}
+use Rattle.std.specs.Prelude.{ℕ, ◌+◌, List, get_or, set, if◌then◌else◌}
 use Rattle.graph.specs.State.{State}
 use Rattle.graph.specs.Active.{is_active}
 

@@ -1,10 +1,10 @@
 -- The loop of the renewal: the entries that are kept stand in front, those to come where they stood.
-use Rattle.std.specs.Prelude.{ℕ, ◌+◌, ◌≤◌, ◌<◌, ◌≡◌, ◌≢◌, Bool, List, [], ◌∷◌, ◌++◌, ℤ, ltb, length, get_or, set, take, drop}
+use Rattle.std.specs.Prelude.{ℕ, ◌+◌, ◌≤◌, ◌<◌, ◌≡◌, ◌≢◌, Bool, List, [], ◌∷◌, ◌++◌, ℤ, ltb, length, get_or, set, take, drop, if◌then◌else◌}
 use Rattle.std.proofs.Common.{arith, add-one, sym, ◌∙◌, length-set, take-suc, take_all, take-suc-set, drop-set-lt, drop-drop, get_or-drop, ltb-true, eq-eqb, ne_eqb}
 use Rattle.std.proofs.Math.Path.{refl, ap}
 use Rattle.std.proofs.Math.Bool.{true, false}
 use Rattle.std.proofs.Math.Dec.{eqb}
-use Rattle.graph.specs.Basic.{if◌then◌else◌, only}
+use Rattle.graph.specs.Basic.{only}
 use Rattle.graph.specs.State.{State, node_count, grow_state_of, with_active, stay}
 use Rattle.graph.specs.Sound.{active_sound}
 use Rattle.graph.specs.Active.{is_active, renewed}

@@ -1,6 +1,5 @@
 -- A list of calls while it is made: what is known of the memory, what one call leaves, and what is left to do.
-use Rattle.std.specs.Prelude.{ℕ, ◌+◌, ◌*◌, ◌≤◌, ◌≡◌, ◌≢◌, Bool, true, List, ◌∷◌, ◌++◌, ℤ, eqb, length, take, drop}
-use Rattle.graph.specs.Basic.{if◌then◌else◌}
+use Rattle.std.specs.Prelude.{ℕ, ◌+◌, ◌*◌, ◌≤◌, ◌≡◌, ◌≢◌, Bool, true, List, ◌∷◌, ◌++◌, ℤ, eqb, length, take, drop, if◌then◌else◌}
 use Rattle.graph.specs.Layout.{state_of, memory_refusal}
 use Rattle.dual_module.specs.inner.Known.{KnownZero}
 use Rattle.c_api_calls.specs.ListCall.{ListCall}

@@ -1,10 +1,9 @@
 -- What is known of memory after a call, and the tests that are left then.
-use Rattle.std.specs.Prelude.{ℕ, ◌+◌, ◌≤◌, ◌≡◌, ◌≢◌, Bool, true, false, ◌||◌, not, ℤ, eqb, length}
+use Rattle.std.specs.Prelude.{ℕ, ◌+◌, ◌≤◌, ◌≡◌, ◌≢◌, Bool, true, false, ◌||◌, not, ℤ, eqb, length, if◌then◌else◌}
 use Rattle.std.proofs.Common.{arith, ap, subst, ◌∙◌, eq-eqb, ne_eqb, eqb-true}
 use Rattle.std.proofs.Math.Path.{refl, sym}
 use mathlib.Core.List.{List, [], ◌∷◌}
 use Rattle.std.proofs.lemmas.Bool.{eqb-false, not-false}
-use Rattle.graph.specs.Basic.{if◌then◌else◌}
 use Rattle.graph.specs.State.{vertex_count, edge_count}
 use Rattle.graph.specs.Sound.{state_sound}
 use Rattle.graph.specs.Layout.{state_of, scratch_size, sized, block_sound, memory_fits, block_refusal, memory_refusal}

@@ -1,10 +1,10 @@
 -- The calls of a list, one after another.
-use Rattle.std.specs.Prelude.{ℕ, zero, suc, ◌+◌, ◌-◌, ◌*◌, ◌≤◌, ◌<◌, ◌%◌, min, ◌≡◌, ◌≢◌, Bool, false, List, [], ◌∷◌, ◌++◌, map, ℤ, length, take, drop, get_or, eqb}
+use Rattle.std.specs.Prelude.{ℕ, zero, suc, ◌+◌, ◌-◌, ◌*◌, ◌≤◌, ◌<◌, ◌%◌, min, ◌≡◌, ◌≢◌, Bool, false, List, [], ◌∷◌, ◌++◌, map, ℤ, length, take, drop, get_or, eqb, if◌then◌else◌}
 use Rattle.std.proofs.Common.{arith, add-one, sym, subst, ◌∙◌, length-take, length-drop, drop_of_length-le, take-suc, drop-cons, drop-drop, take_all}
 use Rattle.std.proofs.Math.Path.{refl, ap}
 use Rattle.std.proofs.Math.Bool.{true}
 use Rattle.std.proofs.Math.ListN.{length-map}
-use Rattle.graph.specs.Basic.{if◌then◌else◌, below}
+use Rattle.graph.specs.Basic.{below}
 use Rattle.graph.specs.laws.State.{if-both}
 use Rattle.graph.specs.laws.Members.{clash, length-below}
 use Rattle.graph.specs.laws.Opened.{get_d-below}

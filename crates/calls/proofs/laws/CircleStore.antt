@@ -1,8 +1,8 @@
 -- A circle that is refused 9 has passed 3, 6, 7 and 8.
-use Rattle.std.specs.Prelude.{◌≡◌, ℕ, suc, ◌+◌, ◌*◌, ◌%◌, ◌<◌, ◌≤◌, Bool, true, false, not, ◌||◌, ltb, ◌≢◌, List, length, ◌==◌, nat_le, nat_lt}
+use Rattle.std.specs.Prelude.{◌≡◌, ℕ, suc, ◌+◌, ◌*◌, ◌%◌, ◌<◌, ◌≤◌, Bool, true, false, not, ◌||◌, ltb, ◌≢◌, List, length, ◌==◌, nat_le, nat_lt, if◌then◌else◌}
 use Rattle.std.proofs.Common.{arith, ltb-true, ltb-false}
 use Rattle.std.specs.Prelude.{refl}
-use Rattle.graph.specs.Basic.{if◌then◌else◌, any, distinct}
+use Rattle.graph.specs.Basic.{any, distinct}
 use Rattle.graph.specs.State.{State, vertex_count, side_count, node_count, shrinking}
 use Rattle.graph.specs.laws.Members.{or-neither-left, or-neither-right}
 use Rattle.calls.specs.Refuse.{bad_node, in_blossom, entries_but, store_short}

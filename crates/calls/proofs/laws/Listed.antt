@@ -1,8 +1,8 @@
 -- What the group lists fits into a list of N entries, on every sound state; and what it answers without an active node.
-use Rattle.std.specs.Prelude.{◌≡◌, ℕ, suc, ◌+◌, ◌≤◌, Bool, true, false, not, ◌&&◌, List, [], ◌∷◌, length, ◌==◌, nat_le, nat_lt}
+use Rattle.std.specs.Prelude.{◌≡◌, ℕ, suc, ◌+◌, ◌≤◌, Bool, true, false, not, ◌&&◌, List, [], ◌∷◌, length, ◌==◌, nat_le, nat_lt, if◌then◌else◌}
 use Rattle.std.proofs.Common.{arith, ap, ◌∙◌, length-append}
 use Rattle.std.proofs.Math.Path.{refl}
-use Rattle.graph.specs.Basic.{if◌then◌else◌, all, only}
+use Rattle.graph.specs.Basic.{all, only}
 use Rattle.graph.specs.State.{State, node_count, with_active, up, down}
 use Rattle.graph.specs.Sound.{sound, active_sound}
 use Rattle.graph.specs.Active.{is_active, renewed}

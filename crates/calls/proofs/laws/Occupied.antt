@@ -1,8 +1,8 @@
 -- Laws of the test for refusal 5 and of the sides that it reads.
-use Rattle.std.specs.Prelude.{◌≡◌, ℕ, zero, suc, ◌+◌, ◌-◌, ◌<◌, ◌≤◌, true, false, ◌||◌, ◌≢◌, List, [], ◌∷◌, length, drop, nat_le, nat_lt, slice_index}
+use Rattle.std.specs.Prelude.{◌≡◌, ℕ, zero, suc, ◌+◌, ◌-◌, ◌<◌, ◌≤◌, true, false, ◌||◌, ◌≢◌, List, [], ◌∷◌, length, drop, nat_le, nat_lt, slice_index, if◌then◌else◌}
 use Rattle.std.proofs.Common.{add-one, arith, sym, ap, ◌∙◌, drop_of_length-le, drop-cons}
 use Rattle.std.proofs.Math.Path.{refl}
-use Rattle.graph.specs.Basic.{if◌then◌else◌, any}
+use Rattle.graph.specs.Basic.{any}
 use Rattle.graph.specs.State.{State, vertex_count, node_count, sides_at, shrinking}
 use Rattle.graph.specs.laws.State.{passed, if-both}
 use Rattle.graph.specs.laws.Members.{by-test, clash, or-neither-left, or-neither-right}

@@ -1,6 +1,5 @@
 -- What a call asks of the memory that is lent to it, and what it leaves there.
-use Rattle.std.specs.Prelude.{◌≡◌, ℕ, ◌<◌, true, List, length, ℤ, neg_ℤ, ◌==◌}
-use Rattle.graph.specs.Basic.{if◌then◌else◌}
+use Rattle.std.specs.Prelude.{◌≡◌, ℕ, ◌<◌, true, List, length, ℤ, neg_ℤ, ◌==◌, if◌then◌else◌}
 use Rattle.graph.specs.State.{up, vertex_count, edge_count, side_count, node_count, parent_of}
 use Rattle.graph.specs.Sound.{sound}
 use Rattle.graph.specs.Layout.{state_of}

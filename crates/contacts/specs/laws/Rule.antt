@@ -1,8 +1,8 @@
 -- The list and the rule, both directions; the edges rise.
-use Rattle.std.specs.Prelude.{ℕ, zero, suc, ◌+◌, ◌*◌, ◌≤◌, ◌<◌, ◌≡◌, refl, Bool, true, false, not, ◌&&◌, List, [], ◌∷◌, ◌++◌, map, eqb}
+use Rattle.std.specs.Prelude.{ℕ, zero, suc, ◌+◌, ◌*◌, ◌≤◌, ◌<◌, ◌≡◌, refl, Bool, true, false, not, ◌&&◌, List, [], ◌∷◌, ◌++◌, map, eqb, if◌then◌else◌}
 use Rattle.std.proofs.Common.{arith, add-one, sym, ap, ◌∙◌, eqb-true, eq-eqb, ne_eqb}
 use Rattle.std.proofs.lemmas.Bool.{eqb-false, not-true}
-use Rattle.graph.specs.Basic.{if◌then◌else◌, member, only, below}
+use Rattle.graph.specs.Basic.{member, only, below}
 use Rattle.graph.specs.State.{State, edge_count, end_at, growth_at, holder_at, weight_at, virtual_at, vertex_holder_at}
 use Rattle.graph.specs.laws.State.{and_left, and_right}
 use Rattle.graph.specs.laws.Members.{by-test, both, member-cons, member-nil, member-head, member-tail, member-only, only-member, member_below, below-member}

@@ -1,10 +1,9 @@
 -- What the calls on lent memory leave: a refusal with nothing changed, or what their cores leave.
-use Rattle.std.specs.Prelude.{◌≡◌, ℕ, zero, suc, ◌+◌, ◌≤◌, Bool, true, false, not, ◌||◌, ◌≢◌, List, [], ◌∷◌, ◌++◌, map, length, replicate, ℤ, pos, negsuc, ◌==◌, nat_lt, unsigned_abs}
+use Rattle.std.specs.Prelude.{◌≡◌, ℕ, zero, suc, ◌+◌, ◌≤◌, Bool, true, false, not, ◌||◌, ◌≢◌, List, [], ◌∷◌, ◌++◌, map, length, replicate, ℤ, pos, negsuc, ◌==◌, nat_lt, unsigned_abs, if◌then◌else◌}
 use Rattle.std.proofs.Common.{arith, sym, ◌∙◌}
 use Rattle.std.proofs.Math.Path.{refl, ap}
 use Rattle.std.proofs.lemmas.List.{length-replicate, length-map}
 use borrow.Author.Tests.{eq-eqb, ne_eqb, eqb-true, eqb-false, not-true}
-use Rattle.graph.specs.Basic.{if◌then◌else◌}
 use Rattle.graph.specs.State.{State, up, down, stay, growing, edge_count, grow_state_of}
 use Rattle.graph.specs.Layout.{state_of, memory_refusal}
 use Rattle.graph.specs.Form.{Formed}

@@ -1,7 +1,6 @@
 -- Laws behind the calls that only read: a refusal of what is lent, or the list filled.
-use Rattle.std.specs.Prelude.{ℕ, ◌*◌, ◌≡◌, ◌≢◌, true, false, List, map, ℤ, pos, eqb, length}
+use Rattle.std.specs.Prelude.{ℕ, ◌*◌, ◌≡◌, ◌≢◌, true, false, List, map, ℤ, pos, eqb, length, if◌then◌else◌}
 use Rattle.std.proofs.Common.{sym, ◌∙◌, eq-eqb, ne_eqb}
-use Rattle.graph.specs.Basic.{if◌then◌else◌}
 use Rattle.graph.specs.State.{State, edge_count}
 use Rattle.graph.specs.Layout.{state_of}
 use Rattle.graph.specs.laws.Form.{laid-shape}

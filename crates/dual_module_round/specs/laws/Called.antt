@@ -1,5 +1,5 @@
 -- A trial on a second block: what is copied, what is answered, and what refuses it before it starts.
-use Rattle.std.specs.Prelude.{ℕ, zero, suc, ◌+◌, ◌*◌, ◌≤◌, ◌<◌, ◌≢◌, Bool, ◌&&◌, not, List, [], ◌++◌, ℤ, pos, negsuc, nat_abs, get_or, set, take, drop}
+use Rattle.std.specs.Prelude.{ℕ, zero, suc, ◌+◌, ◌*◌, ◌≤◌, ◌<◌, ◌≢◌, Bool, ◌&&◌, not, List, [], ◌++◌, ℤ, pos, negsuc, nat_abs, get_or, set, take, drop, if◌then◌else◌}
 use Rattle.std.proofs.Common.{arith, add-one, sym, ◌∙◌, append-nil, drop_of_length-le, take_all}
 use Rattle.std.proofs.Math.Path.{◌≡◌, refl, ap}
 use Rattle.std.proofs.Math.Bool.{true, false}
@@ -9,7 +9,6 @@ use Rattle.std.proofs.Math.ListN.{length}
 use Rattle.std.proofs.lemmas.List.{length-replicate}
 use Rattle.std.proofs.Math.Seq.{paste-suc}
 use borrow.Author.Tests.{eq-eqb, ne_eqb, eqb-true, eqb-false, ltb-true}
-use Rattle.graph.specs.Basic.{if◌then◌else◌}
 use Rattle.graph.specs.State.{State}
 use Rattle.graph.specs.Sound.{sound}
 use Rattle.graph.specs.Active.{renewed}

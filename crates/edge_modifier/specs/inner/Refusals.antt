@@ -1,6 +1,6 @@
 -- The refusals of a change of weights behind each other, as a chain.
-use Rattle.std.specs.Prelude.{ℕ, ◌&&◌, List, eqb}
-use Rattle.graph.specs.Basic.{if◌then◌else◌, all}
+use Rattle.std.specs.Prelude.{ℕ, ◌&&◌, List, eqb, if◌then◌else◌}
+use Rattle.graph.specs.Basic.{all}
 use Rattle.graph.specs.State.{State, node_count}
 use Rattle.calls.specs.Erasures.{EdgeWeight, weight_in_range}
 

@@ -1,12 +1,12 @@
 -- The tests of all pairs, and the weights set pair by pair.
-use Rattle.std.specs.Prelude.{ℕ, zero, suc, ◌+◌, ◌*◌, ◌/◌, ◌≤◌, ◌<◌, ◌≡◌, refl, ◌≢◌, Bool, false, ◌&&◌, ◌||◌, not, List, [], ◌∷◌, ℤ, eqb, length, get_or, take}
+use Rattle.std.specs.Prelude.{ℕ, zero, suc, ◌+◌, ◌*◌, ◌/◌, ◌≤◌, ◌<◌, ◌≡◌, refl, ◌≢◌, Bool, false, ◌&&◌, ◌||◌, not, List, [], ◌∷◌, ℤ, eqb, length, get_or, take, if◌then◌else◌}
 use native.Mathlib.Omega.{arith}
 use Rattle.std.proofs.Common.{sym, ◌∙◌}
 use Rattle.std.proofs.Math.Path.{ap, subst}
 use Rattle.std.proofs.Math.Bool.{true}
 use Rattle.std.proofs.Math.ListN.{length-map}
 use borrow.Author.Tests.{ltb-true, lt-ltb, le-ltb, leb-true, le-leb, lt-leb}
-use Rattle.graph.specs.Basic.{if◌then◌else◌, fold, all, below}
+use Rattle.graph.specs.Basic.{fold, all, below}
 use Rattle.graph.specs.State.{State, edge_count, node_count, with_edge_weight, with_reweighted}
 use Rattle.graph.specs.Opening.{given_at}
 use Rattle.graph.specs.Layout.{state_of}

@@ -1,6 +1,5 @@
 -- The sides at a vertex, as the words of a block have them: where they begin and where they end.
-use Rattle.std.specs.Prelude.{ℕ, ◌+◌, ◌*◌, ◌≡◌, true, List, ℤ, ltb, get_or}
-use Rattle.graph.specs.Basic.{if◌then◌else◌}
+use Rattle.std.specs.Prelude.{ℕ, ◌+◌, ◌*◌, ◌≡◌, true, List, ℤ, ltb, get_or, if◌then◌else◌}
 use Rattle.graph.specs.State.{vertex_count, side_count}
 use Rattle.graph.specs.Layout.{e_of, rows_of, row, rising_to, state_of}
 use Rattle.graph.specs.Rows.{first_row}

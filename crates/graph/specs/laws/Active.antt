@@ -1,9 +1,9 @@
 -- Laws about the active list: what keeps it sound, and who stands in it.
-use Rattle.std.specs.Prelude.{ℕ, ◌≤◌, ◌<◌, ◌≡◌, refl, ◌≢◌, Bool, true, ◌&&◌, not, List, [], ◌∷◌, eqb, leb}
+use Rattle.std.specs.Prelude.{ℕ, ◌≤◌, ◌<◌, ◌≡◌, refl, ◌≢◌, Bool, true, ◌&&◌, not, List, [], ◌∷◌, eqb, leb, if◌then◌else◌}
 use Rattle.std.proofs.Common.{arith, ◌∙◌, eqb-true, eq-eqb, ne_eqb, lt-ltb, ltb-true}
 use Rattle.std.proofs.Math.Dec.{ltb}
 use Rattle.std.proofs.lemmas.Bool.{eqb-false, not-true}
-use Rattle.graph.specs.Basic.{if◌then◌else◌, all, only, member, distinct, all_below}
+use Rattle.graph.specs.Basic.{all, only, member, distinct, all_below}
 use Rattle.graph.specs.State.{State, NodeClass, defect_vertex, blossom, removed, class_of, vertex_count, edge_count, side_count, node_count, grow_state_of, with_active, stay}
 use Rattle.graph.specs.Sound.{node_or_none, stored_defect, edge_sound, vertex_sound, side_sound, class_sound, parent_sound, over_sound, own_lists, node_sound, entries_of, entries, active_sound, sound}
 use Rattle.graph.specs.Active.{joined_to, join_active, activated, is_active, renewed, active_in, ActiveAll}

@@ -2,10 +2,10 @@
 use Prim.Native.Nat.{ℕ, zero, suc, ◌+◌, ◌-◌, ◌*◌, ◌/◌, ◌≤◌, ◌<◌}
 use Rattle.std.proofs.Common.{arith, add-one, sym, ◌∙◌, take-suc, take_all, get_or-take, leb-true, lt-ltb, eq-eqb, ne_eqb}
 use Rattle.std.proofs.Math.Decide.{ℕ_discrete as dec_eq}
-use Rattle.std.specs.Prelude.{◌≡◌, ◌≢◌, Bool, true, false, ◌&&◌, ◌||◌, not, ℤ, eqb, leb, ltb, length, get_or, take}
+use Rattle.std.specs.Prelude.{◌≡◌, ◌≢◌, Bool, true, false, ◌&&◌, ◌||◌, not, ℤ, eqb, leb, ltb, length, get_or, take, if◌then◌else◌}
 use Rattle.std.proofs.Math.Path.{refl}
 use mathlib.Core.List.{List, [], ◌∷◌, map}
-use Rattle.graph.specs.Basic.{if◌then◌else◌, all_below, all}
+use Rattle.graph.specs.Basic.{all_below, all}
 use Rattle.graph.specs.State.{State, defect_vertex, blossom, removed, removed_place, class_of, vertex_count, edge_count, side_count, node_count, end_at, parent_of, overgrown_of}
 use Rattle.graph.specs.Sound.{is_defect, is_removed, edge_sound, vertex_sound, class_sound, over_sound, own_lists, node_sound}
 use Rattle.graph.specs.laws.State.{and_left, and_right, by-parity}

@@ -1,7 +1,7 @@
 -- What an accepted growth has shown: each refusal that is not given, as a fact.
-use Rattle.std.specs.Prelude.{ℕ, ◌+◌, ◌≤◌, ◌≡◌, ◌≢◌, Bool, true, false, ◌&&◌, ◌||◌, not, List, eqb, ltb}
+use Rattle.std.specs.Prelude.{ℕ, ◌+◌, ◌≤◌, ◌≡◌, ◌≢◌, Bool, true, false, ◌&&◌, ◌||◌, not, List, eqb, ltb, if◌then◌else◌}
 use Rattle.std.proofs.Common.{ne_eqb, ltb-false}
-use Rattle.graph.specs.Basic.{if◌then◌else◌, any, member}
+use Rattle.graph.specs.Basic.{any, member}
 use Rattle.graph.specs.State.{State, Overgrown, opposite, growth_at, holder_at, dual_of, boundary_of, overgrown_of, grown_over, weight_over, up}
 use Rattle.graph.specs.Open.{dual_limit, growth_limit}
 use Rattle.graph.specs.laws.State.{passed}

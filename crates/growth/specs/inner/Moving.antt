@@ -1,6 +1,6 @@
 -- Growth by one number or one side at a time: refusal k (10, 11 or 12) tells which test is meant.
-use Rattle.std.specs.Prelude.{ℕ, ◌+◌, ◌<◌, ◌≤◌, ◌≡◌, ◌≢◌, Bool, true, ◌||◌, ltb, eqb, length}
-use Rattle.graph.specs.Basic.{if◌then◌else◌, any, member, distinct}
+use Rattle.std.specs.Prelude.{ℕ, ◌+◌, ◌<◌, ◌≤◌, ◌≡◌, ◌≢◌, Bool, true, ◌||◌, ltb, eqb, length, if◌then◌else◌}
+use Rattle.graph.specs.Basic.{any, member, distinct}
 use Rattle.graph.specs.State.{State, up, node_count, growth_at, dual_of, boundary_of, overgrown_of, with_dual, with_overgrown}
 use Rattle.graph.specs.Open.{dual_limit, growth_limit}
 use Rattle.graph.specs.Node.{Movable, moved, top_amount}

@@ -1,10 +1,9 @@
 -- What lent memory has that is not refused.
-use Rattle.std.specs.Prelude.{ℕ, zero, suc, ◌*◌, ◌≤◌, ◌≡◌, refl, Bool, false, ◌&&◌, List, ℤ, length}
+use Rattle.std.specs.Prelude.{ℕ, zero, suc, ◌*◌, ◌≤◌, ◌≡◌, refl, Bool, false, ◌&&◌, List, ℤ, length, if◌then◌else◌}
 use native.Mathlib.Omega.{arith}
 use Rattle.std.proofs.Math.Bool.{true}
 use Rattle.std.proofs.Math.Dec.{eqb}
 use borrow.Author.Tests.{eqb-true}
-use Rattle.graph.specs.Basic.{if◌then◌else◌}
 use Rattle.graph.specs.State.{vertex_count, edge_count}
 use Rattle.graph.specs.Sound.{sound}
 use Rattle.graph.specs.Layout.{v_of, e_of, scratch_length, scratch_size, state_of, sized, block_sound, memory_fits, block_refusal, memory_refusal, list_refusal}

@@ -1,8 +1,7 @@
 -- A block in form that holds a sound state passes the tests of lent memory: the converse of the laws of a block in crate
 -- `graph`. It is refused for lengths alone.
-use Rattle.std.specs.Prelude.{ℕ, ◌+◌, ◌*◌, ◌≤◌, ◌≡◌, refl, true, ◌&&◌, List, [], ◌∷◌, ℤ, leb, eqb, length, get_or}
+use Rattle.std.specs.Prelude.{ℕ, ◌+◌, ◌*◌, ◌≤◌, ◌≡◌, refl, true, ◌&&◌, List, [], ◌∷◌, ℤ, leb, eqb, length, get_or, if◌then◌else◌}
 use Rattle.std.proofs.Common.{arith, sym, le-leb, eq-eqb}
-use Rattle.graph.specs.Basic.{if◌then◌else◌}
 use Rattle.graph.specs.State.{vertex_count, edge_count}
 use Rattle.graph.specs.Open.{sizes_ok}
 use Rattle.graph.specs.Sound.{state_sound}

@@ -1,6 +1,6 @@
 -- The refusals of an opening behind its sizes, as a chain.
-use Rattle.std.specs.Prelude.{ℕ, Bool, List, ltb}
-use Rattle.graph.specs.Basic.{if◌then◌else◌, all}
+use Rattle.std.specs.Prelude.{ℕ, Bool, List, ltb, if◌then◌else◌}
+use Rattle.graph.specs.Basic.{all}
 use Rattle.graph.specs.Open.{Edge, edge_ok}
 
 -- the refusals behind each other: of the edges; of the virtual vertices; of the lengths

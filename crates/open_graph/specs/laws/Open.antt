@@ -1,10 +1,10 @@
 -- The refusals of an opening: the chain link by link, and the tests of all edges and of all virtual vertices.
-use Rattle.std.specs.Prelude.{ℕ, ◌+◌, ◌≤◌, ◌<◌, ◌≡◌, refl, Bool, true, false, ◌&&◌, not, List, ℤ, pos, negsuc, ltb, eqb, length, get_or, drop}
+use Rattle.std.specs.Prelude.{ℕ, ◌+◌, ◌≤◌, ◌<◌, ◌≡◌, refl, Bool, true, false, ◌&&◌, not, List, ℤ, pos, negsuc, ltb, eqb, length, get_or, drop, if◌then◌else◌}
 use Rattle.std.proofs.Common.{add-one, sym, ap, ◌∙◌, drop_of_length-le, lt-ltb, le-ltb, ltb-true, eqb-true}
 use Rattle.std.proofs.lemmas.List.{length-map}
 use Rattle.std.proofs.Math.ListN.{get_or-eq_default}
 use Rattle.std.proofs.Math.Seq.{drop-cons}
-use Rattle.graph.specs.Basic.{if◌then◌else◌, all, below}
+use Rattle.graph.specs.Basic.{all, below}
 use Rattle.graph.specs.laws.State.{and_left, and_right}
 use Rattle.graph.specs.laws.Members.{length-below, all-member, member-at}
 use Rattle.graph.specs.Word.{to_nat, word_at}

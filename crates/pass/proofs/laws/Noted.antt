@@ -1,13 +1,13 @@
 -- Noting each vertex once: which entries are left of a noted list, and what the loops over it make of the work.
 use Prim.Native.Nat.{ℕ, ◌+◌}
 use Rattle.std.proofs.Math.Decide.{ℕ_discrete as dec_eq}
-use Rattle.std.specs.Prelude.{◌≡◌, Bool, true, false, eqb, length, get_or}
+use Rattle.std.specs.Prelude.{◌≡◌, Bool, true, false, eqb, length, get_or, if◌then◌else◌}
 use Rattle.std.proofs.Math.Path.{refl, ap}
 use Rattle.std.proofs.Common.{sym, ◌∙◌, set-set}
 use mathlib.Core.List.{List, [], ◌∷◌, ◌++◌}
 use Rattle.std.proofs.Math.ListN.{set}
 use Rattle.std.proofs.Math.Seq.{set_comm}
-use Rattle.graph.specs.Basic.{if◌then◌else◌, fold, member}
+use Rattle.graph.specs.Basic.{fold, member}
 use Rattle.graph.specs.State.{Graph, opposite, holder_at, sides_at, vertex_holder_at, with_vertices, with_sides, with_holder, with_grandson, with_vertex_holder, with_vertex_grandson, held_side, free_side, held_vertex, free_vertex}
 use Rattle.graph.specs.laws.Members.{by-test}
 use Rattle.pass.specs.Work.{Work, on_state, keep, keep_once, note, push, call_another, finish_pass}

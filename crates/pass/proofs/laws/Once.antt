@@ -1,11 +1,11 @@
 -- A pass that notes each vertex once gives what the pass that notes it again and again gives, on every state.
 use Prim.Native.Nat.{ℕ, ◌+◌}
-use Rattle.std.specs.Prelude.{◌≡◌, Bool, true, false, not, ◌&&◌, List, [], length, get_or}
+use Rattle.std.specs.Prelude.{◌≡◌, Bool, true, false, not, ◌&&◌, List, [], length, get_or, if◌then◌else◌}
 use Rattle.std.proofs.Math.Path.{refl, ap}
 use Rattle.std.proofs.Common.{sym, subst, ◌∙◌}
 use Rattle.std.proofs.Math.Dec.{eqb}
 use Rattle.std.proofs.Math.ListN.{set}
-use Rattle.graph.specs.Basic.{if◌then◌else◌, fold, member}
+use Rattle.graph.specs.Basic.{fold, member}
 use Rattle.graph.specs.State.{State, Graph, Vertices, opposite, end_at, growth_at, grandson_at, sides_at, defect_at, vertex_holder_at, boundary_of, overgrown_of, with_vertices, with_sides, with_holder, with_grandson, with_vertex_holder, with_vertex_grandson, held_side, held_vertex, free_vertex}
 use Rattle.graph.specs.laws.Members.{by-test}
 use Rattle.graph.specs.laws.State.{if-both, fold-keeps, kept_refl, kept-free-vertex}

@@ -1,6 +1,5 @@
 -- Whether another pass is called for, as a number: 0 for no.
-use Rattle.std.specs.Prelude.{ℕ, Bool, not, eqb}
-use Rattle.graph.specs.Basic.{if◌then◌else◌}
+use Rattle.std.specs.Prelude.{ℕ, Bool, not, eqb, if◌then◌else◌}
 
 -- a number that is not 0 calls for another pass
 unfoldable pub called : ℕ → Bool

@@ -1,6 +1,5 @@
 -- How many vertices are free.
-use Rattle.std.specs.Prelude.{ℕ, suc, List, [], ◌∷◌, eqb}
-use Rattle.graph.specs.Basic.{if◌then◌else◌}
+use Rattle.std.specs.Prelude.{ℕ, suc, List, [], ◌∷◌, eqb, if◌then◌else◌}
 use Rattle.graph.specs.State.{State}
 
 -- how many entries are 0

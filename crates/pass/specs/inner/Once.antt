@@ -1,7 +1,7 @@
 -- The passes as they run in memory: a vertex is noted the first time only, and has its new holder from then on. By laws/Once they give the
 -- state, kept sides, overgrown stack and call for another pass of `growPass` and `shrinkPass`, on every state.
-use Rattle.std.specs.Prelude.{ℕ, ◌+◌, ◌&&◌, ◌≡◌, eqb}
-use Rattle.graph.specs.Basic.{if◌then◌else◌, fold}
+use Rattle.std.specs.Prelude.{ℕ, ◌+◌, ◌&&◌, ◌≡◌, eqb, if◌then◌else◌}
+use Rattle.graph.specs.Basic.{fold}
 use Rattle.graph.specs.State.{State, opposite, end_at, growth_at, grandson_at, sides_at, defect_at, vertex_holder_at, boundary_of, overgrown_of, held_side, free_vertex, with_vertex_holder}
 use Rattle.pass.specs.Work.{Work, on_state, keep, keep_once, note, start_pass}
 use Rattle.pass.specs.Grow.{reaches, take_vertex}

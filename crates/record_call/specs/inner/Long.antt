@@ -1,6 +1,6 @@
 -- What refuses a circle that is too long to be accepted, entry by entry.
-use Rattle.std.specs.Prelude.{ℕ, Bool, ◌||◌, List}
-use Rattle.graph.specs.Basic.{if◌then◌else◌, any}
+use Rattle.std.specs.Prelude.{ℕ, Bool, ◌||◌, List, if◌then◌else◌}
+use Rattle.graph.specs.Basic.{any}
 use Rattle.graph.specs.State.{State}
 use Rattle.calls.specs.Refuse.{bad_node, in_blossom}
 

@@ -1,10 +1,10 @@
 -- A circle that is too long to be accepted.
-use Rattle.std.specs.Prelude.{◌≡◌, ℕ, zero, suc, ◌+◌, ◌-◌, ◌%◌, ◌<◌, ◌≤◌, Bool, true, false, not, ◌||◌, ltb, ◌≢◌, List, [], ◌∷◌, length, ◌==◌, nat_lt}
+use Rattle.std.specs.Prelude.{◌≡◌, ℕ, zero, suc, ◌+◌, ◌-◌, ◌%◌, ◌<◌, ◌≤◌, Bool, true, false, not, ◌||◌, ltb, ◌≢◌, List, [], ◌∷◌, length, ◌==◌, nat_lt, if◌then◌else◌}
 use Rattle.std.proofs.Common.{add-one, sym, ap, ◌∙◌}
 use native.Mathlib.Omega.{arith}
 use Rattle.std.proofs.Math.Path.{refl}
 use borrow.Author.Tests.{lt-ltb}
-use Rattle.graph.specs.Basic.{if◌then◌else◌, any, distinct}
+use Rattle.graph.specs.Basic.{any, distinct}
 use Rattle.graph.specs.State.{State, shrinking}
 use Rattle.graph.specs.laws.State.{if-both}
 use Rattle.calls.specs.Refuse.{bad_node, in_blossom}

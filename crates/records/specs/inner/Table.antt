@@ -1,6 +1,5 @@
 -- The lines of one edge: in a table of growths, and in a list of contacts.
-use Rattle.std.specs.Prelude.{ℕ, ◌+◌, ◌*◌, List, [], ◌∷◌, ◌++◌}
-use Rattle.graph.specs.Basic.{if◌then◌else◌}
+use Rattle.std.specs.Prelude.{ℕ, ◌+◌, ◌*◌, List, [], ◌∷◌, ◌++◌, if◌then◌else◌}
 use Rattle.graph.specs.State.{State, growth_at}
 use Rattle.calls.specs.Contacts.{is_contact, contact_of}
 use Rattle.records.specs.Text.{ascii, spaced}

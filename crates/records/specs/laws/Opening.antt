@@ -1,14 +1,14 @@
 -- The opening by what the memory holds is the opening by what was gathered.
 use Prim.Native.Nat.{ℕ, ◌+◌, ◌-◌, ◌*◌, ◌≤◌, ◌<◌}
 use Rattle.std.proofs.Common.{arith, ◌∙◌, length-take-le, take_at}
-use Rattle.std.specs.Prelude.{◌≡◌, ◌&&◌, ◌||◌, List, ◌++◌, map, ℤ, negsuc, eqb, length, take, drop}
+use Rattle.std.specs.Prelude.{◌≡◌, ◌&&◌, ◌||◌, List, ◌++◌, map, ℤ, negsuc, eqb, length, take, drop, if◌then◌else◌}
 use Rattle.std.proofs.Math.Path.{sym, ap}
 use Rattle.std.proofs.Math.Bool.{true, false}
 use Rattle.std.proofs.Math.IntN.{pos}
 use Rattle.std.proofs.Math.Dec.{ltb}
 use Rattle.std.proofs.Math.Seq.{get_or-take, ext_get_or}
 use borrow.Author.Tests.{eqb-true, eqb-false, eq-eqb, ne_eqb, ltb-false, not-true, not-false}
-use Rattle.graph.specs.Basic.{if◌then◌else◌, all, below}
+use Rattle.graph.specs.Basic.{all, below}
 use Rattle.graph.specs.Open.{sizes_ok, flag_in, graph_of, opened, open_refusal}
 use Rattle.graph.specs.Opening.{given_at, edge_at, edges_in, edges_from, virtuals_from, opened_block, opened_words, fits}
 use Rattle.graph.specs.Layout.{block_length, scratch_length}

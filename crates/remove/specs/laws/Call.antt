@@ -1,11 +1,10 @@
 -- Laws behind the call: what refuses it, and what its preparation leaves.
-use Rattle.std.specs.Prelude.{ℕ, ◌+◌, ◌-◌, ◌<◌, ◌≡◌, ◌≢◌, Bool, true, ◌&&◌, not, List, [], ◌∷◌, ℤ, eqb, leb}
+use Rattle.std.specs.Prelude.{ℕ, ◌+◌, ◌-◌, ◌<◌, ◌≡◌, ◌≢◌, Bool, true, ◌&&◌, not, List, [], ◌∷◌, ℤ, eqb, leb, if◌then◌else◌}
 use Rattle.std.proofs.Math.Decide.{ℕ_discrete as dec_eq, dec_lt}
 use Rattle.std.proofs.Common.{arith, ◌∙◌, lt-ltb, le-ltb, le-leb}
 use Rattle.std.proofs.Math.Path.{refl, sym}
 use Rattle.std.proofs.Math.Bool.{false}
 use Rattle.std.proofs.lemmas.Bool.{lt-leb}
-use Rattle.graph.specs.Basic.{if◌then◌else◌}
 use Rattle.graph.specs.State.{State, NodeClass, defect_vertex, blossom, removed, removed_place, node_count, class_of, dual_of, down}
 use Rattle.graph.specs.Sound.{is_removed}
 use Rattle.graph.specs.Layout.{class_from, state_of}

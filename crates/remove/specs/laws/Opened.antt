@@ -1,5 +1,5 @@
 -- Laws behind the opened state.
-use Rattle.std.specs.Prelude.{ℕ, ◌+◌, ◌-◌, ◌≤◌, ◌<◌, ◌≡◌, refl, true, false, ℤ, length, take, drop}
+use Rattle.std.specs.Prelude.{ℕ, ◌+◌, ◌-◌, ◌≤◌, ◌<◌, ◌≡◌, refl, true, false, ℤ, length, take, drop, if◌then◌else◌}
 use native.Mathlib.Omega.{arith}
 use Rattle.std.proofs.Math.Numerals.{add-one}
 use Rattle.std.proofs.Common.{sym, ◌∙◌, subst}
@@ -8,7 +8,7 @@ use mathlib.Core.List.{List, []}
 use Rattle.std.proofs.Math.Dec.{eqb}
 use Rattle.std.proofs.Math.ListN.{get_or}
 use Rattle.std.proofs.Math.Seq.{drop-length}
-use Rattle.graph.specs.Basic.{if◌then◌else◌, fold, only, below}
+use Rattle.graph.specs.Basic.{fold, only, below}
 use Rattle.graph.specs.State.{State, Nodes, node_count, parent_of, boundary_of, overgrown_of, removed, with_sides, with_holder, with_parent, with_class, with_grow_state}
 use Rattle.graph.specs.Form.{Formed}
 use Rattle.graph.specs.inner.Form.{Becomes, sides_ok}

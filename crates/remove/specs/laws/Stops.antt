@@ -1,5 +1,5 @@
 -- Laws behind the test of what stops an opening.
-use Rattle.std.specs.Prelude.{ℕ, zero, suc, ◌+◌, ◌≤◌, ◌<◌, ◌≡◌, ◌≢◌, Bool, false, ◌&&◌, ◌||◌, not, eqb, get_or, set, replicate, take}
+use Rattle.std.specs.Prelude.{ℕ, zero, suc, ◌+◌, ◌≤◌, ◌<◌, ◌≡◌, ◌≢◌, Bool, false, ◌&&◌, ◌||◌, not, eqb, get_or, set, replicate, take, if◌then◌else◌}
 use Rattle.std.proofs.Math.Decide.{ℕ_discrete as dec_eq}
 use Rattle.std.proofs.Common.{arith, ◌∙◌, subst, take_all, get_or-append-add}
 use Rattle.std.proofs.Math.Numerals.{add-one}
@@ -9,7 +9,7 @@ use mathlib.Core.List.{List, [], ◌∷◌, ◌++◌, append-nil, append_assoc}
 use Rattle.std.proofs.Math.Dec.{ltb}
 use Rattle.std.proofs.Math.ListN.{length, length-append, get_or-append}
 use borrow.Author.Tests.{eq-eqb, ne_eqb, ltb-true}
-use Rattle.graph.specs.Basic.{if◌then◌else◌, all, any, member, only, below, distinct}
+use Rattle.graph.specs.Basic.{all, any, member, only, below, distinct}
 use Rattle.graph.specs.State.{State, node_count, side_count, holder_at, boundary_of, overgrown_of}
 use Rattle.graph.specs.inner.Form.{sides_ok}
 use Rattle.graph.specs.inner.Scans.{once_all, Carry}

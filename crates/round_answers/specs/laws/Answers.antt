@@ -1,11 +1,11 @@
 -- The loops over the active nodes' answers: what is still to come gives the whole.
-use Rattle.std.specs.Prelude.{ℕ, ◌+◌, ◌≤◌, ◌<◌, ◌≡◌, refl, ◌≢◌, Bool, true, false, ℤ, pos, negsuc, length, get_or, take, drop}
+use Rattle.std.specs.Prelude.{ℕ, ◌+◌, ◌≤◌, ◌<◌, ◌≡◌, refl, ◌≢◌, Bool, true, false, ℤ, pos, negsuc, length, get_or, take, drop, if◌then◌else◌}
 use Rattle.std.proofs.Common.{arith, add-one, sym, ◌∙◌, drop_of_length-le, drop-cons, take-suc}
 use Rattle.std.proofs.Math.Path.{ap}
 use mathlib.Core.List.{List, [], ◌∷◌, ◌++◌}
 use Rattle.std.specs.Int.Signed.{lt_z}
 use borrow.Author.Tests.{eq-eqb, ne_eqb, ltb-true, ltb-false, le-leb, lt-leb}
-use Rattle.graph.specs.Basic.{if◌then◌else◌, all, fold, only}
+use Rattle.graph.specs.Basic.{all, fold, only}
 use Rattle.graph.specs.State.{State}
 use Rattle.graph.specs.laws.Members.{clash}
 use Rattle.active_list.specs.laws.Renewal.{only-snoc}

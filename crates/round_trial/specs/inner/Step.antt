@@ -1,6 +1,5 @@
 -- A trial while it is made: entry by entry, and what memory allows it.
-use Rattle.std.specs.Prelude.{◌≡◌, ℕ, true, ◌≢◌, List, ℤ, ◌==◌, slice_index}
-use Rattle.graph.specs.Basic.{if◌then◌else◌}
+use Rattle.std.specs.Prelude.{◌≡◌, ℕ, true, ◌≢◌, List, ℤ, ◌==◌, slice_index, if◌then◌else◌}
 use Rattle.graph.specs.State.{State, grow_state_of, growing, shrinking, up}
 use Rattle.graph.specs.Active.{active_in}
 use Rattle.graph.specs.Sound.{active_sound, sound}

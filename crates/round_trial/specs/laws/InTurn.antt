@@ -1,8 +1,8 @@
 -- The two parts of the trial together.
-use Rattle.std.specs.Prelude.{◌≡◌, ℕ, suc, Bool, true, false, ◌||◌, ◌≢◌, List, [], ◌∷◌, length, ℤ}
+use Rattle.std.specs.Prelude.{◌≡◌, ℕ, suc, Bool, true, false, ◌||◌, ◌≢◌, List, [], ◌∷◌, length, ℤ, if◌then◌else◌}
 use Rattle.std.proofs.Common.{arith, sym, ◌∙◌, ne_eqb}
 use Rattle.std.proofs.Math.Path.{refl, ap}
-use Rattle.graph.specs.Basic.{if◌then◌else◌, fold}
+use Rattle.graph.specs.Basic.{fold}
 use Rattle.graph.specs.State.{State, node_count, growing, shrinking, up}
 use Rattle.graph.specs.Active.{active_in, renewed}
 use Rattle.graph.specs.Sound.{sound, sound_removed, state_sound}

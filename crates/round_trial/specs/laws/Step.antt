@@ -1,11 +1,10 @@
 -- The trial node by node: what a call leaves alone, that the memory stays fit for the next one, and the loop over the active list.
-use Rattle.std.specs.Prelude.{◌≡◌, ℕ, zero, suc, ◌≤◌, Bool, true, false, ◌≢◌, List, [], ◌∷◌, length, ℤ, ◌==◌, nat_lt, slice_index}
+use Rattle.std.specs.Prelude.{◌≡◌, ℕ, zero, suc, ◌≤◌, Bool, true, false, ◌≢◌, List, [], ◌∷◌, length, ℤ, ◌==◌, nat_lt, slice_index, if◌then◌else◌}
 use Rattle.std.proofs.Common.{arith, sym, ◌∙◌}
 use Rattle.std.proofs.Math.Decide.{ℕ_discrete as dec_eq}
 use Rattle.std.proofs.Math.Path.{refl, ap}
 use Rattle.std.proofs.Math.Logic.{by_cases}
 use borrow.Author.Tests.{eq-eqb, ne_eqb}
-use Rattle.graph.specs.Basic.{if◌then◌else◌}
 use Rattle.graph.specs.State.{State, node_count, grow_state_of, growing, shrinking, down, up}
 use Rattle.graph.specs.Layout.{state_of}
 use Rattle.graph.specs.Form.{Formed}

@@ -1,10 +1,10 @@
 -- The loop of one part of the trial: entries to come give what is left of it; a refusal ends it.
-use Rattle.std.specs.Prelude.{◌≡◌, ℕ, ◌+◌, ◌<◌, ◌≤◌, Bool, true, false, ◌≢◌, List, [], ◌∷◌, length, drop, ℤ, ◌==◌, nat_lt, slice_index}
+use Rattle.std.specs.Prelude.{◌≡◌, ℕ, ◌+◌, ◌<◌, ◌≤◌, Bool, true, false, ◌≢◌, List, [], ◌∷◌, length, drop, ℤ, ◌==◌, nat_lt, slice_index, if◌then◌else◌}
 use Rattle.std.proofs.Common.{add-one, sym, ap, ◌∙◌, drop_of_length-le}
 use Rattle.std.proofs.Math.Path.{refl}
 use Rattle.std.proofs.Math.Seq.{drop-cons}
 use borrow.Author.Tests.{eq-eqb, ne_eqb, ltb-true}
-use Rattle.graph.specs.Basic.{if◌then◌else◌, fold, only}
+use Rattle.graph.specs.Basic.{fold, only}
 use Rattle.graph.specs.State.{State, node_count, grow_state_of}
 use Rattle.graph.specs.Active.{active_in}
 use Rattle.graph.specs.Sound.{active_sound}

@@ -1,6 +1,6 @@
 -- A shrinking pass in memory: the block has its state, the scratch its kept sides, marks and noted vertices.
-use Rattle.std.specs.Prelude.{ℕ, zero, suc, ◌+◌, ◌*◌, ◌≤◌, ◌≡◌, Bool, true, ◌&&◌, ◌||◌, List, map, ℤ, pos, eqb, ltb, length, set, drop}
-use Rattle.graph.specs.Basic.{if◌then◌else◌, fold, all, below, distinct}
+use Rattle.std.specs.Prelude.{ℕ, zero, suc, ◌+◌, ◌*◌, ◌≤◌, ◌≡◌, Bool, true, ◌&&◌, ◌||◌, List, map, ℤ, pos, eqb, ltb, length, set, drop, if◌then◌else◌}
+use Rattle.graph.specs.Basic.{fold, all, below, distinct}
 use Rattle.graph.specs.State.{State, vertex_count, side_count, end_at, growth_at, defect_at, sides_at, free_side, free_vertex}
 use Rattle.graph.specs.Open.{flag_in}
 use Rattle.graph.specs.Word.{word_at}

@@ -1,5 +1,5 @@
 -- Any edges between the four vertices have the weights of a small patch.
-use Rattle.std.specs.Prelude.{◌≡◌, ◌≢◌, Bool, true, false, ◌&&◌, ◌||◌, not, eqb, ltb}
+use Rattle.std.specs.Prelude.{◌≡◌, ◌≢◌, Bool, true, false, ◌&&◌, ◌||◌, not, eqb, ltb, if◌then◌else◌}
 use Rattle.std.proofs.Math.Path.{refl}
 use Rattle.std.proofs.Common.{sym, ◌∙◌, arith, eqb-true, eq-eqb, ltb-true}
 use Rattle.std.proofs.Math.Logic.{by_cases}
@@ -7,7 +7,7 @@ use mathlib.Core.List.{List, [], ◌∷◌}
 use Prim.Native.Nat.{ℕ, zero, suc, ◌≤◌, ◌<◌}
 use Rattle.std.proofs.Math.Decide.{ℕ_discrete, dec_lt}
 use Rattle.std.proofs.lemmas.Bool.{eqb-false, not-true}
-use Rattle.graph.specs.Basic.{if◌then◌else◌, all, any}
+use Rattle.graph.specs.Basic.{all, any}
 use Rattle.graph.specs.Open.{Edge}
 use Rattle.graph.specs.laws.State.{if-cases, and_left, and_right}
 use Rattle.graph.specs.laws.Members.{by-test, or_cases, all_first, all_others, any_none}

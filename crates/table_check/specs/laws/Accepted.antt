@@ -1,10 +1,10 @@
 -- What holds where nothing refuses the call.
-use Rattle.std.specs.Prelude.{ℕ, ◌*◌, ◌≤◌, ◌≡◌, refl, ◌&&◌, List, map, ℤ, length}
+use Rattle.std.specs.Prelude.{ℕ, ◌*◌, ◌≤◌, ◌≡◌, refl, ◌&&◌, List, map, ℤ, length, if◌then◌else◌}
 use Rattle.std.proofs.Common.{arith}
 use Rattle.std.proofs.Math.Bool.{true, not}
 use Rattle.std.proofs.Math.Dec.{leb, ltb, eqb}
 use borrow.Author.Tests.{eqb-true, eq-eqb, not-false}
-use Rattle.graph.specs.Basic.{if◌then◌else◌, all, distinct}
+use Rattle.graph.specs.Basic.{all, distinct}
 use Rattle.graph.specs.Word.{to_nat}
 use Rattle.graph.specs.Open.{dual_limit, growth_limit, sizes_ok, edge_ok, open_refusal}
 use Rattle.graph.specs.Opening.{edges_in, edges_from, virtuals_from}

@@ -1,11 +1,11 @@
 -- Row by row is the whole.
 use Prim.Native.Nat.{ℕ, zero, suc, ◌+◌, ◌*◌}
 use Rattle.std.proofs.Common.{arith, suc-mul, ap, ◌∙◌, take_all, take-add}
-use Rattle.std.specs.Prelude.{◌≡◌, Bool, ◌&&◌, List, [], ◌∷◌, ◌++◌, ℤ, length, take, drop, replicate}
+use Rattle.std.specs.Prelude.{◌≡◌, Bool, ◌&&◌, List, [], ◌∷◌, ◌++◌, ℤ, length, take, drop, replicate, if◌then◌else◌}
 use Rattle.std.proofs.Math.Path.{refl, sym}
 use Rattle.std.proofs.Math.Bool.{true, false}
 use Rattle.std.proofs.Math.Dec.{leb}
-use Rattle.graph.specs.Basic.{if◌then◌else◌, all, all_below}
+use Rattle.graph.specs.Basic.{all, all_below}
 use Rattle.graph.specs.laws.Members.{by-test}
 use Rattle.distance.specs.Distance.{unreachable}
 use Rattle.table_words.specs.Handed.{distance_of, distance_in, row_of}

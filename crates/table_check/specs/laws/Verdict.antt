@@ -1,10 +1,9 @@
 -- The verdict, case by case.
-use Rattle.std.specs.Prelude.{ℕ, suc, ◌≡◌, ◌≢◌, ◌↔◌, Bool, true, false, List, ℤ}
+use Rattle.std.specs.Prelude.{ℕ, suc, ◌≡◌, ◌≢◌, ◌↔◌, Bool, true, false, List, ℤ, if◌then◌else◌}
 use Rattle.std.proofs.Common.{arith, sym, ◌∙◌, eq-eqb, ne_eqb}
 use Rattle.std.proofs.Math.Decide.{ℕ_discrete}
 use Rattle.std.proofs.Math.Path.{ap}
 use Rattle.std.proofs.Math.Logic.{by_cases}
-use Rattle.graph.specs.Basic.{if◌then◌else◌}
 use Rattle.graph.specs.laws.Members.{by-test, clash}
 use Rattle.table_words.specs.Handed.{handed}
 use Rattle.table_check.specs.Verdict.{right, Right, verdict_by, table_verdict}

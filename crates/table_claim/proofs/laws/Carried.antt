@@ -1,7 +1,6 @@
 -- The dual variables in a state are those of its book.
-use Rattle.std.specs.Prelude.{ℕ, suc, ◌+◌, ◌<◌, ◌≡◌, refl, [], ◌∷◌, pos, eqb, length}
+use Rattle.std.specs.Prelude.{ℕ, suc, ◌+◌, ◌<◌, ◌≡◌, refl, [], ◌∷◌, pos, eqb, length, if◌then◌else◌}
 use Rattle.std.proofs.Common.{arith}
-use Rattle.graph.specs.Basic.{if◌then◌else◌}
 use Rattle.graph.specs.State.{State, defect_vertex, class_of, dual_of}
 use Rattle.graph.specs.laws.Members.{by-test}
 use Rattle.table_theorem.specs.History.{History, entry_at, dual_at}

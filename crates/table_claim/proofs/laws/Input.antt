@@ -1,9 +1,9 @@
 -- A run by the graph and the calls of its records.
-use Rattle.std.specs.Prelude.{ℕ, zero, suc, ◌+◌, ◌≡◌, ◌⊎◌, true, false, ◌&&◌, List, [], ◌∷◌, ◌++◌, eqb, length}
+use Rattle.std.specs.Prelude.{ℕ, zero, suc, ◌+◌, ◌≡◌, ◌⊎◌, true, false, ◌&&◌, List, [], ◌∷◌, ◌++◌, eqb, length, if◌then◌else◌}
 use Rattle.std.proofs.Common.{arith, sym, ◌∙◌, inr, append-nil, append_assoc}
 use Rattle.std.proofs.Math.Path.{refl, ap}
 use Rattle.std.proofs.Math.Logic.{inl}
-use Rattle.graph.specs.Basic.{if◌then◌else◌, all}
+use Rattle.graph.specs.Basic.{all}
 use Rattle.graph.specs.State.{State}
 use Rattle.graph.specs.Open.{Edge}
 use Rattle.graph.specs.laws.State.{and_left, and_right}

@@ -1,10 +1,10 @@
 -- No record of an input asks for a change of weights.
-use Rattle.std.specs.Prelude.{ℕ, zero, suc, ◌+◌, ◌-◌, ◌/◌, ◌≡◌, Bool, false, ◌&&◌, not, leb, eqb, ltb, length, take, drop}
+use Rattle.std.specs.Prelude.{ℕ, zero, suc, ◌+◌, ◌-◌, ◌/◌, ◌≡◌, Bool, false, ◌&&◌, not, leb, eqb, ltb, length, take, drop, if◌then◌else◌}
 use Rattle.std.proofs.Math.Path.{refl}
 use Rattle.std.proofs.Common.{subst}
 use Rattle.std.proofs.Math.Bool.{true}
 use mathlib.Core.List.{List, [], ◌∷◌}
-use Rattle.graph.specs.Basic.{if◌then◌else◌, all, any}
+use Rattle.graph.specs.Basic.{all, any}
 use Rattle.graph.specs.laws.State.{if-both}
 use Rattle.graph.specs.laws.Members.{both, neither, all_first, all_others, all_left}
 use Rattle.std.proofs.lemmas.Bool.{not-true}

@@ -1,9 +1,8 @@
 -- What a trial over all clusters is, where what is lent is refused for its length alone.
-use Rattle.std.specs.Prelude.{ℕ, zero, suc, ◌≡◌, ◌≢◌, Bool, List, ℤ, pos, negsuc, length}
+use Rattle.std.specs.Prelude.{ℕ, zero, suc, ◌≡◌, ◌≢◌, Bool, List, ℤ, pos, negsuc, length, if◌then◌else◌}
 use Rattle.std.proofs.Common.{arith, sym, ◌∙◌, ne_eqb}
 use Rattle.std.proofs.Math.Path.{refl, ap, subst}
 use Rattle.std.proofs.Math.Bool.{true, false}
-use Rattle.graph.specs.Basic.{if◌then◌else◌}
 use Rattle.graph.specs.State.{State}
 use Rattle.graph.specs.Layout.{state_of}
 use Rattle.graph.specs.Form.{Formed}

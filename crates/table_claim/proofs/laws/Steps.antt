@@ -1,9 +1,8 @@
 -- What a list of steps leaves and returns: in a block in form the state that the definitions give for the calls that they were asked, and their answers.
-use Rattle.std.specs.Prelude.{ℕ, ◌%◌, ◌≡◌, ◌⊎◌, Bool, List, [], ◌∷◌, map, ℤ, eqb, length}
+use Rattle.std.specs.Prelude.{ℕ, ◌%◌, ◌≡◌, ◌⊎◌, Bool, List, [], ◌∷◌, map, ℤ, eqb, length, if◌then◌else◌}
 use Rattle.std.proofs.Math.Path.{refl, sym}
 use Rattle.std.proofs.Common.{ap, subst, ◌∙◌, inl, inr, ⊎_elim}
 use Rattle.std.proofs.Math.Bool.{true, false}
-use Rattle.graph.specs.Basic.{if◌then◌else◌}
 use Rattle.graph.specs.State.{State, vertex_count, edge_count}
 use Rattle.graph.specs.Word.{to_nat}
 use Rattle.graph.specs.Layout.{v_of, e_of, n_of, state_of, sized, block_length, memory_fits, block_refusal, memory_refusal, list_refusal}

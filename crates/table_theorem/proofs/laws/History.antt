@@ -1,12 +1,11 @@
 -- The state matches its history after every call but an accepted blossom: the same nodes, each an outermost defect.
-use Rattle.std.specs.Prelude.{ℕ, zero, suc, ◌+◌, ◌<◌, ◌≡◌, refl, Bool, true, false, ◌&&◌, List, [], ◌∷◌, ◌++◌, map, ℤ, pos, negsuc, ◌+ℤ◌, eqb, ltb, length, get_or, set}
+use Rattle.std.specs.Prelude.{ℕ, zero, suc, ◌+◌, ◌<◌, ◌≡◌, refl, Bool, true, false, ◌&&◌, List, [], ◌∷◌, ◌++◌, map, ℤ, pos, negsuc, ◌+ℤ◌, eqb, ltb, length, get_or, set, if◌then◌else◌}
 use Rattle.std.proofs.Common.{add-zero, arith, sym, ap, ◌∙◌, length-set, length-append, get_or-set_same, get_or-set_other, eqb-true}
 use Rattle.std.proofs.Math.Decide.{ℕ_discrete as dec_eq, dec_lt}
 use Rattle.std.proofs.Math.Logic.{by_cases}
 use Rattle.std.proofs.lemmas.List.{length-map, get_or_at}
 use Rattle.std.proofs.Math.ListN.{get_or-append, get_or-map}
 use Rattle.std.proofs.lemmas.Bool.{not-true, eqb-false}
-use Rattle.graph.specs.Basic.{if◌then◌else◌}
 use Rattle.graph.specs.State.{State, Graph as StateGraph, Nodes, defect_vertex, node_count, class_of, grow_state_of, parent_of, dual_of, with_active, with_nodes, with_grow_state as state_with, stay, growing, shrinking, up, down}
 use Rattle.graph.specs.Node.{moved}
 use Rattle.graph.specs.Open.{blank_state, with_originals, cleared}

@@ -1,9 +1,9 @@
 -- What a free length says: of a node that grows, each boundary side has so much left; of a node that shrinks, dual variable, top amount and each side.
-use Rattle.std.specs.Prelude.{ℕ, zero, suc, ◌+◌, ◌-◌, ◌/◌, ◌≤◌, ◌<◌, min, ◌≡◌, refl, ◌≢◌, Bool, true, false, ◌&&◌, not, List, [], ◌∷◌, ℤ, pos, negsuc, neg_ℤ, eqb, leb, ltb}
+use Rattle.std.specs.Prelude.{ℕ, zero, suc, ◌+◌, ◌-◌, ◌/◌, ◌≤◌, ◌<◌, min, ◌≡◌, refl, ◌≢◌, Bool, true, false, ◌&&◌, not, List, [], ◌∷◌, ℤ, pos, negsuc, neg_ℤ, eqb, leb, ltb, if◌then◌else◌}
 use Rattle.std.proofs.Common.{arith, sym, eq-eqb, ne_eqb, leb-true, le-leb, ltb-false}
 use Rattle.std.proofs.Math.IntN.{sub_ℕ}
 use Rattle.std.proofs.lemmas.Bool.{eqb-false, not-true}
-use Rattle.graph.specs.Basic.{if◌then◌else◌, fold, all, member}
+use Rattle.graph.specs.Basic.{fold, all, member}
 use Rattle.graph.specs.State.{State, NodeClass, defect_vertex, blossom, removed, opposite, passable, holder_at, end_at, sides_at, growth_at, grow_state_of, class_of, dual_of, boundary_of, overgrown_of, grown_over, weight_over, growing, shrinking, up, down}
 use Rattle.graph.specs.laws.State.{and_left, and_right, if-both, if-cases, fold-keeps}
 use Rattle.graph.specs.laws.Members.{both, by-test, clash, all-member}

@@ -1,11 +1,11 @@
 -- The loops of the length answer, and its limits.
-use Rattle.std.specs.Prelude.{ℕ, suc, ◌+◌, ◌-◌, ◌≤◌, ◌<◌, min, ◌≡◌, ◌≢◌, Bool, List, [], ◌∷◌, map, ℤ, pos, eqb, length, get_or, take, drop}
+use Rattle.std.specs.Prelude.{ℕ, suc, ◌+◌, ◌-◌, ◌≤◌, ◌<◌, min, ◌≡◌, ◌≢◌, Bool, List, [], ◌∷◌, map, ℤ, pos, eqb, length, get_or, take, drop, if◌then◌else◌}
 use Rattle.std.proofs.Common.{arith, ap, ◌∙◌, true≢false, take-append-drop}
 use Rattle.std.proofs.Math.Path.{refl, sym}
 use Rattle.std.proofs.Math.Bool.{true, false}
 use Rattle.std.proofs.lemmas.List.{length-map}
 use borrow.Author.Tests.{ne_eqb, lt-ltb, le-ltb}
-use Rattle.graph.specs.Basic.{if◌then◌else◌, fold}
+use Rattle.graph.specs.Basic.{fold}
 use Rattle.graph.specs.State.{State, Overgrown, blossom, removed, removed_place, vertex_count, sides_at, class_of, boundary_of, weight_over, grown_over}
 use Rattle.graph.specs.Word.{to_nat, word_at}
 use Rattle.graph.specs.Layout.{class_from, overgrown_from}

@@ -1,11 +1,11 @@
 -- A growing pass over node n, its second loop: what holds while vertices are taken, and that it holds at first. A side at a free
 -- vertex counts as free, and a noted side as listed as long as the vertex behind it is free.
-use Rattle.std.specs.Prelude.{ℕ, ◌+◌, ◌≡◌, refl, ◌≢◌, ◌⊎◌, Bool, true, false, ◌&&◌, ◌||◌, List, []}
+use Rattle.std.specs.Prelude.{ℕ, ◌+◌, ◌≡◌, refl, ◌≢◌, ◌⊎◌, Bool, true, false, ◌&&◌, ◌||◌, List, [], if◌then◌else◌}
 use Rattle.std.proofs.Common.{arith, sym, ◌∙◌, inl, inr, ⊎_elim, eqb-true, eq-eqb, ne_eqb}
 use Rattle.std.proofs.Math.Decide.{ℕ_discrete as dec_eq}
 use Rattle.std.proofs.Math.Logic.{by_cases}
 use Rattle.std.proofs.Math.Dec.{eqb}
-use Rattle.graph.specs.Basic.{if◌then◌else◌, member}
+use Rattle.graph.specs.Basic.{member}
 use Rattle.graph.specs.State.{State, opposite, end_at, growth_at, holder_at, vertex_holder_at, defect_at, virtual_at, weight_over, dual_of, boundary_of}
 use Rattle.graph.specs.laws.State.{and_left, and_right, opposite-opposite}
 use Rattle.graph.specs.inner.Kept.{SameButHolders}

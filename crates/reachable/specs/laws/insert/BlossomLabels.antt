@@ -1,8 +1,8 @@
 -- The labels of a new blossom: its base is the sum of its members' radii, and the depth of a member's vertex grows by what
 -- the base is above that member's radius.
-use Rattle.std.specs.Prelude.{ℕ, ◌+◌, ◌-◌, ◌≤◌, ◌≡◌, true, false, List, [], ◌∷◌}
+use Rattle.std.specs.Prelude.{ℕ, ◌+◌, ◌-◌, ◌≤◌, ◌≡◌, true, false, List, [], ◌∷◌, if◌then◌else◌}
 use Rattle.std.proofs.Common.{arith}
-use Rattle.graph.specs.Basic.{if◌then◌else◌, member}
+use Rattle.graph.specs.Basic.{member}
 use Rattle.graph.specs.State.{State, dual_of}
 use Rattle.graph.specs.laws.Members.{member-cons, member-nil}
 use Rattle.reachable.specs.laws.invariant.TakenVertex.{update}

@@ -1,8 +1,7 @@
 -- A free vertex behind full listed edges is taken: its sides are held, those edges are no longer listed, its other sides are; without
 -- any it is overgrown. Its depth is the radius, its rank the latest.
-use Rattle.std.specs.Prelude.{ℕ, suc, ◌+◌, ◌<◌, ◌≡◌, refl, ◌≢◌, Bool, true, false, List, ◌∷◌, eqb}
+use Rattle.std.specs.Prelude.{ℕ, suc, ◌+◌, ◌<◌, ◌≡◌, refl, ◌≢◌, Bool, true, false, List, ◌∷◌, eqb, if◌then◌else◌}
 use Rattle.std.proofs.Common.{eq-eqb, ne_eqb}
-use Rattle.graph.specs.Basic.{if◌then◌else◌}
 use Rattle.graph.specs.State.{Overgrown, opposite}
 use Rattle.reachable.specs.Cluster.{SideGraph, View, NodeView}
 

@@ -1,9 +1,9 @@
 -- Insertion of a blossom: the state with its members prepared is its snapshot.
-use Rattle.std.specs.Prelude.{ℕ, ◌<◌, ◌≡◌, refl, ◌≢◌, List, [], eqb, length}
+use Rattle.std.specs.Prelude.{ℕ, ◌<◌, ◌≡◌, refl, ◌≢◌, List, [], eqb, length, if◌then◌else◌}
 use Rattle.std.proofs.Common.{arith, sym, ap, subst, ◌∙◌, eq-eqb, ne_eqb}
 use Rattle.std.proofs.Math.Decide.{ℕ_discrete as dec_eq}
 use Rattle.std.proofs.Math.Logic.{by_cases}
-use Rattle.graph.specs.Basic.{if◌then◌else◌, fold}
+use Rattle.graph.specs.Basic.{fold}
 use Rattle.graph.specs.State.{State, node_count}
 use Rattle.calls.specs.Insert.{prepare_step, blossom_put}
 use Rattle.calls.proofs.laws.Accepted.{BlossomAccepted}

@@ -1,10 +1,10 @@
 -- A blossom is inserted: it is the outermost node above its members and above all that lies in them.
-use Rattle.std.specs.Prelude.{ℕ, ◌+◌, ◌≤◌, ◌<◌, ◌≡◌, true, false, List, [], get_or}
+use Rattle.std.specs.Prelude.{ℕ, ◌+◌, ◌≤◌, ◌<◌, ◌≡◌, true, false, List, [], get_or, if◌then◌else◌}
 use Rattle.std.proofs.Common.{arith, ◌∙◌, ⊎_elim}
 use Rattle.std.proofs.Math.Decide.{dec_lt}
 use Rattle.std.proofs.Math.Path.{sym, ap}
 use Rattle.std.proofs.Math.Logic.{by_cases}
-use Rattle.graph.specs.Basic.{if◌then◌else◌, member}
+use Rattle.graph.specs.Basic.{member}
 use Rattle.graph.specs.State.{State, Graph, node_count, end_at, parent_of}
 use Rattle.reachable.specs.laws.state.Live.{parent-beyond}
 use Rattle.graph.specs.laws.Members.{by-test}

@@ -1,8 +1,8 @@
 -- Every call keeps the invariant and the past, refused or not; so every reachable state has both.
-use Rattle.std.specs.Prelude.{ℕ, zero, suc, ◌<◌, ◌≡◌, refl, Bool, true, false, ◌&&◌, List, [], ◌∷◌, ℤ, pos, negsuc, eqb, ltb, length}
+use Rattle.std.specs.Prelude.{ℕ, zero, suc, ◌<◌, ◌≡◌, refl, Bool, true, false, ◌&&◌, List, [], ◌∷◌, ℤ, pos, negsuc, eqb, ltb, length, if◌then◌else◌}
 use Rattle.std.proofs.Common.{arith, sym, subst, length-set, eqb-true, ltb-false}
 use Rattle.graph.specs.State.{State, Graph, node_count, class_of, parent_of, grow_state_of, with_active, with_grow_state, with_nodes, stay, shrinking, up, down}
-use Rattle.graph.specs.Basic.{if◌then◌else◌, fold}
+use Rattle.graph.specs.Basic.{fold}
 use Rattle.graph.specs.laws.State.{if-both}
 use Rattle.graph.specs.laws.Members.{by-test}
 use Rattle.graph.specs.Open.{Edge, blank_state, opened, with_originals, cleared, open_refusal}

@@ -1,7 +1,6 @@
-use Rattle.std.specs.Prelude.{◌≡◌, ◌+◌, ◌-◌, ◌≤◌, false}
+use Rattle.std.specs.Prelude.{◌≡◌, ◌+◌, ◌-◌, ◌≤◌, false, if◌then◌else◌}
 use native.Mathlib.Omega.{arith}
 use mathlib.Core.Path.{sym, ap, ◌∙◌}
-use Rattle.graph.specs.Basic.{if◌then◌else◌}
 use Rattle.graph.specs.Layout.{state_of}
 use Rattle.calls.proofs.laws.Refuse.{good-inside}
 use Rattle.records.specs.Record.{fields}
