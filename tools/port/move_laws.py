@@ -25,6 +25,7 @@ def main(top):
         specs, proofs = os.path.join(crates, c, "specs"), os.path.join(crates, c, "proofs")
         os.makedirs(proofs, exist_ok=True)
         moved = [f[:-5] for f in sorted(os.listdir(specs)) if re.fullmatch(r"(\w*Theorems|laws)\.antt", f)]
+        moved += ["Examples"] if c == "length_theorem" else []  # they cite a theorem
         if os.path.isdir(os.path.join(specs, "laws")):
             os.rename(os.path.join(specs, "laws"), os.path.join(proofs, "laws"))
         for m in moved:

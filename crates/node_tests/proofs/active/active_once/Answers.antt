@@ -29,7 +29,7 @@ loop-i-preserved c = let x = state_of c.args.b.now in
     let y = c.active_node-n in
     let h = c.loop-i-test.true in (
       met-more (node_count x) x.active c.loop-i.i c.loop-i.marks c.loop-i.invariant.0 y.result (omega arith)
-          y.ensures.0 (omega arith) (omega arith) c.if-marks-n-ne1.true,
+          y.ensures.0 (omega arith) (omega arith) (omega arith),
       simp (length-set) c.loop-i.invariant.1,
     )
 

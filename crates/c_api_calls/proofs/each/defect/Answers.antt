@@ -1,0 +1,19 @@
+use native.Mathlib.Omega.{arith}
+use Rattle.c_api.specs.laws.Words.{told-all}
+use Rattle.c_api_calls.specs.Told.{ListedTold}
+use Rattle.c_api_calls.specs.Tests.{keeps}
+use Rattle.c_api_calls.specs.ListCall.{list_defect}
+use Rattle.c_api_calls.specs.laws.Done.{call-done}
+use borrow.Author.Rules.{rules}
+use Rattle.c_api_calls.proofs.each.defect.Goals as goal
+
+pub returns : goal.returns
+unfolding ListedTold keeps
+returns c =
+    let r = c.insert_defect-k.ensures in
+    let k = c.tell_known.ensures in
+    rw (
+      ← c.word-v.ensures.0,
+      ← c.word-x.ensures.0,
+    )
+    (call-done (list_defect _ _) _ (told-all (omega arith) _ r.0 k.0) r.1 r.2 k.1 k.2)

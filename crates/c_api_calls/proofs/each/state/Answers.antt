@@ -1,0 +1,21 @@
+use native.Mathlib.Omega.{arith}
+use mathlib.Core.Path.{refl}
+use Rattle.c_api.specs.laws.Words.{told-all}
+use Rattle.c_api_calls.specs.Told.{ListedTold}
+use Rattle.c_api_calls.specs.Tests.{keeps}
+use Rattle.c_api_calls.specs.ListCall.{list_state}
+use Rattle.c_api_calls.specs.laws.Done.{call-done}
+use borrow.Author.Rules.{rules}
+use Rattle.c_api_calls.proofs.each.state.Goals as goal
+
+pub returns : goal.returns
+unfolding ListedTold keeps
+returns c =
+    let k = c.tell_plain.ensures in
+    rw (
+      ← c.word-n.ensures.0,
+      ← c.word-x.ensures.0,
+    )
+    (call-done (list_state _ _) _
+    (told-all (omega arith) _ c.set_grow_state-a.ensures k.0, refl) refl
+    c.requires.0.cleared k.1 k.2)

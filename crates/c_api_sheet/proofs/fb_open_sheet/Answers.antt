@@ -1,0 +1,12 @@
+use mathlib.Core.Path.{refl}
+use Rattle.c_api.specs.laws.Words.{told-short, told-all}
+use borrow.Author.Rules.{rules}
+use Rattle.c_api_sheet.proofs.fb_open_sheet.Goals as goal
+
+pub returns-then-answer-lt5 : goal.returns-then-answer-lt5
+returns-then-answer-lt5 c = told-short c.if-answer-lt5.true c.refuse_short.ensures (refl, refl)
+
+pub returns : goal.returns
+returns c =
+    told-all (search rules) _ c.open_sheet-a.ensures
+    c.tell_sheet.ensures
