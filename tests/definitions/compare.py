@@ -377,8 +377,8 @@ def main():
     open(os.path.join(specs, 'Lib.antt'), 'w').write('-- Tests.\n' + ''.join(f'pub mod {m}\n' for m in modules))
     for m, text in modules.items(): open(os.path.join(specs, m + '.antt'), 'w').write(text)
     run = subprocess.run(['rt', 'check'], cwd=os.path.join(top, 'crates', 'trial'), capture_output=True, text=True)
-    for l in run.stdout.splitlines() + run.stderr.splitlines():
-        if 'error' in l or l.startswith('rt:'): print(l[:300])
+    said = run.stdout.splitlines() + run.stderr.splitlines()
+    for l in [l for l in said if 'error' in l] or said[-9:] * (run.returncode != 0): print(l[:300])
     print(f'seed {o.seed}: {o.lists} call lists, {o.states} states that no call list reaches, {len(chosen)} record '
           f'streams, {o.circles} circles; ' + ', '.join(f'{k} {v}' for k, v in sorted(SEEN.items())))
     if not o.keep: shutil.rmtree(top)
