@@ -13,7 +13,8 @@ ghost use Rattle.c_api_gap.specs.Told.{GapTold};
 ghost use Rattle.c_api_modifier.specs.Told.{ModifierTold};
 ghost use Rattle.c_api_calls.specs.Told.{CallsTold};
 
-// A graph of v vertices and e edges is opened in the block, with places for n nodes and a store of l words; the scratch is only measured.
+// A graph of v vertices and e edges is opened in the block, with places for n nodes and a store of l words; the
+// scratch is only measured.
 #[unsafe(no_mangle)]
 pub extern "C" fn fb_open(
     block: &mut [i64],
@@ -171,7 +172,8 @@ pub extern "C" fn fb_read_table(
     c_api::fb_read_table(block, scratch, list, answer)
 }
 
-// The contacts are written to the front of a list of three words for each edge; when done, the answer has their count behind its case.
+// The contacts are written to the front of a list of three words for each edge; when done, the answer has their
+// count behind its case.
 #[unsafe(no_mangle)]
 pub extern "C" fn fb_contacts(
     block: &[i64],
@@ -185,7 +187,8 @@ pub extern "C" fn fb_contacts(
     c_api::fb_contacts(block, scratch, list, answer)
 }
 
-// A graph is opened in the block with the weights of the sheet, which are written into the third words of the edges; the scratch is only
+// A graph is opened in the block with the weights of the sheet, which are written into the third words of the
+// edges; the scratch is only
 // measured.
 #[unsafe(no_mangle)]
 pub extern "C" fn fb_open_sheet(
@@ -281,7 +284,8 @@ pub extern "C" fn fb_group_max_update_length(
     c_api_round::fb_group_max_update_length(block, second, scratch, entries, answer)
 }
 
-// A blossom of dual variable 0 is opened: its members are outermost again, and its number is not given out again before a
+// A blossom of dual variable 0 is opened: its members are outermost again, and its number is not given out again
+// before a
 // clear.
 #[unsafe(no_mangle)]
 pub extern "C" fn fb_remove_blossom(
@@ -332,7 +336,8 @@ pub extern "C" fn fb_load_edge_modifier(
     c_api_modifier::fb_load_edge_modifier(block, scratch, pairs, answer)
 }
 
-// Calls are made one after another, four words each; the answer of each stands in five numbers of `answers`. Made are those that have room.
+// Calls are made one after another, four words each; the answer of each stands in five numbers of `answers`. Made
+// are those that have room.
 #[unsafe(no_mangle)]
 pub extern "C" fn fb_calls(
     block: &mut [i64],
