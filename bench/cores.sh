@@ -7,13 +7,12 @@ here=$(cd "$(dirname "$0")" && pwd)
 root=$(dirname "$here")
 work=$(mktemp -d)
 trap 'rm -rf "$work"' EXIT
-cp -r "$root/crates" "$root/crates.txt" "$work"
-[ -d "$root/target" ] && cp -r "$root/target" "$work"
+(cd "$root" && tar cf - --exclude=out crates crates.txt) | tar xf - -C "$work"
 git init -q "$work"
 cp -r "$here/cores" "$work/crates/cores"
 find "$work/crates/cores" -name '*.txt' | while read -r f; do mv "$f" "${f%.txt}"; done
-echo "cores: graph open_graph pass answers update_length growth calls blossom reachable records record_call record_step" >> "$work/crates.txt"
-(cd "$work" && rt staticlib cores > build.log 2>&1) || { tail "$work/build.log"; exit 1; }
+echo "cores staticlib: graph open_graph pass answers update_length growth calls blossom reachable records record_call record_step" >> "$work/crates.txt"
+(cd "$work/crates/cores" && rt lib > "$work/build.log" 2>&1) || { tail "$work/build.log" >&2; exit 1; }
 mkdir -p "$root/target/staticlib"
-cp "$work/target/staticlib/libcores.a" "$root/target/staticlib/libcores.a"
+cp "$work/crates/cores/out/libcores.a" "$root/target/staticlib/libcores.a"
 echo "$root/target/staticlib/libcores.a"

@@ -1,4 +1,4 @@
-// Links the archive of crate `lines_export`: ARCHIVE names it, by default target/staticlib/liblines_export.a of the
+// Links the archive with the call cardrun_lines: ARCHIVE names it, by default target/lib/libcardrun_lines.a of the
 // repository. LIBRARY names the archive of the library, the calls on lent memory; without it the library is neither
 // compared nor measured. CORES names the archive that bench/cores.sh makes, for measuring calls without the test of the
 // memory.
@@ -6,8 +6,8 @@ use std::{env, path::PathBuf};
 
 fn main() {
     let here = env::var("CARGO_MANIFEST_DIR").unwrap();
-    let archive = env::var("ARCHIVE").unwrap_or_else(|_| format!("{here}/../target/staticlib/liblines_export.a"));
-    let missing = format!("{archive} is missing: rt staticlib lines_export");
+    let archive = env::var("ARCHIVE").unwrap_or_else(|_| format!("{here}/../target/lib/libcardrun_lines.a"));
+    let missing = format!("{archive} is missing: tools/build-library.sh");
     let archive = PathBuf::from(&archive).canonicalize().unwrap_or_else(|_| panic!("{missing}"));
     println!("cargo:rerun-if-env-changed=ARCHIVE");
     println!("cargo:rerun-if-changed={}", archive.display());

@@ -1,7 +1,6 @@
-# Builds the archive of crate `lines_export` and the bench; sets `bench` to its program. Read by the other scripts; those that
-# set `with_library` get the calls on lent memory too, and those that set `with_cores` the calls without the test of the
-# memory.
-#   ARCHIVE         another archive with the call cardrun_lines (default: what `rt staticlib lines_export` writes)
+# Builds the archives for C and the bench; sets `bench` to its program. Read by the other scripts; those that set
+# `with_library` get the calls on lent memory too, and those that set `with_cores` the calls without the test of memory.
+#   ARCHIVE         another archive with the call cardrun_lines (default: what tools/build-library.sh makes)
 #   LIBRARY         another archive with the calls on lent memory (default: what tools/build-library.sh makes)
 #   CORES           another archive of bench/cores (default: what bench/cores.sh makes)
 #   FB_SRC          the folder of the three Rust files, which are not in the repository; it has no default
@@ -16,28 +15,20 @@ fi
 FB_SRC=$(cd "$FB_SRC" && pwd)
 export FB_SRC
 mkdir -p "$root/target"
-if [ -z "$ARCHIVE" ]; then
-    (cd "$root" && rt staticlib lines_export) > "$root/target/differential.log" 2>&1 || {
+if [ -z "$ARCHIVE" ] || { [ -n "$with_library" ] && [ -z "$LIBRARY" ]; }; then
+    "$root/tools/build-library.sh" > "$root/target/differential.log" 2>&1 || {
         tail "$root/target/differential.log"
         exit 1
     }
-    ARCHIVE=$root/target/staticlib/liblines_export.a
 fi
-export ARCHIVE
+export ARCHIVE="${ARCHIVE:-$root/target/lib/libcardrun_lines.a}"
 export CARGO_TARGET_DIR="${CARGO_TARGET_DIR:-$root/target/differential}"
 registry=${CARGO_REGISTRY:-/usr/share/cargo/registry}
 if [ ! -d "$registry/parking_lot-0.12.1" ] && [ -z "$CARGO_REGISTRY" ]; then
     echo "needs Debian's packages librust-{derivative,serde,serde-json,cfg-if,rand-xoshiro,parking-lot}-dev" >&2
 fi
 if [ -n "$with_library" ]; then
-    if [ -z "$LIBRARY" ]; then
-        "$root/tools/build-library.sh" > "$root/target/differential.log" 2>&1 || {
-            tail "$root/target/differential.log"
-            exit 1
-        }
-        LIBRARY=$root/target/lib/libfusion_blossom.a
-    fi
-    export LIBRARY
+    export LIBRARY="${LIBRARY:-$root/target/lib/libfusion_blossom.a}"
 else
     unset LIBRARY
 fi

@@ -117,8 +117,8 @@ def main():
     missed = 0
     work = tempfile.mkdtemp()
     env = dict(os.environ, FB_SRC=os.path.join(work, 'src'), FOUND=os.path.join(work, 'found'))
-    for name, archive in (('ARCHIVE', 'liblines_export.a'), ('LIBRARY', '../lib/libfusion_blossom.a')):
-        env.setdefault(name, os.path.join(ROOT, 'target', 'staticlib', archive))
+    for name, archive in (('ARCHIVE', 'libcardrun_lines.a'), ('LIBRARY', 'libfusion_blossom.a')):
+        env.setdefault(name, os.path.join(ROOT, 'target', 'lib', archive))
     env.setdefault('CARGO_TARGET_DIR', os.path.join(ROOT, 'target', 'faults'))
     try:
         for name, old, new, place in chosen:

@@ -31,7 +31,7 @@ of its input first; one file, lines to /dev/null, the best of 9 runs each, in tu
 checked. First decoding runs on a patch of distance 11, then six defects with small boundaries.
 
 T
-    (cd "$root" && rt check cardrun > target/differential.log 2>&1) || { tail "$root/target/differential.log" >&2; exit 1; }
+    "$root/tools/build-programs.sh" cardrun > /dev/null
     "$bench" stream > "$root/target/stream.records"
     python3 "$root/bench/program.py" --stream "$root/target/stream.records" "$root/target/bin/cardrun" \
         "$bench lines unlocked" "$bench lines"

@@ -100,7 +100,7 @@ def cases():
         yield "cut at byte %d" % cut, whole[:cut], got + ([] if starts[n] == cut else ["%d refused 3" % (n + 1)])
 
 
-@unittest.skipUnless("PROGRAM" in os.environ or os.path.exists(BUILT), "cardrun is not built: rt check cardrun")
+@unittest.skipUnless("PROGRAM" in os.environ or os.path.exists(BUILT), "cardrun is not built: tools/build-programs.sh")
 class BadInput(unittest.TestCase):
     pass
 

@@ -106,7 +106,7 @@ def pieces(data, size):
     return fed.end()
 
 
-@unittest.skipUnless(os.path.exists(PROGRAM), "cardrun is not built: rt check cardrun")
+@unittest.skipUnless(os.path.exists(PROGRAM), "cardrun is not built: tools/build-programs.sh")
 class Blocks(unittest.TestCase):
     def test_lines_of_the_stream(self):
         """The stream that the other tests cut."""

@@ -26,7 +26,7 @@ def stream(rng):
     return b"".join(out)
 
 
-@unittest.skipUnless(os.path.exists(PROGRAM), "cardrun is not built: rt check cardrun")
+@unittest.skipUnless(os.path.exists(PROGRAM), "cardrun is not built: tools/build-programs.sh")
 class LongCircles(unittest.TestCase):
     def test_lines_are_the_models(self):
         seen = set()

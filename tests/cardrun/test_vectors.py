@@ -33,7 +33,7 @@ class Vectors(unittest.TestCase):
     def test_the_model(self):
         self.assertEqual(wrong(lambda records, _: model.lines(records).encode()), [])
 
-    @unittest.skipUnless(os.path.exists(PROGRAM), "cardrun is not built: rt check cardrun")
+    @unittest.skipUnless(os.path.exists(PROGRAM), "cardrun is not built: tools/build-programs.sh")
     def test_the_program(self):
         self.assertEqual(
             wrong(lambda records, _: subprocess.run([PROGRAM], input=records, stdout=subprocess.PIPE).stdout), []

@@ -51,30 +51,30 @@ def grouped(a, listed):
     """The answer of a group, and what it lists."""
     SEEN[f'group refused {a[1]}' if a[0] == 'refused' else 'group ' + a[0]] += 1
     if a[0] == 'free':
-        group = f'(groupUnlimited {truth(a[2])})' if a[3] else f'(groupFree {whole(a[1])} {truth(a[2])})'
+        group = f'(group_unlimited {truth(a[2])})' if a[3] else f'(group_free {whole(a[1])} {truth(a[2])})'
     else:
-        group = f'(groupRefused {a[1]})' if a[0] == 'refused' else f'(groupConflicts {a[1]} {a[2]})'
+        group = f'(group_refused {a[1]})' if a[0] == 'refused' else f'(group_conflicts {a[1]} {a[2]})'
     return f'{group} {items(answer(x) for x in listed)}'
 
 
 def state(st):
     nodes = st.nodes
     classes = items('removed' if n.removed else f'blossom {n.first}' if n.vertex == M.NONE
-                    else f'defectVertex {n.vertex}' for n in nodes)
+                    else f'defect_vertex {n.vertex}' for n in nodes)
     stacks = items(items(f'over {v} {a}' for v, a in reversed(n.overgrown)) for n in nodes)
     at = items(nats(x) for x in st.at)
     graph = f'end = {nats(st.end)}; weight = {nats(st.weight)}; original = {nats(st.original)}; '
     graph += f'reweighted = {int(st.reweighted)}; at = {at}; virtual = {nats(st.virtual)}'
-    holders = f'vertexHolder = {stored(st.vholder)}; vertexGrandson = {stored(st.vgrandson)}'
-    numbers = f'growState = {nats(n.state for n in nodes)}; parent = {stored(n.parent for n in nodes)}'
+    holders = f'vertex_holder = {stored(st.vholder)}; vertex_grandson = {stored(st.vgrandson)}'
+    numbers = f'grow_state = {nats(n.state for n in nodes)}; parent = {stored(n.parent for n in nodes)}'
     lists = f'boundary = {items(nats(n.boundary) for n in nodes)}; overgrown = {stacks}'
     return f'''record {{
     graph = record {{ {graph} }};
     vertices = record {{ defect = {nats(st.defect)}; {holders} }};
     sides = record {{ growth = {nats(st.growth)}; holder = {stored(st.holder)}; grandson = {stored(st.grandson)} }};
     nodes = record {{ class = {classes}; {numbers}; dual = {nats(n.dual for n in nodes)}; {lists} }};
-    nodeLimit = {st.N};
-    storeLimit = {st.L};
+    node_limit = {st.N};
+    store_limit = {st.L};
     active = {nats(st.active)} }}'''
 
 
@@ -207,36 +207,32 @@ def unreached(rng):
 # ---------------------------------------------------------------- the crate of tests
 
 HEAD = '''-- {0}
-use Prim.Native.Nat.{{ℕ}}
-use mathlib.Core.Path.{{_≡_, refl}}
-use mathlib.Core.Bool.{{Bool, true, false}}
-use mathlib.Core.List.{{List, [], _∷_, map}}
-use lib.IntN.{{pos, negsuc}}
-use Rattle·graph.specs.Basic.{{below}}
-use Rattle·graph.specs.State.{{State, Overgrown, NodeClass, defectVertex, blossom, removed}}
-use Rattle·graph.specs.Open.{{opened}}
-use Rattle·graph.specs.Sound.{{stateSound}}
-use Rattle·answers.specs.declared.Answer.the-variants.{{Length, Done, Node, Prepared, Vertex, Refused}}
-use Rattle·answers.specs.declared.MaxUpdateLength.the-variants.{{NonZeroGrow, Unlimited, Conflicting, TouchingVirtual, BlossomNeedExpand, VertexShrinkStop, VertexShrinkStopPeer}}
-use Rattle·calls.specs.Calls.{{InsertDefect, InsertBlossom, SetGrowState, Prepare, UpdateLength, Grow, ReadTable, Advance, Contacts, RepresentativeVertex, Clear, RenewActiveList, PrepareAll, GroupLength, Round, RemoveBlossom, LoadEdgeModifier, answered, growths, touching, grouped, respond}}
-use Rattle·calls.specs.declared.group.GroupMaxUpdateLength.the-variants.{{NonZeroGrow as groupFree, Unlimited as groupUnlimited, Conflicts as groupConflicts, Refused as groupRefused}}
-use Rattle·calls.specs.Insert.{{occupied}}
-use Rattle·calls.specs.Occupied.{{sidesRead}}
-use Rattle·calls.specs.Examples.{{Line, _gives_, edge, given, wanted}}
-use Rattle·calls.specs.ErasureExamples.{{takes}}
-use Rattle·calls.specs.Opens.{{everything}}
-use Rattle·dual_module_node.specs.declared.NodeRead.the-variants.{{Defect as readDefect, Blossom as readBlossom, Refused as readRefused}}
-use Rattle·dual_module_node.specs.ReadNode.{{nodeTold, readNode}}
+use Rattle.std.specs.Prelude.{{ℕ, ◌≡◌, refl, Bool, true, false, List, [], ◌∷◌, map, pos, negsuc}}
+use Rattle.graph.specs.Basic.{{below}}
+use Rattle.graph.specs.State.{{State, Overgrown, NodeClass, defect_vertex, blossom, removed}}
+use Rattle.graph.specs.Open.{{opened}}
+use Rattle.graph.specs.Sound.{{state_sound}}
+use Rattle.answers.specs.declared.Answer.TheVariants.{{Length, Done, Node, Prepared, Vertex, Refused}}
+use Rattle.answers.specs.declared.MaxUpdateLength.TheVariants.{{NonZeroGrow, Unlimited, Conflicting, TouchingVirtual, BlossomNeedExpand, VertexShrinkStop, VertexShrinkStopPeer}}
+use Rattle.calls.specs.Calls.{{InsertDefect, InsertBlossom, SetGrowState, Prepare, UpdateLength, Grow, ReadTable, Advance, Contacts, RepresentativeVertex, Clear, RenewActiveList, PrepareAll, GroupLength, Round, RemoveBlossom, LoadEdgeModifier, answered, growths, touching, grouped, respond}}
+use Rattle.calls.specs.declared.group.GroupMaxUpdateLength.TheVariants.{{NonZeroGrow as group_free, Unlimited as group_unlimited, Conflicts as group_conflicts, Refused as group_refused}}
+use Rattle.calls.specs.Insert.{{occupied}}
+use Rattle.calls.specs.Occupied.{{sides_read}}
+use Rattle.calls.specs.Examples.{{Line, ◌gives◌, edge, given, wanted}}
+use Rattle.calls.specs.ErasureExamples.{{takes}}
+use Rattle.calls.specs.Opens.{{everything}}
+use Rattle.dual_module_node.specs.declared.NodeRead.TheVariants.{{Defect as read_defect, Blossom as read_blossom, Refused as read_refused}}
+use Rattle.dual_module_node.specs.ReadNode.{{node_told, read_node}}
 
 abbrev over : ℕ → ℕ → Overgrown
 over v a = record {{ vertex = v; amount = a }}
 
 unfoldable looked : State → ℕ → Bool × ℕ
-looked c v = (occupied c v, sidesRead c v)
+looked c v = (occupied c v, sides_read c v)
 
 unfoldable after : State → List Line → State
 after c [] = c
-after c ((k gives o) ∷ ls) = after (respond c k .state) ls
+after c ((k gives o) ∷ ls) = after (respond c k).state ls
 
 '''
 
@@ -254,7 +250,7 @@ def node(st, n):
     kind, *values = M.read_node(st, n)
     SEEN['node refused' if kind == 'refused' else f'node {kind}'] += 1
     if kind != 'refused': values[2] += 1
-    return f"(read{kind.capitalize()} {' '.join(map(str, values))})"
+    return f"(read_{kind} {' '.join(map(str, values))})"
 
 
 def case(name, start, lines, st):
@@ -262,7 +258,7 @@ def case(name, start, lines, st):
     gives = f'given {name}-start {name}-lines ≡ wanted {name}-lines'
     last = f'after {name}-start {name}-lines'
     count = len(st.nodes) + 1
-    nodes = f'map (readNode ({last})) (below {count}) ≡ {items(node(st, n) for n in range(count))}'
+    nodes = f'map (read_node ({last})) (below {count}) ≡ {items(node(st, n) for n in range(count))}'
     return f'''{name}-start : State
 {name}-start = {start}
 
@@ -270,8 +266,8 @@ def case(name, start, lines, st):
 {name}-lines =
     {body}
 
-{name} : ({gives}) × ({last} ≡ {state(st)}) × (stateSound ({last}) ≡ {truth(not M.sound(st))}) × ({nodes})
-unfolding everything edge takes given wanted after nodeTold readNode {name}-start {name}-lines
+{name} : ({gives}) × ({last} ≡ {state(st)}) × (state_sound ({last}) ≡ {truth(not M.sound(st))}) × ({nodes})
+unfolding everything edge takes given wanted after node_told read_node {name}-start {name}-lines
 {name} = (refl, refl, refl, refl)
 
 {name}-read : map (looked ({last})) {nats(range(st.V))} ≡ {looks(st)}
@@ -334,20 +330,18 @@ def fitting(text, space):
 
 def stream_case(name, data, text, space):
     SEEN['stream'] += 1
-    return f'''{name} : (linesOf {nats(data)} ≡ {nats(text)}) × (fittedLines {nats(data)} {space} ≡ {nats(fitting(text, space))})
-unfolding everything endText contactText
+    return f'''{name} : (lines_of {nats(data)} ≡ {nats(text)}) × (fitted_lines {nats(data)} {space} ≡ {nats(fitting(text, space))})
+unfolding everything end_text contact_text
 {name} = (refl, refl)
 
 '''
 
 
 STREAMS = '''-- Record streams, and the lines that they give.
-use Prim.Native.Nat.{ℕ}
-use mathlib.Core.Path.{_≡_, refl}
-use mathlib.Core.List.{List, [], _∷_}
-use Rattle·records.specs.Lines.{endText, contactText}
-use Rattle·records.specs.Run.{linesOf, fittedLines}
-use Rattle·records.specs.Opens.{everything}
+use Rattle.std.specs.Prelude.{ℕ, ◌≡◌, refl, List, [], ◌∷◌}
+use Rattle.records.specs.Lines.{end_text, contact_text}
+use Rattle.records.specs.Run.{lines_of, fitted_lines}
+use Rattle.records.specs.Opens.{everything}
 
 '''
 
@@ -372,19 +366,19 @@ def main():
         modules[f'Streams{f // per}'] = STREAMS + ''.join(
             stream_case(f'stream{f + k}', d, t, rng.randint(0, len(t) + 3)) for k, (d, t) in enumerate(chosen[f:f + per]))
     top = o.keep or tempfile.mkdtemp()
-    shutil.copytree(TOP, top, dirs_exist_ok=True, ignore=shutil.ignore_patterns('.git'))
+    shutil.copytree(TOP, top, dirs_exist_ok=True, ignore=shutil.ignore_patterns('.git', 'target', 'out'))
     subprocess.run(['git', 'init', '-q', top], check=True)
     specs = os.path.join(top, 'crates', 'trial', 'specs')
     os.makedirs(specs, exist_ok=True)
     os.makedirs(os.path.join(top, 'crates', 'trial', 'src'), exist_ok=True)
-    open(os.path.join(top, 'crates', 'trial', 'src', 'lib.rt'), 'w').write('// Tests only.\n')
+    open(os.path.join(top, 'crates', 'trial', 'src', 'lib.rt'), 'w').write('#![tactic(auto)]\n\n// Tests only.\n')
     deps = 'graph open_graph pass answers update_length growth calls records dual_module_node'
     open(os.path.join(top, 'crates.txt'), 'a').write(f'trial: {deps}\n')
     open(os.path.join(specs, 'Lib.antt'), 'w').write('-- Tests.\n' + ''.join(f'pub mod {m}\n' for m in modules))
     for m, text in modules.items(): open(os.path.join(specs, m + '.antt'), 'w').write(text)
-    run = subprocess.run(['rt', 'check', 'trial'], cwd=top, capture_output=True, text=True)
-    for l in run.stdout.splitlines() + run.stderr.splitlines():
-        if 'error' in l or l.startswith('rt:'): print(l[:300])
+    run = subprocess.run(['rt', 'check'], cwd=os.path.join(top, 'crates', 'trial'), capture_output=True, text=True)
+    said = run.stdout.splitlines() + run.stderr.splitlines()
+    for l in [l for l in said if 'error' in l] or said[-9:] * (run.returncode != 0): print(l[:300])
     print(f'seed {o.seed}: {o.lists} call lists, {o.states} states that no call list reaches, {len(chosen)} record '
           f'streams, {o.circles} circles; ' + ', '.join(f'{k} {v}' for k, v in sorted(SEEN.items())))
     if not o.keep: shutil.rmtree(top)

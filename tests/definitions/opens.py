@@ -28,16 +28,16 @@ for crate, modules in MODULES.items():
     uses, names = [], []
     for below in BELOW[crate]:
         alias = below.title().replace('_', '')
-        uses.append(f'use Rattle·{below}.specs.Opens as {alias}')
+        uses.append(f'use Rattle.{below}.specs.Opens as {alias}')
         names.append(f'{alias}.everything')
     for module in modules:
         text = open(f'crates/{crate}/specs/{module}.antt').read()
-        uses.append(f'use Rattle·{crate}·specs.specs.{module}')
+        uses.append(f'use Rattle.{crate}.specs.{module}')
         names += [f'{module}.{n}' for n in re.findall(r'(?m)^\s*unfoldable pub (\S+) :', text)]
     with open(f'crates/{crate}/specs/Opens.antt', 'w') as out:
         and_below = ' and of those below' if BELOW[crate] else ''
         out.write(f'-- A name that opens all definitions of this crate{and_below}: under `unfolding everything` a '
                   'closed term computes.\n')
-        out.write('use Prim.Native.Nat.{ℕ}\n' + '\n'.join(uses) + '\n\n')
+        out.write('use Rattle.std.specs.Prelude.{ℕ}\n' + '\n'.join(uses) + '\n\n')
         named = textwrap.fill(' '.join(names), 116, initial_indent='unfolding ', subsequent_indent='    ', break_on_hyphens=False)
         out.write('unfoldable pub everything : ℕ\n' + named + '\neverything = 0\n')

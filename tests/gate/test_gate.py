@@ -15,12 +15,18 @@ loader = importlib.machinery.SourceFileLoader('gate', os.path.join(TOP, '.ci', '
 gate = importlib.util.module_from_spec(importlib.util.spec_from_loader('gate', loader))
 loader.exec_module(gate)
 
+OK = 'rt: ok; handles allowed: none'
 COUNTS = [
     # what a part does, and what is counted
     ("echo proving; echo '12 passed, 0 failed'", (12, 0)),
     ("echo '12 passed, 3 failed'; exit 1", (12, 3)),
     ("echo '12 passed, 0 failed'; exit 1", (12, 1)),
     ("echo '12 passed, 0 failed'; echo; echo more", (0, 1)),
+    ("echo '12 passed, 0 failed (graph and the crates below alone: not the gate)'", (0, 1)),
+    # edits that are none fail the gate, though rt ci passes
+    (f"echo '{OK}; must-fail edits: 9 refused; done in this run'; echo '12 passed, 0 failed'", (12, 0)),
+    (f"echo '{OK}; must-fail edits: 7 refused, 2 bad; done in this run'; echo '12 passed, 0 failed'", (12, 2)),
+    (f"echo '{OK}; must-fail edits: 7 refused, 1 of them only by a limit, 3 bad; done'; echo '4 passed, 0 failed'", (4, 3)),
     ('exit 0', (0, 1)),
 ]
 

@@ -5,8 +5,8 @@
 
 Every preparation that the Python model makes while it runs the streams gives a block before it and a block after it. A small
 program lends the block to `prepare_dual_node_growth` and writes the number of passes and a checksum of the block that is left
-(words that are free set to zero) and of the scratch. `rt try` runs it, with no proof, compiled at -O0 and at -O3, and with the
-compiler's assumptions checked (its interpreter stops after ten million steps, some forty preparations).
+(words that are free set to zero) and of the scratch. `rt try` runs it, with no proof, compiled with checks, and on its
+interpreter as far as some millions of steps go.
 The model is tests/model, the streams are those of tests/vectors, or of the file that VECTORS names.
 """
 import argparse, copy, os, random, shutil, struct, subprocess, sys, tempfile
@@ -17,7 +17,13 @@ import model as M  # noqa: E402
 from model import passes  # noqa: E402
 from model.words import scratch_length, words  # noqa: E402
 
-PROGRAM = '''// Lends each block of the input to a preparation.
+PROGRAM = '''#![tactic(auto)]
+
+// Lends each block of the input to a preparation.
+
+use std::io;
+use std::io::Read;
+
 fn number(b: &[u8], i: usize) -> usize {
     let mut x = 0;
     let mut k = 8;
@@ -80,25 +86,37 @@ fn sum(b: &[i64], start: usize) -> usize {
     h
 }
 
-fn main() {
+// As many bytes as there are, up to the length of the buffer.
+fn read_full(stdin: &mut impl Read, bytes: &mut [u8]) -> io::Result<usize> {
+    let mut n = 0;
+    let mut more = true;
+    while more & (n < bytes.len()) {
+        let got = stdin.read(&mut bytes[n..])?;
+        n += got;
+        more = got != 0;
+    }
+    Ok(n)
+}
+
+fn main(rt: HostRuntime) -> io::Result<()> {
+    let mut stdin = rt.stdin();
     let mut head = [0u8; 32];
     let mut bytes = [0u8; 65536];
     let mut block = [0i64; 8192];
     let mut scratch = [0i64; 1024];
-    while io::read_full(0, &mut head) == 32 {
+    while read_full(&mut stdin, &mut head)? == 32 {
         let k = number(&head, 0);
         let m = number(&head, 1);
         let n = number(&head, 2);
         let d = number(&head, 3);
-        io::read_full(0, &mut bytes[0..8 * k]);
+        read_full(&mut stdin, &mut bytes[0..8 * k])?;
         fill(&mut block, &bytes, k);
         let passes = prepare::prepare_dual_node_growth(&mut block[0..k], &mut scratch[0..m], n, d);
         tidy(&mut block[0..k]);
-        io::print_decimal(1, passes as u64);
-        io::write_all(1, b" ");
-        io::print_decimal(1, sum(&scratch[0..m], sum(&block[0..k], 7)) as u64);
-        io::write_all(1, b"\\n");
+        let left = sum(&scratch[0..m], sum(&block[0..k], 7));
+        println!(rt; "{passes} {left}")?;
     }
+    Ok(())
 }
 '''
 
@@ -153,22 +171,25 @@ def main():
         lines += f'{count} {checksum([0] * scratch_length(after), checksum(words(after)))}\n'.encode()
     top = tempfile.mkdtemp()
     below = crates_below('prepare')
-    for c in below: shutil.copytree(os.path.join(TOP, 'crates', c), os.path.join(top, 'crates', c))
+    for c in below:
+        shutil.copytree(os.path.join(TOP, 'crates', c), os.path.join(top, 'crates', c), ignore=shutil.ignore_patterns('out'))
     os.makedirs(os.path.join(top, 'crates', 'drive', 'src'))
-    lines_of = [f'{c}: {" ".join(d)}\n' for c, d in {**below, 'drive': list(below) + ['io', 'libc']}.items()]
+    lines_of = [f'{c}: {" ".join(d)}\n' for c, d in {**below, 'drive': list(below)}.items()]
     open(os.path.join(top, 'crates.txt'), 'w').write(''.join(lines_of))
-    for name, text in ('src/main.rt', PROGRAM.encode()), ('stdin', data), ('stdout', lines):
-        open(os.path.join(top, 'crates', 'drive', name), 'wb').write(text)
+    drive = os.path.join(top, 'crates', 'drive')
+    open(os.path.join(drive, 'src', 'main.rt'), 'w').write(PROGRAM)
     subprocess.run(['git', 'init', '-q', top], check=True)
-    run = subprocess.run(['rt', 'try', 'drive'], cwd=top, capture_output=True, text=True)
-    native = [l for l in run.stdout.splitlines() + run.stderr.splitlines() if 'native' in l]
-    print('\n'.join(native))
+    run = subprocess.run(['rt', 'try'], cwd=drive, input=data, capture_output=True)
+    equal = run.returncode == 0 and run.stdout == lines
+    if not equal:
+        print(run.stderr.decode(errors='replace')[-2000:])
+        print(sum(a != b for a, b in zip(run.stdout.splitlines(), lines.splitlines())), 'lines differ')
     most = max(x[3] for x in every)
     print(f'{len(every)} preparations in the streams, {len(busy)} of which change the block, {most} passes at the most;'
           f' {len(chosen)} run, {sum(x[2] for x in chosen)} of them growing,'
-          f' {sum(x[3] > 1 for x in chosen)} of more than one pass')
+          f' {sum(x[3] > 1 for x in chosen)} of more than one pass: ' + ('equal' if equal else 'NOT EQUAL'))
     shutil.rmtree(top)
-    sys.exit(0 if len(native) == 3 and all(l.startswith('ok') for l in native) else 1)
+    sys.exit(0 if equal else 1)
 
 
 if __name__ == '__main__':

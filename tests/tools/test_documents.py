@@ -29,7 +29,7 @@ def steps(page):
 
 
 @needs_library
-@unittest.skipUnless(BUILT, 'cardrun is not built: rt check cardrun')
+@unittest.skipUnless(BUILT, 'cardrun is not built: tools/build-programs.sh')
 class Documents(InFolder):
     def follow(self, name, least):
         found = steps(content('docs', name).decode())

@@ -1,4 +1,5 @@
 """Makes the calls of a script on the library, and keeps what only the block tells."""
+import glob
 import os
 from array import array
 
@@ -16,15 +17,17 @@ def available():
     return library.find() is not None
 
 
+def older(path):
+    """Whether a source file of the crates is newer than a file that was built from them."""
+    when = os.path.getmtime(path)
+    sources = glob.iglob(os.path.join(package.TOP, 'crates', '*', 'src', '**'), recursive=True)
+    return any(os.path.getmtime(s) > when for s in sources if os.path.isfile(s))
+
+
 def stale():
     """Whether a source file of the crates is newer than the library that was built from them."""
     found = library.find()
-    crates = os.path.join(package.TOP, 'crates')
-    if found is None or library.VARIABLE in os.environ or not os.path.isdir(crates):
-        return False
-    when = os.path.getmtime(found)
-    sources = (os.path.join(f, n) for f, _, names in os.walk(crates) if os.path.basename(f) == 'src' for n in names)
-    return any(os.path.getmtime(s) > when for s in sources)
+    return found is not None and library.VARIABLE not in os.environ and older(found)
 
 
 def table(module, fields):

@@ -31,9 +31,9 @@ def lines(records):
         if said is None:
             raise NoAnswer(
                 f"cannot run {os.path.relpath(program)} ({e.strerror}): "
-                "build it with 'rt check cardrun', or name it in CARDRUN"
+                "build it with 'tools/build-programs.sh cardrun', or name it in CARDRUN"
             ) from None
-        print("NOT PROVED YET: answers of 'rt try'. 'rt check cardrun' proves and builds the program", file=sys.stderr)
+        print("NOT PROVED YET: answers of 'rt try'. 'tools/build-programs.sh' proves and builds the program", file=sys.stderr)
         return said
     if done.returncode:
         raise NoAnswer(f'{os.path.relpath(program)} ended with status {done.returncode}')

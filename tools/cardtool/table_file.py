@@ -155,7 +155,7 @@ def table_of(words):
 def verdicts(data):
     """The program's lines for a file."""
     if not os.path.exists(PROGRAM):
-        raise NoAnswer('the verdict comes from the program: rt check tablecheck')
+        raise NoAnswer('the verdict comes from the program: tools/build-programs.sh tablecheck')
     done = subprocess.run([PROGRAM], input=data, stdout=subprocess.PIPE)
     if done.returncode:
         raise BadInput(f'tablecheck ended with status {done.returncode}')

@@ -4,6 +4,7 @@ use Rattle.answers.specs.laws.Numbers.{tells_as}
 use Rattle.answers.specs.Numbers.{length_numbers, answer_numbers}
 use borrow.Author.Rules.{sfits_of, rules}
 use mir.Facts.{to_z-of_z}
+use mir.Syntax.{w64}
 use mathlib.Core.Path.{sym, ap, ◌∙◌}
 use Rattle.c_api_round.proofs.tell_group.Goals as goal
 
@@ -11,7 +12,7 @@ pub returns-in-NonZeroGrow : goal.returns-in-NonZeroGrow
 unfolding group_numbers
 returns-in-NonZeroGrow c = tells_as c.tell_length.ensures
     (ap (λ z. length_numbers (NonZeroGrow z c.in-NonZeroGrow.e))
-    (to_z-of_z
+    (to_z-of_z {w = w64}
     (sfits_of
     (rw c.in-NonZeroGrow.is
     at c.well_formed.1.0).1.1.1.1.0.1))
