@@ -8,7 +8,7 @@ returns-then-k-ne0 c =
     let e = c.stop.ensures in (
       turned-stop _
           (open-refused c.requires.3 c.requires.4 _ _ _ _ _ _ c.requires.5.edge-words c.requires.1 _
-          c.«open».ensures.0
+          c.open-k.ensures.0
           c.if-k-ne0.true)
           e.0 e.1,
       e.2,
@@ -20,7 +20,7 @@ ask-out-requires c =
     (
       c.requires.0,
       opened-runs c.args.block.now c.requires.2 c.requires.5.edge-words
-          c.«open».ensures c.if-k-ne0.false,
+          c.open-k.ensures c.if-k-ne0.false,
       c.requires.3,
       c.requires.4,
       search rules,
@@ -30,7 +30,7 @@ ask-out-requires c =
 
 pub returns : goal.returns
 returns c =
-    let q = c.«open».ensures in
+    let q = c.open-k.ensures in
     let e = c.ask-out.ensures in (
       turned-open c.requires.3 c.requires.4 _ _ _ c.args.block.now _ _ c.requires.5.edge-words c.requires.1 _ q.0
           c.if-k-ne0.false q.1 e.1 e.0,

@@ -7,28 +7,17 @@ use Rattle.graph.specs.laws.Members.{by-test}
 use native.Mathlib.Omega.{arith}
 use Rattle.lines_export.specs.laws.Stream.{whole-yes, whole-no}
 use borrow.Author.Rules.{rules}
-use Rattle.lines_export.proofs.stream.whole.Statement.{statement}
-use Rattle.lines_export.proofs.stream.whole.Tie as tie
+use Rattle.lines_export.proofs.stream.whole.Goals as goal
 
-sub-n : tie.Need-overflow-sub-n
-sub-n c = search rules
+pub returns-then-n-lt2 : goal.returns-then-n-lt2
+returns-then-n-lt2 c = (sym (whole-no _ _ (omega arith)), λ e. omega arith)
 
-returns : tie.Need-returns
-returns c = (sym (whole-no _ _ (omega arith)), λ e. omega arith)
-
-pair-requires : tie.Need-pair-requires
-pair-requires c κs = search rules
-
-returns-2 : tie.Need-returns-2
-returns-2 c =
-    let a = c.before.before.before in
+pub returns : goal.returns
+returns c =
     let e = c.pair.ensures in
-    let n = length a.args.records.now - a.args.i - 2 in (
+    let n = length c.args.records.now - c.args.i - 2 in (
       by-test (leb c.pair.result n)
           (λ q. q ∙ sym (whole-yes _ _ (omega (arith, leb-true c.pair.result n q, e.0))))
           (λ q. q ∙ sym (whole-no _ _ (omega (arith, leb-false c.pair.result n q, e.0)))),
       λ q. omega (arith, leb-false c.pair.result n q, e.1),
     )
-
-pub whole-spec : {M : Type 1} → statement M
-whole-spec = tie.close (tie.spec sub-n returns pair-requires returns-2)
