@@ -5,15 +5,14 @@ use borrow.Author.Rules.{rules}
 use Rattle.lines_export.proofs.step_on.Goals as goal
 
 pub step_whole-requires : goal.step_whole-requires
-step_whole-requires c =
-    (
-      sym c.whole.ensures.0 ∙ c.if-whole.true,
-      c.requires.2,
-      c.requires.3,
-      search rules,
-      c.requires.4,
-      c.requires.5,
-    )
+step_whole-requires c = (
+  sym c.whole.ensures.0 ∙ c.if-whole.true,
+  c.requires.2,
+  c.requires.3,
+  search rules,
+  c.requires.4,
+  c.requires.5,
+)
 
 pub returns-then-whole : goal.returns-then-whole
 returns-then-whole c =

@@ -1,3 +1,4 @@
+use native.Mathlib.Omega.{arith}
 use mathlib.Core.Path.{◌≡◌, sym, ◌∙◌}
 use Rattle.graph.specs.Word.{word_at}
 use Rattle.c_api_calls.specs.laws.Done.{other-done}
@@ -74,11 +75,9 @@ returns-in-16 c =
 pub returns-in_default : goal.returns-in_default
 returns-in_default c =
     let e = c.word-k.ensures.0 in
-    let m = rw e at c.in_default.rest in
     let k = c.other.ensures in
     rw
-    (kind-other c.args.circles.now c.args.w.now m.0.0.0.0.0.0.0.0.0.0.1
-    m.0.0.0.0.0.0.0.0.0.1 m.0.0.0.0.0.0.0.0.1 m.0.0.0.0.0.0.0.1
-    m.0.0.0.0.0.0.1 m.0.0.0.0.0.1
-    m.0.0.0.0.1 m.0.0.0.1 m.0.0.1 m.0.1 m.1)
+    (kind-other c.args.circles.now c.args.w.now (omega (arith, e)) (omega (arith, e)) (omega (arith, e)) (omega (arith, e))
+    (omega (arith, e)) (omega (arith, e)) (omega (arith, e)) (omega (arith, e)) (omega (arith, e)) (omega (arith, e))
+    (omega (arith, e)))
     (other-done c.requires.0.accepted c.requires.2 k.0 k.1 k.2 c.requires.0.cleared)

@@ -157,11 +157,10 @@ returns-in-11 c =
     (answers-advance c.requires.1 _ k c.field-in-11.ensures.0 e.0, e.1)
 
 pub returns-in_default : goal.returns-in_default
-returns-in_default c =
-    (
-      answers-clear c.requires.1
-          (last-kind c.requires.1 c.requires.2 (omega arith) (omega arith) (omega arith) (omega arith)
-          (omega arith) (omega arith) c.requires.3 (omega arith) c.requires.4)
-          c.clear_all.ensures,
-      refl,
-    )
+returns-in_default c = (
+  answers-clear c.requires.1
+      (last-kind c.requires.1 c.requires.2 (omega arith) (omega arith) (omega arith) (omega arith)
+      (omega arith) (omega arith) c.requires.3 (omega arith) c.requires.4)
+      c.clear_all.ensures,
+  refl,
+)

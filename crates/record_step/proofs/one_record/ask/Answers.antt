@@ -70,15 +70,14 @@ slice_bounds-call-end-2 c =
     omega (arith, c.requires.5, c.scratch_length-q.ensures)
 
 pub call-a-requires : goal.call-a-requires
-call-a-requires c =
-    (
-      part-opened c.requires.1 c.requires.4 _ c.block_length-m.ensures _ _ c.scratch_length-q.ensures
-          c.requires.5 c.requires.6,
-      c.requires.2,
-      c.requires.3,
-      c.if-kind-eq10.false,
-      c.if-kind-eq12.false,
-    )
+call-a-requires c = (
+  part-opened c.requires.1 c.requires.4 _ c.block_length-m.ensures _ _ c.scratch_length-q.ensures
+      c.requires.5 c.requires.6,
+  c.requires.2,
+  c.requires.3,
+  c.if-kind-eq10.false,
+  c.if-kind-eq12.false,
+)
 
 pub returns : goal.returns
 returns c =

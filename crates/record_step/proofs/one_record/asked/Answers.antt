@@ -10,15 +10,14 @@ returns-then-r-eq0 c =
     (turned-stop 3 (call-early c.requires.3 c.requires.4 _ _ c.if-r-eq0.true) e.0 e.1, e.2, refl)
 
 pub first-requires : goal.first-requires
-first-requires c =
-    (
-      c.requires.0,
-      c.if-r-eq1.true,
-      stands-gathering _ c.requires.2.at c.requires.2.stands c.if-r-eq1.true,
-      c.requires.3,
-      c.requires.4,
-      c.requires.5,
-    )
+first-requires c = (
+  c.requires.0,
+  c.if-r-eq1.true,
+  stands-gathering _ c.requires.2.at c.requires.2.stands c.if-r-eq1.true,
+  c.requires.3,
+  c.requires.4,
+  c.requires.5,
+)
 
 pub ask-out-requires : goal.ask-out-requires
 ask-out-requires c =

@@ -16,17 +16,16 @@ returns-then-k-ne0 c =
     )
 
 pub ask-out-requires : goal.ask-out-requires
-ask-out-requires c =
-    (
-      c.requires.0,
-      opened-runs c.args.block.now c.requires.2 c.requires.5.edge-words
-          c.open-k.ensures c.if-k-ne0.false,
-      c.requires.3,
-      c.requires.4,
-      search rules,
-      c.requires.5.scratch-words,
-      c.requires.5.zero,
-    )
+ask-out-requires c = (
+  c.requires.0,
+  opened-runs c.args.block.now c.requires.2 c.requires.5.edge-words
+      c.open-k.ensures c.if-k-ne0.false,
+  c.requires.3,
+  c.requires.4,
+  search rules,
+  c.requires.5.scratch-words,
+  c.requires.5.zero,
+)
 
 pub returns : goal.returns
 returns c =

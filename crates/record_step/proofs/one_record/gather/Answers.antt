@@ -14,12 +14,11 @@ sizes-s-requires c =
     omega arith
 
 pub returns-then-r-eq0 : goal.returns-then-r-eq0
-returns-then-r-eq0 c =
-    (
-      (λ block. turned-sizes c.requires.3 _ _ _ _ block _ _ c.requires.0 c.if-kind-eq1.true
-          c.if-r-eq0.true c.sizes-s.ensures),
-      refl,
-    )
+returns-then-r-eq0 c = (
+  (λ block. turned-sizes c.requires.3 _ _ _ _ block _ _ c.requires.0 c.if-kind-eq1.true
+      c.if-r-eq0.true c.sizes-s.ensures),
+  refl,
+)
 
 pub returns-then-kind-eq1 : goal.returns-then-kind-eq1
 returns-then-kind-eq1 c =
@@ -38,12 +37,11 @@ add_edge-p-requires c =
     (c.requires.5, omega arith)
 
 pub returns-then-kind-eq2 : goal.returns-then-kind-eq2
-returns-then-kind-eq2 c =
-    (
-      (λ block. turned-edge c.requires.3 _ _ _ _ block _ _ c.requires.0 c.if-kind-eq2.true
-          c.if-r-eq1.true c.requires.5 c.add_edge-p.ensures),
-      refl,
-    )
+returns-then-kind-eq2 c = (
+  (λ block. turned-edge c.requires.3 _ _ _ _ block _ _ c.requires.0 c.if-kind-eq2.true
+      c.if-r-eq1.true c.requires.5 c.add_edge-p.ensures),
+  refl,
+)
 
 pub add_virtual-p-requires : goal.add_virtual-p-requires
 unfolding field_counts

@@ -9,21 +9,20 @@ pub pair-kind-requires : goal.pair-kind-requires
 pair-kind-requires c = omega (arith, kind-there _ (sym c.well_formed-2.ensures ∙ c.if-well_formed.true))
 
 pub gather-requires : goal.gather-requires
-gather-requires c =
-    (
-      c.requires.0,
-      c.requires.1,
-      (λ e. standing-few _ c.requires.3 e),
-      record {
-        formed = sym c.well_formed-2.ensures
-            ∙ c.if-well_formed.true;
-        is = sym c.pair-kind.ensures.0;
-        short = c.requires.4;
-      },
-      c.if-kind-le3.true,
-      c.requires.5.edge-words,
-      c.requires.5.virtual-words,
-    )
+gather-requires c = (
+  c.requires.0,
+  c.requires.1,
+  (λ e. standing-few _ c.requires.3 e),
+  record {
+    formed = sym c.well_formed-2.ensures
+        ∙ c.if-well_formed.true;
+    is = sym c.pair-kind.ensures.0;
+    short = c.requires.4;
+  },
+  c.if-kind-le3.true,
+  c.requires.5.edge-words,
+  c.requires.5.virtual-words,
+)
 
 pub returns-then-kind-le3 : goal.returns-then-kind-le3
 returns-then-kind-le3 c =
@@ -35,20 +34,19 @@ returns-then-kind-le3 c =
     )
 
 pub asked-requires : goal.asked-requires
-asked-requires c =
-    (
-      c.requires.0,
-      c.requires.1,
-      c.requires.3,
-      record {
-        formed = sym c.well_formed-2.ensures
-            ∙ c.if-well_formed.true;
-        is = sym c.pair-kind.ensures.0;
-        short = c.requires.4;
-      },
-      omega arith,
-      c.requires.5,
-    )
+asked-requires c = (
+  c.requires.0,
+  c.requires.1,
+  c.requires.3,
+  record {
+    formed = sym c.well_formed-2.ensures
+        ∙ c.if-well_formed.true;
+    is = sym c.pair-kind.ensures.0;
+    short = c.requires.4;
+  },
+  omega arith,
+  c.requires.5,
+)
 
 pub returns : goal.returns
 returns c =
