@@ -5,6 +5,8 @@
 
 ghost use Rattle.std.specs.Prelude.{◌≡◌, ◌<◌, ◌≤◌, length};
 
+use std::io;
+
 // The sound block (crates/graph/specs/Example.antt has the state that it holds).
 fn sample() -> [i64; 56] {
     [
@@ -19,50 +21,53 @@ fn sample() -> [i64; 56] {
     ]
 }
 
-fn tell(name: &[u8], k: usize) {
-    io::write_all(1, name);
-    io::write_all(1, b": ");
-    io::print_decimal(1, k as u64);
-    io::write_all(1, b"\n");
+fn tell(rt: &impl Print, name: &[u8], k: usize) -> io::Result<()> {
+    rt.write_all(name)?;
+    println!(rt; ": {k}")
 }
 
 // The block with word i set to x.
-fn with(name: &[u8], i: usize, x: i64)
+fn with(rt: &impl Print, name: &[u8], i: usize, x: i64) -> io::Result<()>
     requires { i < 56 }
 {
     let mut b = sample();
     b[i] = x;
     let t = [0i64; 6];
-    tell(name, memory_tests::refuse::refusal(&b, &t));
+    tell(rt, name, memory_tests::refuse::refusal(&b, &t))
 }
 
-fn lengths() {
+fn lengths(rt: &impl Print) -> io::Result<()> {
     let b = sample();
     let t = [0i64; 7];
     tell(
+        rt,
         b"a sound block",
         memory_tests::refuse::refusal(&b, &t[0..6]),
-    );
+    )?;
     tell(
+        rt,
         b"the block a word short",
         memory_tests::refuse::refusal(&b[0..55], &t[0..6]),
-    );
+    )?;
     tell(
+        rt,
         b"the scratch a word short",
         memory_tests::refuse::refusal(&b, &t[0..5]),
-    );
+    )?;
     tell(
+        rt,
         b"the scratch a word long",
         memory_tests::refuse::refusal(&b, &t),
-    );
+    )?;
     tell(
+        rt,
         b"no block at all",
         memory_tests::refuse::refusal(&b[0..0], &t[0..6]),
-    );
+    )
 }
 
 // The sizes of the sound block in the header of one that has a word more.
-fn longer() {
+fn longer(rt: &impl Print) -> io::Result<()> {
     let mut b = [0i64; 57];
     b[0] = 2;
     b[1] = 1;
@@ -70,125 +75,131 @@ fn longer() {
     b[3] = 4;
     let t = [0i64; 6];
     tell(
+        rt,
         b"the block a word long",
         memory_tests::refuse::refusal(&b, &t),
-    );
+    )
 }
 
-fn sizes() {
-    with(b"V 0", 0, 0);
-    with(b"V 1,025", 0, 1025);
-    with(b"V negative", 0, -1);
-    with(b"E 0", 1, 0);
-    with(b"E 4,097", 1, 4097);
-    with(b"N 0", 2, 0);
-    with(b"N 1,025", 2, 1025);
-    with(b"L 65,537", 3, 65537);
+fn sizes(rt: &impl Print) -> io::Result<()> {
+    with(rt, b"V 0", 0, 0)?;
+    with(rt, b"V 1,025", 0, 1025)?;
+    with(rt, b"V negative", 0, -1)?;
+    with(rt, b"E 0", 1, 0)?;
+    with(rt, b"E 4,097", 1, 4097)?;
+    with(rt, b"N 0", 2, 0)?;
+    with(rt, b"N 1,025", 2, 1025)?;
+    with(rt, b"L 65,537", 3, 65537)
 }
 
-fn vertices() {
-    with(b"nodes 3 of 2", 4, 3);
-    with(b"nodes negative", 4, -1);
-    with(b"flags negative", 17, -1);
-    with(b"flags 4", 17, 4);
-    with(b"vertex holder negative", 18, -1);
-    with(b"vertex grandson negative", 20, -1);
-    with(b"first negative", 22, -1);
-    with(b"first past the next", 22, 2);
+fn vertices(rt: &impl Print) -> io::Result<()> {
+    with(rt, b"nodes 3 of 2", 4, 3)?;
+    with(rt, b"nodes negative", 4, -1)?;
+    with(rt, b"flags negative", 17, -1)?;
+    with(rt, b"flags 4", 17, 4)?;
+    with(rt, b"vertex holder negative", 18, -1)?;
+    with(rt, b"vertex grandson negative", 20, -1)?;
+    with(rt, b"first negative", 22, -1)?;
+    with(rt, b"first past the next", 22, 2)
 }
 
-fn sides() {
-    with(b"end negative", 24, -1);
-    with(b"end no vertex", 24, 2);
-    with(b"growth negative", 26, -1);
-    with(b"growth 1,100,000,000,001", 26, 1100000000001);
-    with(b"holder negative", 28, -1);
-    with(b"holder past the last node", 28, 2);
-    with(b"grandson negative", 30, -1);
-    with(b"a held side without a grandson", 30, 0);
+fn sides(rt: &impl Print) -> io::Result<()> {
+    with(rt, b"end negative", 24, -1)?;
+    with(rt, b"end no vertex", 24, 2)?;
+    with(rt, b"growth negative", 26, -1)?;
+    with(rt, b"growth 1,100,000,000,001", 26, 1100000000001)?;
+    with(rt, b"holder negative", 28, -1)?;
+    with(rt, b"holder past the last node", 28, 2)?;
+    with(rt, b"grandson negative", 30, -1)?;
+    with(rt, b"a held side without a grandson", 30, 0)
 }
 
-fn edges() {
-    with(b"at negative", 32, -1);
-    with(b"at wrong: side 1 at vertex 0", 32, 1);
-    with(b"ends the same", 25, 0);
-    with(b"weight negative", 34, -1);
-    with(b"weight 1,000,001", 34, 1000001);
-    with(b"original weight negative", 55, -1);
-    with(b"original weight 1,000,001", 55, 1000001);
+fn edges(rt: &impl Print) -> io::Result<()> {
+    with(rt, b"at negative", 32, -1)?;
+    with(rt, b"at wrong: side 1 at vertex 0", 32, 1)?;
+    with(rt, b"ends the same", 25, 0)?;
+    with(rt, b"weight negative", 34, -1)?;
+    with(rt, b"weight 1,000,001", 34, 1000001)?;
+    with(rt, b"original weight negative", 55, -1)?;
+    with(rt, b"original weight 1,000,001", 55, 1000001)
 }
 
-fn marks() {
-    with(b"mark negative", 6, -1);
-    with(b"mark 2", 6, 2);
-    with(b"mark 0", 6, 0);
+fn marks(rt: &impl Print) -> io::Result<()> {
+    with(rt, b"mark negative", 6, -1)?;
+    with(rt, b"mark 2", 6, 2)?;
+    with(rt, b"mark 0", 6, 0)
 }
 
-fn nodes() {
-    with(b"class negative", 35, -1);
-    with(b"a blossom whose first member is itself", 35, 2);
-    with(b"grow state negative", 37, -1);
-    with(b"grow state 3", 37, 3);
-    with(b"parent negative", 39, -1);
-    with(b"parent past the last node", 39, 2);
-    with(b"dual negative", 41, -1);
-    with(b"dual 1,000,000,001", 41, 1000000001);
+fn nodes(rt: &impl Print) -> io::Result<()> {
+    with(rt, b"class negative", 35, -1)?;
+    with(rt, b"a blossom whose first member is itself", 35, 2)?;
+    with(rt, b"grow state negative", 37, -1)?;
+    with(rt, b"grow state 3", 37, 3)?;
+    with(rt, b"parent negative", 39, -1)?;
+    with(rt, b"parent past the last node", 39, 2)?;
+    with(rt, b"dual negative", 41, -1)?;
+    with(rt, b"dual 1,000,000,001", 41, 1000000001)
 }
 
-fn lists() {
-    with(b"start negative", 43, -1);
-    with(b"start not where the lists begin", 43, 1);
-    with(b"boundary length negative", 45, -1);
-    with(b"boundary past L", 45, 4);
-    with(b"overgrown length negative", 47, -1);
-    with(b"a boundary entry negative", 49, -1);
-    with(b"a boundary entry that is no side", 49, 2);
-    with(b"a side that the node does not hold", 49, 1);
+fn lists(rt: &impl Print) -> io::Result<()> {
+    with(rt, b"start negative", 43, -1)?;
+    with(rt, b"start not where the lists begin", 43, 1)?;
+    with(rt, b"boundary length negative", 45, -1)?;
+    with(rt, b"boundary past L", 45, 4)?;
+    with(rt, b"overgrown length negative", 47, -1)?;
+    with(rt, b"a boundary entry negative", 49, -1)?;
+    with(rt, b"a boundary entry that is no side", 49, 2)?;
+    with(rt, b"a side that the node does not hold", 49, 1)
 }
 
-fn stacks() {
-    with(b"an overgrown entry negative", 50, -1);
-    with(b"an overgrown vertex that is none", 50, 2050);
-    with(b"an overgrown vertex that the node does not hold", 50, 2049);
-    with(b"an amount of 1,000,000,001", 50, 1024000001024);
-    with(b"a free word of the store negative", 51, -1);
-    with(b"a word behind the last node negative", 36, -1);
-    with(b"a free word of the header negative", 7, -1);
+fn stacks(rt: &impl Print) -> io::Result<()> {
+    with(rt, b"an overgrown entry negative", 50, -1)?;
+    with(rt, b"an overgrown vertex that is none", 50, 2050)?;
+    with(
+        rt,
+        b"an overgrown vertex that the node does not hold",
+        50,
+        2049,
+    )?;
+    with(rt, b"an amount of 1,000,000,001", 50, 1024000001024)?;
+    with(rt, b"a free word of the store negative", 51, -1)?;
+    with(rt, b"a word behind the last node negative", 36, -1)?;
+    with(rt, b"a free word of the header negative", 7, -1)
 }
 
 // The block with two words of boundary and no stack.
-fn pair(name: &[u8], x: i64, y: i64) {
+fn pair(rt: &impl Print, name: &[u8], x: i64, y: i64) -> io::Result<()> {
     let mut b = sample();
     b[45] = 2;
     b[47] = 0;
     b[49] = x;
     b[50] = y;
     let t = [0i64; 6];
-    tell(name, memory_tests::refuse::refusal(&b, &t));
+    tell(rt, name, memory_tests::refuse::refusal(&b, &t))
 }
 
 // The block with k active nodes, and x, y in the active list.
-fn active(name: &[u8], k: i64, x: i64, y: i64) {
+fn active(rt: &impl Print, name: &[u8], k: i64, x: i64, y: i64) -> io::Result<()> {
     let mut b = sample();
     b[5] = k;
     b[53] = x;
     b[54] = y;
     let t = [0i64; 6];
-    tell(name, memory_tests::refuse::refusal(&b, &t));
+    tell(rt, name, memory_tests::refuse::refusal(&b, &t))
 }
 
-fn actives() {
-    active(b"no active node", 0, 0, 9);
-    active(b"active nodes 3 of 2", 3, 0, 0);
-    active(b"active nodes negative", -1, 0, 9);
-    active(b"an active node that is none", 1, 1, 9);
-    active(b"an active node negative", 1, -1, 9);
-    active(b"a node twice in the active list", 2, 0, 0);
-    active(b"a free word of the active list negative", 1, 0, -1);
+fn actives(rt: &impl Print) -> io::Result<()> {
+    active(rt, b"no active node", 0, 0, 9)?;
+    active(rt, b"active nodes 3 of 2", 3, 0, 0)?;
+    active(rt, b"active nodes negative", -1, 0, 9)?;
+    active(rt, b"an active node that is none", 1, 1, 9)?;
+    active(rt, b"an active node negative", 1, -1, 9)?;
+    active(rt, b"a node twice in the active list", 2, 0, 0)?;
+    active(rt, b"a free word of the active list negative", 1, 0, -1)
 }
 
 // The block with a second node that is removed, and with word i set to x and word j to y.
-fn removed(name: &[u8], i: usize, x: i64, j: usize, y: i64)
+fn removed(rt: &impl Print, name: &[u8], i: usize, x: i64, j: usize, y: i64) -> io::Result<()>
     requires { (i < 56) × (j < 56) }
 {
     let mut b = sample();
@@ -198,17 +209,17 @@ fn removed(name: &[u8], i: usize, x: i64, j: usize, y: i64)
     b[i] = x;
     b[j] = y;
     let t = [0i64; 6];
-    tell(name, memory_tests::refuse::refusal(&b, &t));
+    tell(rt, name, memory_tests::refuse::refusal(&b, &t))
 }
 
-fn removals() {
-    removed(b"a removed node", 7, 0, 7, 0);
-    removed(b"a removed node in the active list", 5, 2, 54, 1);
-    removed(b"a removed node with a list", 46, 1, 51, 1);
-    removed(b"a removed node in Grow", 38, 1, 7, 0);
-    removed(b"a vertex that a removed node holds", 19, 2, 7, 0);
-    removed(b"a side that a removed node holds", 29, 2, 31, 1);
-    removed(b"a node that lies in a removed one", 39, 2, 7, 0);
+fn removals(rt: &impl Print) -> io::Result<()> {
+    removed(rt, b"a removed node", 7, 0, 7, 0)?;
+    removed(rt, b"a removed node in the active list", 5, 2, 54, 1)?;
+    removed(rt, b"a removed node with a list", 46, 1, 51, 1)?;
+    removed(rt, b"a removed node in Grow", 38, 1, 7, 0)?;
+    removed(rt, b"a vertex that a removed node holds", 19, 2, 7, 0)?;
+    removed(rt, b"a side that a removed node holds", 29, 2, 31, 1)?;
+    removed(rt, b"a node that lies in a removed one", 39, 2, 7, 0)
 }
 
 // The block with nothing held and nothing listed.
@@ -223,13 +234,13 @@ fn unheld() -> [i64; 56] {
 }
 
 // The same with node 0 of class x, and a blossom with node 0 as first member.
-fn first_member(name: &[u8], x: i64) {
+fn first_member(rt: &impl Print, name: &[u8], x: i64) -> io::Result<()> {
     let mut b = unheld();
     b[4] = 2;
     b[35] = x;
     b[36] = 2;
     let t = [0i64; 6];
-    tell(name, memory_tests::refuse::refusal(&b, &t));
+    tell(rt, name, memory_tests::refuse::refusal(&b, &t))
 }
 
 // How many words of b are not those of the sound block.
@@ -255,51 +266,61 @@ fn changed(b: &[i64], s: &[i64], i: usize) -> usize
 }
 
 // An opening of 2 vertices over the sound block, with the given sizes and edge: its refusal, and how many words changed.
-fn opening(name: &[u8], v: usize, e: usize, left: i64, weight: i64, virtuals: &[i64]) {
+fn opening(
+    rt: &impl Print,
+    name: &[u8],
+    v: usize,
+    e: usize,
+    left: i64,
+    weight: i64,
+    virtuals: &[i64],
+) -> io::Result<()> {
     let mut b = sample();
     let t = [0i64; 6];
     let edge = [left, 1, weight];
     tell(
+        rt,
         name,
         open_graph::open::open(&mut b, &t, v, e, 2, 4, &edge, virtuals),
-    );
-    tell(b"  words of the block that changed", changes(&b));
+    )?;
+    tell(rt, b"  words of the block that changed", changes(&b))
 }
 
-fn openings() {
+fn openings(rt: &impl Print) -> io::Result<()> {
     let one = [1i64; 1];
     let two = [2i64; 1];
-    opening(b"open with V 0", 0, 1, 0, 4, &one);
-    opening(b"open with E 2 and one edge", 2, 2, 0, 4, &one);
+    opening(rt, b"open with V 0", 0, 1, 0, 4, &one)?;
+    opening(rt, b"open with E 2 and one edge", 2, 2, 0, 4, &one)?;
     opening(
+        rt,
         b"open with V 3, for which the block is too short",
         3,
         1,
         0,
         4,
         &one,
-    );
-    opening(b"open with virtual vertex 2 of 2", 2, 1, 0, 4, &two);
-    opening(b"open with an edge from 1 to 1", 2, 1, 1, 4, &one);
-    opening(b"open with a negative weight", 2, 1, 0, -4, &one);
-    opening(b"open as it should be", 2, 1, 0, 4, &one);
+    )?;
+    opening(rt, b"open with virtual vertex 2 of 2", 2, 1, 0, 4, &two)?;
+    opening(rt, b"open with an edge from 1 to 1", 2, 1, 1, 4, &one)?;
+    opening(rt, b"open with a negative weight", 2, 1, 0, -4, &one)?;
+    opening(rt, b"open as it should be", 2, 1, 0, 4, &one)
 }
 
-fn main() {
-    lengths();
-    longer();
-    sizes();
-    vertices();
-    sides();
-    edges();
-    marks();
-    nodes();
-    lists();
-    stacks();
-    pair(b"a side twice in a list", 0, 0);
-    actives();
-    removals();
-    first_member(b"a blossom whose first member is a defect", 0);
-    first_member(b"a blossom whose first member is removed", 1026);
-    openings();
+fn main(rt: HostRuntime) -> io::Result<()> {
+    lengths(&rt)?;
+    longer(&rt)?;
+    sizes(&rt)?;
+    vertices(&rt)?;
+    sides(&rt)?;
+    edges(&rt)?;
+    marks(&rt)?;
+    nodes(&rt)?;
+    lists(&rt)?;
+    stacks(&rt)?;
+    pair(&rt, b"a side twice in a list", 0, 0)?;
+    actives(&rt)?;
+    removals(&rt)?;
+    first_member(&rt, b"a blossom whose first member is a defect", 0)?;
+    first_member(&rt, b"a blossom whose first member is removed", 1026)?;
+    openings(&rt)
 }

@@ -1,8 +1,9 @@
 -- A run whose input comes in blocks, cut anywhere.
-use Rattle.std.specs.Prelude.{ℕ, ◌+◌, ◌≡◌, List, ◌++◌, length}
+use Rattle.std.specs.Prelude.{ℕ, ◌+◌, ◌≡◌, List, ◌++◌, ℤ, length}
 use Rattle.records.specs.Lines.{joined_lines}
 use Rattle.records.specs.Run.{Stage, run_from}
-use Rattle.record_step.specs.Standing.{Memory, Stands}
+use Rattle.records.specs.declared.setup.Setup.{Setup}
+use Rattle.record_step.specs.Standing.{Memory, Stands, memory}
 
 -- all that a run writes from record k on, where it stands at s and b is the rest of its input
 unfoldable pub lines_after : ℕ → Stage → List ℕ → List ℕ
@@ -23,3 +24,12 @@ pub record BlockRun (k k' : ℕ) (m m' : Memory) (b rest out : List ℕ) : Type 
 pub record BlockRan (k k' : ℕ) (m m' : Memory) (b rest : List ℕ) : Type 0 where
   pub out : List ℕ
   pub run : BlockRun k k' m m' b rest out
+
+-- From the memory m behind k records with the bytes b at hand some records were run, whose lines may not all be written. The block and the words of edges
+-- and virtual vertices are those of the run then.
+pub record BlockLost (k : ℕ) (m : Memory) (block edges virtuals : List ℤ) (b : List ℕ) : Type 0 where
+  pub count : ℕ
+  pub stage : ℕ
+  pub setup : Setup
+  pub rest : List ℕ
+  pub ran : BlockRan k count m (memory stage setup block edges virtuals) b rest

@@ -3,31 +3,31 @@
 // The program: records from standard input, lines to standard output. It reads what is there, up to a buffer, runs every whole record in it, writes
 // their lines, and only then reads again. Each record is the same step as in the exported call (record_step::one_record).
 
-ghost use Rattle.std.specs.Prelude.{◌≡◌, true, false, ◌&&◌, ◌+◌, ◌-◌, ◌<◌, ◌≤◌, ltb, leb, length, take, drop};
+ghost use Rattle.std.specs.Prelude.{◌≡◌, true, false, ◌&&◌, ◌+◌, ◌-◌, ◌<◌, ◌≤◌, ltb, leb, length, take, drop, IfOk, OnErr};
 ghost use Rattle.records.specs.Lines.{joined_lines};
 ghost use Rattle.records.specs.Run.{ends};
 ghost use Rattle.record_step.specs.Standing.{memory, Standing, MemorySuffices};
 ghost use Rattle.lines_export.specs.Whole.{whole_at};
-ghost use Rattle.cardrun.specs.Blocks.{BlockRun, BlockRan};
+ghost use Rattle.cardrun.specs.Blocks.{BlockRun, BlockRan, BlockLost};
 
-use libc::{STDIN_FILENO, STDOUT_FILENO};
 use lines_export::stream;
 use lines_export::stream::Step;
 use record_run::run;
 use record_run::run::{After, Run};
 use records::lines::Out;
+use std::io;
+use std::io::Read;
 
 // ---- input
 
-// What is there of the input, up to the end of the buffer, goes behind its first n bytes. How many bytes it is: 0 at the end of the input, and where it
-// can't be read.
-fn read_more(input: &mut [u8], n: usize) -> usize
+// What is there of the input, up to the end of the buffer, goes behind its first n bytes. How many bytes it is: 0 at the end of the input. The first
+// n bytes stay, also where the input can't be read.
+fn read_more(stdin: &mut impl Read, input: &mut [u8], n: usize) -> io::Result<usize>
     requires { n < length input.old }
-    ensures { (take n input.new ≡ take n input.old) × (n + result ≤ length input.old) }
+    ensures kept { take n input.new ≡ take n input.old }
+    ensures room { IfOk result (λ k. n + k ≤ length input.old) }
 {
-    let e = input.len();
-    let got = libc::read(STDIN_FILENO, &mut input[n..e]);
-    io::count(got, &input[n..e])
+    stdin.read(&mut input[n..])
 }
 
 // The bytes from place i up to place n go to the front.
@@ -95,10 +95,10 @@ fn run_some(
 // ---- output
 
 // The lines that the first n bytes hold are written.
-fn write_out(lines: &[u8], n: usize)
+fn write_out(rt: &impl Print, lines: &[u8], n: usize) -> io::Result<()>
     requires { n ≤ length lines.now }
 {
-    io::write_all(STDOUT_FILENO, &lines[0..n]);
+    rt.write_all(&lines[0..n])
 }
 
 // Where a run stands, and where its next record begins.
@@ -108,8 +108,9 @@ struct Place {
     at: usize,
 }
 
-// Whole records from place i on, the first of which is whole, and their lines are written.
+// Whole records from place i on, the first of which is whole, and their lines are written. Where these can't be written, the records were run.
 fn tell_some(
+    rt: &impl Print,
     input: &[u8],
     i: usize,
     r: Run,
@@ -118,27 +119,30 @@ fn tell_some(
     scratch: &mut [i64],
     edges: &mut [i64],
     virtuals: &mut [i64],
-) -> Place
+) -> io::Result<Place>
     requires { (16384 ≤ length lines.old) × (whole_at input.now i ≡ true) × (r.stage < 3)
         × (r.record + length input.now < 18446744073709551615 + i)
         × Standing (memory r.stage r.setup block.old edges.old virtuals.old)
         × MemorySuffices block.old scratch.old edges.old virtuals.old }
-    ensures { BlockRan r.record result.run.record
+    ensures ran { IfOk result (λ p. BlockRan r.record p.run.record
         (memory r.stage r.setup block.old edges.old virtuals.old)
-        (memory result.run.stage result.run.setup block.new edges.new virtuals.new)
-        (drop i input.now) (drop result.at input.now)
-        × (i < result.at) × (result.at ≤ length input.now) × (result.run.record + i ≤ r.record + result.at)
-        × (scratch.new ≡ scratch.old) }
+        (memory p.run.stage p.run.setup block.new edges.new virtuals.new)
+        (drop i input.now) (drop p.at input.now)) }
+    ensures place { IfOk result (λ p. (i < p.at) × (p.at ≤ length input.now) × (p.run.record + i ≤ r.record + p.at)) }
+    ensures lost { OnErr result (BlockLost r.record (memory r.stage r.setup block.old edges.old virtuals.old)
+        block.new edges.new virtuals.new (drop i input.now)) }
+    ensures kept { scratch.new ≡ scratch.old }
 {
     let t = run_some(input, i, r, lines, block, scratch, edges, virtuals);
     let o = t.out;
-    write_out(lines, o.at);
+    write_out(rt, lines, o.at)?;
     let p = t.run;
-    Place { run: p, at: t.at }
+    Ok(Place { run: p, at: t.at })
 }
 
 // All whole records among the bytes at hand, and their lines are written. What is left has no whole record, unless the run has ended.
 fn run_block(
+    rt: &impl Print,
     input: &[u8],
     r0: Run,
     lines: &mut [u8],
@@ -146,27 +150,29 @@ fn run_block(
     scratch: &mut [i64],
     edges: &mut [i64],
     virtuals: &mut [i64],
-) -> Place
+) -> io::Result<Place>
     requires { (16384 ≤ length lines.old) × (r0.record + length input.now < 18446744073709551615)
         × Standing (memory r0.stage r0.setup block.old edges.old virtuals.old)
         × MemorySuffices block.old scratch.old edges.old virtuals.old }
-    ensures { BlockRan r0.record result.run.record
+    ensures ran { IfOk result (λ p. BlockRan r0.record p.run.record
         (memory r0.stage r0.setup block.old edges.old virtuals.old)
-        (memory result.run.stage result.run.setup block.new edges.new virtuals.new)
-        input.now (drop result.at input.now)
-        × (result.run.stage < 3 → whole_at input.now result.at ≡ false)
-        × (result.run.stage < 3 → length input.now ≤ result.at + 65536)
-        × (result.at ≤ length input.now) × (result.run.record ≤ r0.record + result.at)
-        × (scratch.new ≡ scratch.old) }
+        (memory p.run.stage p.run.setup block.new edges.new virtuals.new)
+        input.now (drop p.at input.now)) }
+    ensures cut { IfOk result (λ p. (p.run.stage < 3 → whole_at input.now p.at ≡ false)
+        × (p.run.stage < 3 → length input.now ≤ p.at + 65536)) }
+    ensures place { IfOk result (λ p. (p.at ≤ length input.now) × (p.run.record ≤ r0.record + p.at)) }
+    ensures lost { OnErr result (BlockLost r0.record (memory r0.stage r0.setup block.old edges.old virtuals.old)
+        block.new edges.new virtuals.new input.now) }
+    ensures kept { scratch.new ≡ scratch.old }
 {
     let mut r = r0;
     let mut i = 0;
     while another(input, i, r.stage, 0, lines.len()) {
-        let t = tell_some(input, i, r, lines, block, scratch, edges, virtuals);
+        let t = tell_some(rt, input, i, r, lines, block, scratch, edges, virtuals)?;
         r = t.run;
         i = t.at;
     }
-    Place { run: r, at: i }
+    Ok(Place { run: r, at: i })
 }
 
 // ---- the end of the input
@@ -181,20 +187,23 @@ fn tell_cut(lines: &mut [u8], r: Run) -> After
 }
 
 // The input ends with n bytes at hand, which are no whole record.
-fn finish(lines: &mut [u8], r: Run, n: usize)
+fn finish(rt: &impl Print, lines: &mut [u8], r: Run, n: usize) -> io::Result<()>
     requires { (16384 ≤ length lines.old) × (r.record < 18446744073709551615) }
 {
     if n != 0 {
         let t = tell_cut(lines, r);
         let o = t.out;
-        write_out(lines, o.at);
+        write_out(rt, lines, o.at)?;
     }
+    Ok(())
 }
 
 // ---- all of it
 
-// The whole records among the first n bytes, and their lines are written; the rest goes to the front, and how many bytes it has.
+// The whole records among the first n bytes, and their lines are written; the rest goes to the front, and how many bytes it has. Where a line can't be
+// written, the bytes stay.
 fn turn(
+    rt: &impl Print,
     input: &mut [u8],
     n: usize,
     r: Run,
@@ -203,52 +212,69 @@ fn turn(
     scratch: &mut [i64],
     edges: &mut [i64],
     virtuals: &mut [i64],
-) -> Place
+) -> io::Result<Place>
     requires { (n ≤ length input.old) × (16384 ≤ length lines.old) × (r.record + n < 18446744073709551615)
         × Standing (memory r.stage r.setup block.old edges.old virtuals.old)
         × MemorySuffices block.old scratch.old edges.old virtuals.old }
-    ensures { BlockRan r.record result.run.record
+    ensures ran { IfOk result (λ p. BlockRan r.record p.run.record
         (memory r.stage r.setup block.old edges.old virtuals.old)
-        (memory result.run.stage result.run.setup block.new edges.new virtuals.new)
-        (take n input.old) (take result.at input.new)
-        × (result.run.stage < 3 → whole_at (take result.at input.new) 0 ≡ false) × (result.run.stage < 3 → result.at ≤ 65536)
-        × (result.at ≤ n) × (result.run.record + result.at ≤ r.record + n) × (scratch.new ≡ scratch.old) }
+        (memory p.run.stage p.run.setup block.new edges.new virtuals.new)
+        (take n input.old) (take p.at input.new)) }
+    ensures cut { IfOk result (λ p. (p.run.stage < 3 → whole_at (take p.at input.new) 0 ≡ false) × (p.run.stage < 3 → p.at ≤ 65536)) }
+    ensures place { IfOk result (λ p. (p.at ≤ n) × (p.run.record + p.at ≤ r.record + n)) }
+    ensures lost { OnErr result (BlockLost r.record (memory r.stage r.setup block.old edges.old virtuals.old)
+        block.new edges.new virtuals.new (take n input.old)) }
+    ensures stays { OnErr result (input.new ≡ input.old) }
+    ensures kept { scratch.new ≡ scratch.old }
 {
-    let t = run_block(&input[0..n], r, lines, block, scratch, edges, virtuals);
+    let t = run_block(rt, &input[0..n], r, lines, block, scratch, edges, virtuals)?;
     let i = t.at;
     keep(input, i, n);
     let p = t.run;
-    Place { run: p, at: n - i }
+    Ok(Place { run: p, at: n - i })
 }
 
 // All of the input. A proved loop has to end, and nothing says that input does: this one stops at a number of bytes that no input has.
 fn take_input(
+    rt: &impl Print,
+    stdin: &mut impl Read,
     input: &mut [u8],
     lines: &mut [u8],
     block: &mut [i64],
     scratch: &mut [i64],
     edges: &mut [i64],
     virtuals: &mut [i64],
-)
+) -> io::Result<()>
     requires { (length input.old ≡ 131072) × (16384 ≤ length lines.old) × MemorySuffices block.old scratch.old edges.old virtuals.old }
 {
     let mut r = run::fresh();
     let mut n = 0;
     let mut count = 0;
     while (r.stage < 3) & (count < 9223372036854775807) {
-        let got = read_more(input, n);
+        let got = read_more(stdin, input, n)?;
         if got == 0 {
-            finish(lines, r, n);
-            return;
+            return finish(rt, lines, r, n);
         }
-        let t = turn(input, n + got, r, lines, block, scratch, edges, virtuals);
+        let t = turn(
+            rt,
+            input,
+            n + got,
+            r,
+            lines,
+            block,
+            scratch,
+            edges,
+            virtuals,
+        )?;
         r = t.run;
         n = t.at;
         count += got;
     }
+    Ok(())
 }
 
-fn main() {
+fn main(rt: HostRuntime) -> io::Result<()> {
+    let mut stdin = rt.stdin();
     let mut input = [0u8; 131072];
     let mut lines = [0u8; 65536];
     let mut block = [0i64; 4096];
@@ -256,11 +282,13 @@ fn main() {
     let mut edges = [0i64; 384];
     let mut virtuals = [0i64; 65];
     take_input(
+        &rt,
+        &mut stdin,
         &mut input,
         &mut lines,
         &mut block,
         &mut scratch,
         &mut edges,
         &mut virtuals,
-    );
+    )
 }

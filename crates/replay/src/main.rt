@@ -3,48 +3,64 @@
 // Replays record streams. Standard input has frames: the bytes of records and of lines (4 bytes each, little-endian), then the records, then the
 // lines that they must give. Prints how many frames were replayed, and how many of them gave other lines.
 
-ghost use Rattle.std.specs.Prelude.{◌≡◌, ◌≢◌, ◌≤◌};
+ghost use Rattle.std.specs.Prelude.{◌≡◌, ◌≢◌, ◌≤◌, IfOk, length};
 
-use libc::{STDIN_FILENO, STDOUT_FILENO};
 use records::bytes;
+use std::io;
+use std::io::Read;
 
 // The records of a frame give lines, which are compared: 1 if they are equal, 2 else.
 fn replay(records: &[u8], wanted: &[u8], lines: &mut [u8]) -> usize {
     let k = lines_export::cardrun_lines(records, lines);
-    if check::same(&lines[0..k], wanted) {
-        1
-    } else {
-        2
+    if &lines[0..k] == wanted { 1 } else { 2 }
+}
+
+// Bytes are read until the buffer is full or the input ends; how many.
+fn read_full(input: &mut impl Read, buffer: &mut [u8]) -> io::Result<usize>
+    ensures { IfOk result (λ n. n ≤ length buffer.old) }
+{
+    let mut done = 0;
+    while done < buffer.len() {
+        let n = input.read(&mut buffer[done..])?;
+        if n == 0 {
+            break;
+        }
+        done += n;
     }
+    Ok(done)
 }
 
 // The next frame is read and replayed; 0 if there is none.
-fn next(records: &mut [u8], wanted: &mut [u8], lines: &mut [u8]) -> usize {
+fn next(
+    input: &mut impl Read,
+    records: &mut [u8],
+    wanted: &mut [u8],
+    lines: &mut [u8],
+) -> io::Result<usize> {
     let mut head = [0u8; 8];
-    if io::read_full(STDIN_FILENO, &mut head) < 8 {
-        return 0;
+    if read_full(input, &mut head)? < 8 {
+        return Ok(0);
     }
     let m = bytes::four(&head, 0);
     let n = bytes::four(&head, 4);
     if records.len() < m {
-        return 2;
+        return Ok(2);
     }
     if wanted.len() < n {
-        return 2;
+        return Ok(2);
     }
-    if io::read_full(STDIN_FILENO, &mut records[0..m]) < m {
-        return 2;
+    if read_full(input, &mut records[0..m])? < m {
+        return Ok(2);
     }
-    if io::read_full(STDIN_FILENO, &mut wanted[0..n]) < n {
-        return 2;
+    if read_full(input, &mut wanted[0..n])? < n {
+        return Ok(2);
     }
-    replay(&records[0..m], &wanted[0..n], lines)
+    Ok(replay(&records[0..m], &wanted[0..n], lines))
 }
 
-fn tell(what: &[u8], n: usize) {
-    io::write_all(STDOUT_FILENO, what);
-    io::print_decimal(STDOUT_FILENO, n as u64);
-    io::write_all(STDOUT_FILENO, b"\n");
+fn tell(rt: &impl Print, what: &[u8], n: usize) -> io::Result<()> {
+    rt.write_all(what)?;
+    println!(rt; "{n}")
 }
 
 // 1 where a frame was read.
@@ -69,27 +85,30 @@ struct Count {
 }
 
 // All frames, up to a million.
-fn replay_all(records: &mut [u8], wanted: &mut [u8], lines: &mut [u8]) -> Count {
+fn replay_all(
+    input: &mut impl Read,
+    records: &mut [u8],
+    wanted: &mut [u8],
+    lines: &mut [u8],
+) -> io::Result<Count> {
     let mut more = true;
     let mut frames = 0;
     let mut differ = 0;
     while more & (frames < 1000000) {
-        let x = next(records, wanted, lines);
+        let x = next(input, records, wanted, lines)?;
         more = x != 0;
         frames += read(x);
         differ += differs(x);
     }
-    Count {
-        frames: frames,
-        differ: differ,
-    }
+    Ok(Count { frames, differ })
 }
 
-fn main() {
+fn main(rt: HostRuntime) -> io::Result<()> {
     let mut records = [0u8; 32768];
     let mut wanted = [0u8; 32768];
     let mut lines = [0u8; 32768];
-    let c = replay_all(&mut records, &mut wanted, &mut lines);
-    tell(b"replayed: ", c.frames);
-    tell(b"with other lines: ", c.differ);
+    let mut input = rt.stdin();
+    let c = replay_all(&mut input, &mut records, &mut wanted, &mut lines)?;
+    tell(&rt, b"replayed: ", c.frames)?;
+    tell(&rt, b"with other lines: ", c.differ)
 }

@@ -7,10 +7,10 @@ ghost use Rattle.records.specs.Lines.{joined_lines};
 ghost use Rattle.records.specs.Write.{LinesPut};
 ghost use Rattle.small_patches_list.specs.Listing.{patch_line, listing};
 
-use libc::STDOUT_FILENO;
 use records::lines;
 use records::lines::Out;
 use small_patches::reach;
+use std::io;
 
 // The line of graph k goes behind the others.
 fn tell(lines: &mut [u8], o: Out, k: usize) -> Out
@@ -45,8 +45,8 @@ fn listing(lines: &mut [u8; 93184]) -> usize
     o.at
 }
 
-fn main() {
+fn main(rt: HostRuntime) -> io::Result<()> {
     let mut lines = [0u8; 93184];
     let n = listing(&mut lines);
-    io::write_all(STDOUT_FILENO, &lines[0..n]);
+    rt.write_all(&lines[0..n])
 }

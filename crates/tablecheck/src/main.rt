@@ -3,13 +3,14 @@
 // The program: tables from other decoders, one after another from standard input, and for each a line with its verdict. The rows of distances
 // are read one at a time. docs/TABLE-FILE.md has the form of a file.
 
-ghost use Rattle.std.specs.Prelude.{◌≡◌, ◌≢◌, true, ◌+◌, ◌*◌, ◌≤◌, ◌<◌, min, length, replicate};
+ghost use Rattle.std.specs.Prelude.{◌≡◌, ◌≢◌, true, ◌+◌, ◌*◌, ◌≤◌, ◌<◌, min, length, replicate, IfOk};
 ghost use Rattle.table_refuse.specs.Refuse.{sizes_right};
 ghost use Rattle.tablecheck.specs.File.{RowsRead};
 ghost use Rattle.graph.specs.Word.{word_limit};
 
 use graph::words;
-use libc::{STDIN_FILENO, STDOUT_FILENO};
+use std::io;
+use std::io::Read;
 use table_check::stream;
 use table_refuse::refuse;
 
@@ -59,16 +60,31 @@ fn decode(bytes: &[u8], list: &mut [i64])
 
 // ---- reading
 
+// Bytes are read until the buffer is full or the input ends; how many.
+fn read_full(input: &mut impl Read, buffer: &mut [u8]) -> io::Result<usize>
+    ensures { IfOk result (λ n. n ≤ length buffer.old) }
+{
+    let mut done = 0;
+    while done < buffer.len() {
+        let n = input.read(&mut buffer[done..])?;
+        if n == 0 {
+            break;
+        }
+        done += n;
+    }
+    Ok(done)
+}
+
 // At most 1,024 words are read; whether all of them were there.
-fn read_some(bytes: &mut [u8], list: &mut [i64]) -> bool
+fn read_some(input: &mut impl Read, bytes: &mut [u8], list: &mut [i64]) -> io::Result<bool>
     requires { (length bytes.old ≡ 8192) × (length list.old ≤ 1024) }
 {
     let n = 8 * list.len();
-    if io::read_full(STDIN_FILENO, &mut bytes[0..n]) < n {
-        return false;
+    if read_full(input, &mut bytes[0..n])? < n {
+        return Ok(false);
     }
     decode(&bytes[0..n], list);
-    true
+    Ok(true)
 }
 
 // The lesser number.
@@ -79,34 +95,34 @@ fn lesser(x: usize, y: usize) -> usize
 }
 
 // All words of the list are read; whether they were there.
-fn read_list(bytes: &mut [u8], list: &mut [i64]) -> bool
+fn read_list(input: &mut impl Read, bytes: &mut [u8], list: &mut [i64]) -> io::Result<bool>
     requires { length bytes.old ≡ 8192 }
 {
     let mut at = 0;
     while at < list.len() {
         let n = lesser(list.len() - at, 1024);
-        if read_some(bytes, &mut list[at..at + n]) {
+        if read_some(input, bytes, &mut list[at..at + n])? {
             at += n;
         } else {
-            return false;
+            return Ok(false);
         }
     }
-    true
+    Ok(true)
 }
 
 // So many words are read and passed over; whether they were there.
-fn pass_over(bytes: &mut [u8], count: usize) -> bool
+fn pass_over(input: &mut impl Read, bytes: &mut [u8], count: usize) -> io::Result<bool>
     requires { length bytes.old ≡ 8192 }
 {
     let mut left = count;
     while 0 < left {
         let n = lesser(left, 1024);
-        if io::read_full(STDIN_FILENO, &mut bytes[0..8 * n]) < 8 * n {
-            return false;
+        if read_full(input, &mut bytes[0..8 * n])? < 8 * n {
+            return Ok(false);
         }
         left -= n;
     }
-    true
+    Ok(true)
 }
 
 // ---- one table
@@ -115,6 +131,7 @@ fn pass_over(bytes: &mut [u8], count: usize) -> bool
 
 // The rows, one at a time, and the verdict behind the last.
 fn rows(
+    input: &mut impl Read,
     bytes: &mut [u8],
     m: &mut [usize],
     v: usize,
@@ -125,59 +142,66 @@ fn rows(
     duals: &[i64],
     growths: &[i64],
     row: &mut [i64],
-) -> usize
+) -> io::Result<usize>
     requires { (length bytes.old ≡ 8192) × (v ≤ 1024) × (e ≤ 4096) × (length row.old ≡ v) × (length defects.now ≤ 1024)
         × (length duals.now ≡ length defects.now) × (length growths.now ≡ 2 * e)
         × (sizes_right v e edges.now ≡ true) × (m.old ≡ replicate 1024 0) }
-    ensures { result ≢ 3 → RowsRead v e edges.now virtuals.now defects.now duals.now
-        growths.now result }
+    ensures { IfOk result (λ x. x ≢ 3 → RowsRead v e edges.now virtuals.now defects.now duals.now
+        growths.now x) }
 {
     let mut k = stream::begin(v, e, edges, virtuals, defects, duals, growths);
     let mut i = 0;
     while i < defects.len() {
-        if read_some(bytes, row) {
+        if read_some(input, bytes, row)? {
             k = stream::next(k, m, v, e, edges, virtuals, defects, duals, growths, row, i);
             i += 1;
         } else {
-            return 3;
+            return Ok(3);
         }
     }
-    table_file::number(stream::end(k, m, e, edges, growths))
+    Ok(table_file::number(stream::end(k, m, e, edges, growths)))
 }
 
 // Two lists are read; whether they were there.
-fn read_two(bytes: &mut [u8], first: &mut [i64], second: &mut [i64]) -> bool
+fn read_two(
+    input: &mut impl Read,
+    bytes: &mut [u8],
+    first: &mut [i64],
+    second: &mut [i64],
+) -> io::Result<bool>
     requires { length bytes.old ≡ 8192 }
 {
-    if read_list(bytes, first) {
-        read_list(bytes, second)
+    if read_list(input, bytes, first)? {
+        read_list(input, bytes, second)
     } else {
-        false
+        Ok(false)
     }
 }
 
 // All lists but the rows are read; whether they were there.
 fn read_lists(
+    input: &mut impl Read,
     bytes: &mut [u8],
     edges: &mut [i64],
     virtuals: &mut [i64],
     defects: &mut [i64],
     duals: &mut [i64],
     growths: &mut [i64],
-) -> bool
+) -> io::Result<bool>
     requires { length bytes.old ≡ 8192 }
 {
-    if !read_two(bytes, edges, virtuals) {
-        return false;
+    if !read_two(input, bytes, edges, virtuals)? {
+        return Ok(false);
     }
-    if !read_two(bytes, defects, duals) {
-        return false;
+    if !read_two(input, bytes, defects, duals)? {
+        return Ok(false);
     }
-    read_list(bytes, growths)
+    read_list(input, bytes, growths)
 }
 
 // The rows of a table whose other lists are read.
 fn checked(
+    input: &mut impl Read,
     bytes: &mut [u8],
     v: usize,
     e: usize,
@@ -187,21 +211,22 @@ fn checked(
     duals: &[i64],
     growths: &[i64],
     row: &mut [i64],
-) -> usize
+) -> io::Result<usize>
     requires { (length bytes.old ≡ 8192) × (v ≤ 1024) × (e ≤ 4096) × (length row.old ≡ v) × (length defects.now ≤ 1024)
         × (length duals.now ≡ length defects.now) × (length growths.now ≡ 2 * e) }
 {
     if !refuse::sizes_right(v, e, edges) {
-        return 4;
+        return Ok(4);
     }
     let mut m = [0usize; 1024];
     rows(
-        bytes, &mut m, v, e, edges, virtuals, defects, duals, growths, row,
+        input, bytes, &mut m, v, e, edges, virtuals, defects, duals, growths, row,
     )
 }
 
 // A table whose four sizes fit: its lists are read, then its rows.
 fn lists(
+    input: &mut impl Read,
     bytes: &mut [u8],
     v: usize,
     e: usize,
@@ -211,26 +236,39 @@ fn lists(
     duals: &mut [i64],
     growths: &mut [i64],
     row: &mut [i64],
-) -> usize
+) -> io::Result<usize>
     requires { (length bytes.old ≡ 8192) × (v ≤ 1024) × (e ≤ 4096) × (length row.old ≡ v) × (length defects.old ≤ 1024)
         × (length duals.old ≡ length defects.old) × (length growths.old ≡ 2 * e) }
 {
-    if read_lists(bytes, edges, virtuals, defects, duals, growths) {
-        checked(bytes, v, e, edges, virtuals, defects, duals, growths, row)
+    if read_lists(input, bytes, edges, virtuals, defects, duals, growths)? {
+        checked(
+            input, bytes, v, e, edges, virtuals, defects, duals, growths, row,
+        )
     } else {
-        3
+        Ok(3)
     }
 }
 
 // A table that is not read on: its other words are passed over.
-fn refused(bytes: &mut [u8], left: usize, x: usize) -> usize
+fn refused(input: &mut impl Read, bytes: &mut [u8], left: usize, x: usize) -> io::Result<usize>
     requires { length bytes.old ≡ 8192 }
 {
-    if pass_over(bytes, left) { x } else { 3 }
+    if pass_over(input, bytes, left)? {
+        Ok(x)
+    } else {
+        Ok(3)
+    }
 }
 
 // A table of these sizes, in lists of its own.
-fn sized(bytes: &mut [u8], v: usize, e: usize, k: usize, n: usize) -> usize
+fn sized(
+    input: &mut impl Read,
+    bytes: &mut [u8],
+    v: usize,
+    e: usize,
+    k: usize,
+    n: usize,
+) -> io::Result<usize>
     requires { (length bytes.old ≡ 8192) × (v ≤ 1024) × (e ≤ 4096) × (k ≤ 1024) × (n ≤ 1024) }
 {
     let mut edges = [0i64; 12288];
@@ -240,6 +278,7 @@ fn sized(bytes: &mut [u8], v: usize, e: usize, k: usize, n: usize) -> usize
     let mut growths = [0i64; 8192];
     let mut row = [0i64; 1024];
     lists(
+        input,
         bytes,
         v,
         e,
@@ -253,90 +292,93 @@ fn sized(bytes: &mut [u8], v: usize, e: usize, k: usize, n: usize) -> usize
 }
 
 // A table of these sizes; its other words are passed over where they are not as many as the sizes say.
-fn counted(bytes: &mut [u8], left: usize, v: usize, e: usize, k: usize, n: usize) -> usize
+fn counted(
+    input: &mut impl Read,
+    bytes: &mut [u8],
+    left: usize,
+    v: usize,
+    e: usize,
+    k: usize,
+    n: usize,
+) -> io::Result<usize>
     requires { (length bytes.old ≡ 8192) × (left < word_limit) }
 {
     if !table_file::sizes_fit(v, e, k, n) {
-        return refused(bytes, left, 4);
+        return refused(input, bytes, left, 4);
     }
     if 4 + left != table_file::words_of(v, e, k, n) {
-        return refused(bytes, left, 2);
+        return refused(input, bytes, left, 2);
     }
-    sized(bytes, v, e, k, n)
+    sized(input, bytes, v, e, k, n)
 }
 
 // A table of `count` words.
-fn table(bytes: &mut [u8], count: usize) -> usize
+fn table(input: &mut impl Read, bytes: &mut [u8], count: usize) -> io::Result<usize>
     requires { (length bytes.old ≡ 8192) × (count < word_limit) }
 {
     if count < 4 {
-        return refused(bytes, count, 2);
+        return refused(input, bytes, count, 2);
     }
     let mut head = [0i64; 4];
-    if !read_some(bytes, &mut head) {
-        return 3;
+    if !read_some(input, bytes, &mut head)? {
+        return Ok(3);
     }
     let v = words::word(&head, 0);
     let e = words::word(&head, 1);
     let k = words::word(&head, 2);
     let n = words::word(&head, 3);
-    counted(bytes, count - 4, v, e, k, n)
+    counted(input, bytes, count - 4, v, e, k, n)
 }
 
 // The next table: its count of words, then the words.
-fn next(bytes: &mut [u8]) -> usize
+fn next(input: &mut impl Read, bytes: &mut [u8]) -> io::Result<usize>
     requires { length bytes.old ≡ 8192 }
 {
-    let got = io::read_full(STDIN_FILENO, &mut bytes[0..8]);
+    let got = read_full(input, &mut bytes[0..8])?;
     if got == 0 {
-        return 5;
+        return Ok(5);
     }
     if got < 8 {
-        return 3;
+        return Ok(3);
     }
     let mut count = [0i64; 1];
     decode(&bytes[0..8], &mut count);
-    table(bytes, words::word(&count, 0))
+    table(input, bytes, words::word(&count, 0))
 }
 
 // ---- the lines
 
 // The line of table k.
-fn tell(k: usize, x: usize) {
-    io::print_decimal(STDOUT_FILENO, k as u64);
-    if x == 0 {
-        io::write_all(STDOUT_FILENO, b" yes\n");
-        return;
-    }
-    if x == 1 {
-        io::write_all(STDOUT_FILENO, b" no\n");
-        return;
-    }
-    if x == 4 {
-        io::write_all(STDOUT_FILENO, b" refused 4\n");
-        return;
-    }
-    io::write_all(STDOUT_FILENO, b" refused 1\n");
+fn tell(rt: &impl Print, k: usize, x: usize) -> io::Result<()> {
+    let verdict = match x {
+        0 => "yes",
+        1 => "no",
+        4 => "refused 4",
+        _ => "refused 1",
+    };
+    println!(rt; "{k} {verdict}")
 }
 
 // All tables. A proved loop has to end, and nothing says that input does: this one stops at a number of tables that no input has.
-fn tables(bytes: &mut [u8])
+fn tables(rt: &impl Print, input: &mut impl Read, bytes: &mut [u8]) -> io::Result<()>
     requires { length bytes.old ≡ 8192 }
 {
     let mut k = 1;
     let mut more = true;
     while more & (k < 9223372036854775807) {
-        let x = next(bytes);
+        let x = next(input, bytes)?;
         if x == 5 {
-            return;
+            return Ok(());
         }
-        tell(k, x);
+        tell(rt, k, x)?;
         more = x != 3;
         k += 1;
     }
+    Ok(())
 }
 
-fn main() {
+fn main(rt: HostRuntime) -> io::Result<()> {
+    let mut input = rt.stdin();
     let mut bytes = [0u8; 8192];
-    tables(&mut bytes);
+    tables(&rt, &mut input, &mut bytes)
 }

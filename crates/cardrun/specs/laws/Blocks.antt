@@ -19,7 +19,7 @@ use Rattle.record_step.specs.laws.Few.{turn-few}
 use Rattle.record_step.specs.laws.Standing.{roomy-kept}
 use Rattle.lines_export.specs.Whole.{whole_at}
 use Rattle.lines_export.specs.laws.Stream.{next-whole}
-use Rattle.cardrun.specs.Blocks.{lines_after, RanTo, BlockRun, BlockRan}
+use Rattle.cardrun.specs.Blocks.{lines_after, RanTo, BlockRun, BlockRan, BlockLost}
 
 -- ---- lines behind others, where all of them fit
 
@@ -207,6 +207,11 @@ ran-none = record { out = []; run = block_none }
 pub ran_then : {k k' k'' : ℕ} {m m' m'' : Memory} {b rest rest' : List ℕ} → BlockRan k k' m m' b rest
     → BlockRan k' k'' m' m'' rest rest' → BlockRan k k'' m m'' b rest'
 ran_then p q = record { out = p.out ++ q.out; run = block-then p.run q.run }
+
+-- the same where the lines of the second are lost
+pub lost_then : {k k' : ℕ} {m m' : Memory} {block edges virtuals : List ℤ} {b rest : List ℕ} → BlockRan k k' m m' b rest
+    → BlockLost k' m' block edges virtuals rest → BlockLost k m block edges virtuals b
+lost_then p q = record { count = q.count; stage = q.stage; setup = q.setup; rest = q.rest; ran = ran_then p q.ran }
 
 -- where the run stands behind a block
 pub ran-standing : {k k' : ℕ} {m m' : Memory} {b rest : List ℕ} → BlockRan k k' m m' b rest → Standing m → Standing m'
