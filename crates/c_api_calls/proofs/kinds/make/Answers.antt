@@ -40,13 +40,13 @@ pub returns-in-9 : goal.returns-in-9
 returns-in-9 c =
     let e : c.word-k.result ≡ 9 = search rules in
     let k : word_at c.args.w.now 0 ≡ 9 = sym c.word-k.ensures.0 ∙ e in
-    rw (kind-9 c.args.circles.now c.args.w.now k) c.grow.ensures
+    rw (kind-9 c.args.circles.now c.args.w.now k) (search rules)
 
 pub returns-in-11 : goal.returns-in-11
 returns-in-11 c =
     let e : c.word-k.result ≡ 11 = search rules in
     let k : word_at c.args.w.now 0 ≡ 11 = sym c.word-k.ensures.0 ∙ e in
-    rw (kind-11 c.args.circles.now c.args.w.now k) c.advance.ensures
+    rw (kind-11 c.args.circles.now c.args.w.now k) (search rules)
 
 pub returns-in-13 : goal.returns-in-13
 returns-in-13 c =
