@@ -3,9 +3,9 @@
 // The program: tables from other decoders, one after another from standard input, and for each a line with its verdict. The rows of distances
 // are read one at a time. docs/TABLE-FILE.md has the form of a file.
 
-ghost use Rattle.std.specs.Prelude.{◌≡◌, ◌≢◌, true, ◌+◌, ◌*◌, ◌≤◌, ◌<◌, min, length, replicate, IfOk};
+ghost use Rattle.std.specs.Prelude.{◌≡◌, ◌≢◌, true, ◌+◌, ◌*◌, ◌≤◌, ◌<◌, min, length, replicate, IfOk, OnErr};
 ghost use Rattle.table_refuse.specs.Refuse.{sizes_right};
-ghost use Rattle.tablecheck.specs.File.{RowsRead};
+ghost use Rattle.tablecheck.specs.File.{RowsRead, RowsBegun};
 ghost use Rattle.graph.specs.Word.{word_limit};
 
 use graph::words;
@@ -129,7 +129,7 @@ fn pass_over(input: &mut impl Read, bytes: &mut [u8], count: usize) -> io::Resul
 
 // What a table gets is a number: 0 yes, 1 no, 4 refused 4, 2 refused 1; 3 refused 1 where input ends inside it; 5 where there is no table.
 
-// The rows, one at a time, and the verdict behind the last.
+// The rows, one at a time, and the verdict behind the last. Where one can't be read, the marks are those of the rows before it.
 fn rows(
     input: &mut impl Read,
     bytes: &mut [u8],
@@ -146,8 +146,9 @@ fn rows(
     requires { (length bytes.old ≡ 8192) × (v ≤ 1024) × (e ≤ 4096) × (length row.old ≡ v) × (length defects.now ≤ 1024)
         × (length duals.now ≡ length defects.now) × (length growths.now ≡ 2 * e)
         × (sizes_right v e edges.now ≡ true) × (m.old ≡ replicate 1024 0) }
-    ensures { IfOk result (λ x. x ≢ 3 → RowsRead v e edges.now virtuals.now defects.now duals.now
+    ensures told { IfOk result (λ x. x ≢ 3 → RowsRead v e edges.now virtuals.now defects.now duals.now
         growths.now x) }
+    ensures lost { OnErr result (RowsBegun v e edges.now virtuals.now defects.now duals.now growths.now m.new) }
 {
     let mut k = stream::begin(v, e, edges, virtuals, defects, duals, growths);
     let mut i = 0;

@@ -18,11 +18,11 @@ loop-i-preserved g c =
       so-more a.v a.e a.edges.now a.virtuals.now a.defects.now a.duals.now a.growths.now row c.loop-i.invariant.1 (search rules) c.next-k.ensures,
     )
 
-pub returns-else-branch : goal.returns-else-branch
-returns-else-branch g c = λ q. absurd (q refl)
+pub returns-else-branch-clause-told : goal.returns-else-branch-clause-told
+returns-else-branch-clause-told g c = λ q. absurd (q refl)
 
-pub returns : goal.returns
-returns g c =
+pub returns-clause-told : goal.returns-clause-told
+returns-clause-told g c =
     let a = c.args in
     λ z. so-all a.v a.e a.edges.now a.virtuals.now a.defects.now a.duals.now a.growths.now c.loop-i.invariant.1 (omega arith)
     c.requires.7 c.requires.5 c.requires.6 (c.number.ensures ∙ ap verdict_number c.end.ensures)
