@@ -51,13 +51,9 @@ fn stands_in(b: &[i64], n: usize) -> bool
     requires { Laid b.now }
     ensures { result ≡ member n (state_of b.now).active }
 {
-    let k = rows::active_count(b);
-    let mut i = 0;
-    while i < k {
+    for i in 0..rows::active_count(b) {
         if rows::active_node(b, i) == n {
             return true;
-        } else {
-            i += 1;
         }
     }
     false
@@ -107,11 +103,9 @@ pub fn renew(b: &mut [i64])
     ensures { Becomes b.old b.new (renewed (state_of b.old)) }
 {
     let k = rows::active_count(b);
-    let mut i = 0;
     let mut j = 0;
-    while i < k {
+    for i in 0..k {
         j = keep(b, i, j);
-        i += 1;
     }
     cut(b, j);
 }

@@ -38,19 +38,16 @@ pub fn front(list: &mut [usize], numbers: &[usize]) -> usize
     requires { length numbers.now ≤ length list.old }
     ensures { Tells numbers.now list.old list.new result }
 {
-    let mut i = 0;
-    while i < numbers.len() {
-        list[i] = numbers[i];
-        i += 1;
-    }
-    i
+    let count = numbers.len();
+    list[..count].copy_from_slice(numbers);
+    count
 }
 
 // 1 or 0.
 pub fn flag(e: bool) -> usize
     ensures { (result ≡ flag e) × (result ≤ 1) }
 {
-    if e { 1 } else { 0 }
+    usize::from(e)
 }
 
 // 1 below 0, and 0 else.

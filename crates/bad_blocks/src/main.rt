@@ -249,10 +249,8 @@ fn changes(b: &[i64]) -> usize
 {
     let s = sample();
     let mut n = 0;
-    let mut i = 0;
-    while i < 56 {
+    for i in 0..56 {
         n += changed(b, &s, i);
-        i += 1;
     }
     n
 }

@@ -31,16 +31,9 @@ fn any_bad(b: &[i64], circle: &[i64]) -> bool
     requires { Formed b.now }
     ensures { result ≡ any (bad_node (state_of b.now)) (map to_nat circle.now) }
 {
-    let mut i = 0;
-    while i < circle.len() {
-        let m = words::word(circle, i);
-        if refuse::bad_node(b, m) {
-            return true;
-        } else {
-            i += 1;
-        }
-    }
-    false
+    circle
+        .iter()
+        .any(|m| refuse::bad_node(b, words::to_nat(*m)))
 }
 
 // Whether some member of the circle lies in a blossom.
@@ -48,16 +41,9 @@ fn any_inner(b: &[i64], circle: &[i64]) -> bool
     requires { Formed b.now × (any (bad_node (state_of b.now)) (map to_nat circle.now) ≡ false) }
     ensures { result ≡ any (in_blossom (state_of b.now)) (map to_nat circle.now) }
 {
-    let mut i = 0;
-    while i < circle.len() {
-        let m = words::word(circle, i);
-        if refuse::in_blossom(b, m) {
-            return true;
-        } else {
-            i += 1;
-        }
-    }
-    false
+    circle
+        .iter()
+        .any(|m| refuse::in_blossom(b, words::to_nat(*m)))
 }
 
 // Whether some number of the circle stands twice: each that was met is marked.
@@ -66,15 +52,12 @@ fn repeats(circle: &[i64]) -> bool
     ensures { result ≡ not (distinct (map to_nat circle.now)) }
 {
     let mut marks = [0u8; 1024];
-    let mut i = 0;
-    while i < circle.len() {
-        let m = words::word(circle, i);
+    for word in circle {
+        let m = words::to_nat(*word);
         if marks[m] == 1 {
             return true;
-        } else {
-            marks[m] = 1;
-            i += 1;
         }
+        marks[m] = 1;
     }
     false
 }
@@ -97,11 +80,9 @@ fn entries_in(b: &[i64], circle: &[i64]) -> usize
     ensures { result + entries_but (state_of b.now) (map to_nat circle.now) ≡ entries (state_of b.now) }
 {
     let mut sum = 0;
-    let mut i = 0;
-    while i < circle.len() {
-        let m = words::word(circle, i);
+    for word in circle {
+        let m = words::to_nat(*word);
         sum += refuse::entries_of(b, m);
-        i += 1;
     }
     sum
 }
@@ -146,13 +127,11 @@ fn prepare_members(b: &mut [i64], t: &mut [i64], circle: &[i64], ask: bool) -> b
         × (t.new ≡ t.old) × Joinable (state_of b.new) (map to_nat circle.now)
         × (result ≡ (ask && circle_keeps (state_of b.old) (map to_nat circle.now))) }
 {
-    let mut i = 0;
     let mut kept = true;
-    while i < circle.len() {
-        let m = words::word(circle, i);
+    for word in circle {
+        let m = words::to_nat(*word);
         let p = prepare_tested::prepare_asked(b, t, m, DOWN, ask);
         kept = kept & p.kept;
-        i += 1;
     }
     ask & kept
 }
@@ -165,17 +144,13 @@ fn join_sides(b: &mut [i64], t: &mut [i64], m: usize, n: usize, k: usize) -> usi
         (fold (join_side n m) (joined_in b.old t.old k) (boundary_of (state_of b.old) m)) }
 {
     let l = lists::boundary_len(b, m);
-    let mut i = 0;
     let mut q = k;
-    while i < l {
+    for i in 0..l {
         let s = lists::boundary_side(b, m, i);
         if side::holder(b, s) == m + 1 {
             side::set_holder(b, s, n + 1);
             words::put(t, q, s);
             q += 1;
-            i += 1;
-        } else {
-            i += 1;
         }
     }
     q
@@ -201,12 +176,10 @@ fn join_members(b: &mut [i64], t: &mut [i64], circle: &[i64], n: usize) -> usize
         (fold (join_step n) (joined_in b.old t.old 0) (map to_nat circle.now))
         × Joinable (state_of b.new) (map to_nat circle.now) }
 {
-    let mut i = 0;
     let mut k = 0;
-    while i < circle.len() {
-        let m = words::word(circle, i);
+    for word in circle {
+        let m = words::to_nat(*word);
         k = join_member(b, t, m, n, k);
-        i += 1;
     }
     k
 }
@@ -229,10 +202,7 @@ pub fn join_circle(b: &mut [i64], t: &mut [i64], circle: &[i64], n: usize, ask: 
 {
     let kept = prepare_members(b, t, circle, ask);
     let count = join_members(b, t, circle, n);
-    CircleSides {
-        count: count,
-        kept: kept,
-    }
+    CircleSides { count, kept }
 }
 
 // ---- the blossom

@@ -40,10 +40,7 @@ fn tell_plain(part: &mut [usize], a: Answer, zero: bool) -> After
         × (result.kept ≡ true) × (result.zero ≡ zero) }
 {
     answers::tell(part, a);
-    After {
-        kept: true,
-        zero: zero,
-    }
+    After { kept: true, zero }
 }
 
 // No call: refused 3.
@@ -180,10 +177,7 @@ pub fn node(b: &[i64], t: &[i64], w: &[i64], part: &mut [usize], zero: bool) -> 
     let n = words::word(w, 1);
     let a = dual_module_node::sound::read_node(b, t, n);
     c_api_node::tell_node(part, a);
-    After {
-        kept: true,
-        zero: zero,
-    }
+    After { kept: true, zero }
 }
 
 pub fn gap(b: &[i64], t: &[i64], w: &[i64], part: &mut [usize], zero: bool) -> After
@@ -194,8 +188,5 @@ pub fn gap(b: &[i64], t: &[i64], w: &[i64], part: &mut [usize], zero: bool) -> A
     let e = words::word(w, 1);
     let a = dual_module_gap::sound::edge_gap(b, t, e);
     c_api_gap::tell_gap(part, a);
-    After {
-        kept: true,
-        zero: zero,
-    }
+    After { kept: true, zero }
 }

@@ -42,11 +42,10 @@ fn test(b: &[i64], t: &[i64], s: Standing) -> Standing
     }
     let k = memory_tests::refuse::refusal(b, t);
     Standing {
-        made: s.made,
         tests: s.tests + 1,
         refusal: k,
         known: k == 0,
-        zero: s.zero,
+        ..s
     }
 }
 
@@ -70,10 +69,7 @@ fn step(
         answers::tell(part, Answer::Refused(s.refusal));
         return Standing {
             made: s.made + 1,
-            tests: s.tests,
-            refusal: s.refusal,
-            known: s.known,
-            zero: s.zero,
+            ..s
         };
     }
     let a = kinds::make(b, t, w, circles, part, s.zero);
@@ -112,13 +108,6 @@ fn step_at(
     )
 }
 
-// The smaller of two numbers.
-fn lesser(x: usize, y: usize) -> usize
-    ensures { result ≡ min x y }
-{
-    if x < y { x } else { y }
-}
-
 // The calls are made, as many as have room for their answer.
 fn make_all(
     b: &mut [i64],
@@ -130,7 +119,7 @@ fn make_all(
     ensures { Ran b.old t.old (list_calls circles.now words.now (call_count words.now answers.old))
         answers.old b.new t.new answers.new result.made result.tests }
 {
-    let m = lesser(words.len() / 4, answers.len() / 5);
+    let m = (words.len() / 4).min(answers.len() / 5);
     let mut s = Standing {
         made: 0,
         tests: 0,
@@ -138,7 +127,7 @@ fn make_all(
         known: false,
         zero: false,
     };
-    while s.made < m {
+    for _ in 0..m {
         s = step_at(b, t, words, circles, answers, s);
     }
     s

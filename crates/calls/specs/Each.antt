@@ -1,7 +1,6 @@
 -- The calls on one node, reading, and clear.
-use Rattle.std.specs.Prelude.{ℕ, zero, suc, ◌+◌, Bool, true, false, ◌&&◌, List, [], ◌∷◌, ℤ, pos, negsuc, neg_ℤ, ◌==◌, nat_eq, nat_lt, if◌then◌else◌}
-use Rattle.graph.specs.Basic.{only, below}
-use Rattle.graph.specs.State.{State, defect_vertex, blossom, removed, edge_count, growth_at, weight_at, class_of, grow_state_of, with_grow_state, stay, growing, shrinking, down, up}
+use Rattle.std.specs.Prelude.{ℕ, zero, suc, Bool, true, false, ◌&&◌, List, [], ◌∷◌, ℤ, pos, negsuc, neg_ℤ, ◌==◌, nat_eq, nat_lt, if◌then◌else◌}
+use Rattle.graph.specs.State.{State, defect_vertex, blossom, removed, class_of, grow_state_of, with_grow_state, stay, growing, shrinking, down, up}
 use Rattle.graph.specs.Open.{cleared}
 use Rattle.graph.specs.Active.{activated}
 use Rattle.answers.specs.declared.Answer.{Answer}

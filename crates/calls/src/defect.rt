@@ -44,12 +44,10 @@ fn hold_sides(b: &mut [i64], t: &mut [i64], v: usize, n: usize) -> usize
         × (result ≡ length (sides_at (state_of b.old) v)) }
 {
     let l = sides::sides_len(b, v);
-    let mut i = 0;
-    while i < l {
+    for i in 0..l {
         let s = sides::vertex_side(b, v, i);
         side::hold(b, s, n, n + 1);
         words::put(t, i, s);
-        i += 1;
     }
     l
 }

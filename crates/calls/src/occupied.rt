@@ -34,21 +34,18 @@ fn held_side(b: &[i64], v: usize) -> Looked
         × (result.read ≡ read_until_held (state_of b.now) (sides_at (state_of b.now) v)) }
 {
     let l = sides::sides_len(b, v);
-    let mut i = 0;
-    while i < l {
+    for i in 0..l {
         let s = sides::vertex_side(b, v, i);
         if side::holder(b, s) != 0 {
             return Looked {
                 occupied: true,
                 read: i + 1,
             };
-        } else {
-            i += 1;
         }
     }
     Looked {
         occupied: false,
-        read: i,
+        read: l,
     }
 }
 

@@ -16,11 +16,9 @@ pub fn read_table(b: &[i64], table: &mut [i64])
     ensures { table.new ≡ placed (growth_table (state_of b.now)) table.old }
 {
     let m = rows::side_count(b);
-    let mut s = 0;
-    while s < m {
+    for s in 0..m {
         let g = side::growth(b, s);
         words::put(table, s, g);
-        s += 1;
     }
 }
 

@@ -74,7 +74,7 @@ pub fn length_prepared(b: &mut [i64], t: &mut [i64], n: usize, d: usize, ask: bo
     let p = prepare_tested::prepare_asked(b, t, n, d, ask);
     let answer = scan::scan(b, n, d);
     Tested {
-        answer: answer,
+        answer,
         kept: p.kept,
     }
 }
@@ -96,10 +96,7 @@ pub fn compute_maximum_update_length_dual_node(
         return length_prepared(b, t, n, d, ask);
     }
     let answer = core_calls::length_unprepared(b, n, d);
-    Tested {
-        answer: answer,
-        kept: ask,
-    }
+    Tested { answer, kept: ask }
 }
 
 // Node n is prepared and grows by l in direction d, or is refused.
@@ -118,7 +115,7 @@ pub fn grow_toward(b: &mut [i64], t: &mut [i64], n: usize, d: usize, l: usize, a
     let p = prepare_tested::prepare_asked(b, t, n, d, ask);
     let answer = core_calls::grow_prepared(b, n, d, l);
     Tested {
-        answer: answer,
+        answer,
         kept: p.kept,
     }
 }
@@ -139,10 +136,7 @@ pub fn grow_along(
     let l = words::magnitude(length);
     if l == 0 {
         let answer = core_calls::grow_none(b, n, d, length);
-        return Tested {
-            answer: answer,
-            kept: ask,
-        };
+        return Tested { answer, kept: ask };
     }
     if words::non_negative(length) {
         return grow_toward(b, t, n, d, l, ask);

@@ -35,12 +35,7 @@ fn keep(input: &mut [u8], i: usize, n: usize)
     requires { (i ≤ n) × (n ≤ length input.old) }
     ensures { take (n - i) input.new ≡ take (n - i) (drop i input.old) }
 {
-    let m = n - i;
-    let mut j = 0;
-    while j < m {
-        input[j] = input[i + j];
-        j += 1;
-    }
+    input.copy_within(i..n, 0);
 }
 
 // ---- whole records

@@ -1,5 +1,5 @@
 -- The list of contacts has exactly the contacts of the rule, by rising edge.
-use Rattle.std.specs.Prelude.{ℕ, ◌↔◌}
+use Rattle.std.specs.Prelude.{◌↔◌}
 use Rattle.graph.specs.State.{State, edge_count}
 use Rattle.calls.specs.Contacts.{Contact, IsContact, contacts}
 use Rattle.contacts.specs.Rule.{AmongContacts, EdgesRise}

@@ -123,15 +123,11 @@ pub fn contacts(b: &[i64], list: &mut [i64]) -> usize
         × (result ≡ length (contacts (state_of b.now))) }
 {
     let m = rows::edge_count(b);
-    let mut e = 0;
     let mut k = 0;
-    while e < m {
+    for e in 0..m {
         if is_contact(b, e) {
             put_contact(b, list, 3 * k, e);
             k += 1;
-            e += 1;
-        } else {
-            e += 1;
         }
     }
     k

@@ -40,9 +40,9 @@ pub fn as_before(answer: Answer, ask: bool, zero: bool) -> Known
     ensures { (result.answer ≡ answer) × (result.kept ≡ ask) × (result.zero ≡ zero) }
 {
     Known {
-        answer: answer,
+        answer,
         kept: ask,
-        zero: zero,
+        zero,
     }
 }
 
@@ -52,7 +52,7 @@ pub fn after_core(told: Tested) -> Known
 {
     let answer = told.answer;
     Known {
-        answer: answer,
+        answer,
         kept: told.kept,
         zero: true,
     }

@@ -27,7 +27,7 @@ pub fn insert_defect(b: &mut [i64], t: &mut [i64], v: usize, x: usize, zero: boo
     sound::clear_unless(t, zero);
     let answer = defect::insert_defect(b, t, v, x);
     Known {
-        answer: answer,
+        answer,
         kept: true,
         zero: true,
     }

@@ -17,24 +17,12 @@ use memory_tests::refuse;
 
 // ---- copies
 
-// Word i of s goes to word i of d.
-fn copy_word(d: &mut [i64], s: &[i64], i: usize)
-    requires { (i < length d.old) × (i < length s.now) }
-    ensures { d.new ≡ set d.old i (get_or s.now i (pos 0)) }
-{
-    d[i] = s[i];
-}
-
 // Every word of s, to d of the same length.
 fn copy(d: &mut [i64], s: &[i64])
     requires { length d.old ≡ length s.now }
     ensures { d.new ≡ s.now }
 {
-    let mut i = 0;
-    while i < s.len() {
-        copy_word(d, s, i);
-        i += 1;
-    }
+    d.copy_from_slice(s);
 }
 
 // The second block becomes the block, and the scratch all zero.

@@ -24,11 +24,8 @@ fn edges_named(b: &[i64], pairs: &[i64]) -> bool
 {
     let m = rows::edge_count(b);
     let k = pairs.len() / 2;
-    let mut i = 0;
-    while i < k {
-        if given::given(pairs, 2 * i) < m {
-            i += 1;
-        } else {
+    for i in 0..k {
+        if m <= given::given(pairs, 2 * i) {
             return false;
         }
     }
@@ -40,11 +37,8 @@ fn weights_in_range(pairs: &[i64]) -> bool
     ensures { result ≡ all weight_in_range (pairs_from pairs.now) }
 {
     let k = pairs.len() / 2;
-    let mut i = 0;
-    while i < k {
-        if given::given(pairs, 2 * i + 1) <= 1000000 {
-            i += 1;
-        } else {
+    for i in 0..k {
+        if given::given(pairs, 2 * i + 1) > 1000000 {
             return false;
         }
     }
@@ -93,14 +87,12 @@ fn set_weights(b: &mut [i64], pairs: &[i64])
     ensures { Becomes b.old b.new (fold reweigh (state_of b.old) (pairs_from pairs.now)) }
 {
     let k = pairs.len() / 2;
-    let mut i = 0;
-    while i < k {
+    for i in 0..k {
         edge::set_weight(
             b,
             given::given(pairs, 2 * i),
             given::given(pairs, 2 * i + 1),
         );
-        i += 1;
     }
 }
 

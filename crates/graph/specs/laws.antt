@@ -1,5 +1,6 @@
 -- Laws about the definitions of `graph`.
 pub mod Active
+pub mod Chains
 pub mod Class
 pub mod Count
 pub mod Cut

@@ -22,19 +22,12 @@ pub fn block_length(v: usize, e: usize, n: usize, l: usize) -> usize
     16 + 4 * v + 12 * e + 8 * n + l
 }
 
-// The lesser number.
-fn lesser(x: usize, y: usize) -> usize
-    ensures { result ≡ Prim.Native.Nat.min x y }
-{
-    if x <= y { x } else { y }
-}
-
 // The words of a scratch.
 pub fn scratch_length(v: usize, e: usize) -> usize
     requires { e ≤ 4096 }
     ensures { result ≡ scratch_length v e }
 {
-    4 * e + lesser(v, 2 * e)
+    4 * e + v.min(2 * e)
 }
 
 // Whether the sizes are in range and the block has their length.

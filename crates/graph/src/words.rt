@@ -39,22 +39,6 @@ pub fn put(b: &mut [i64], i: usize, x: usize)
     b[i] = to_word(x);
 }
 
-// The word at place i becomes that at place j, as it stands.
-pub fn copy(b: &mut [i64], i: usize, j: usize)
-    requires { (i < length b.old) × (j < length b.old) }
-    ensures { b.new ≡ set b.old i (get_or b.old j (pos 0)) }
-{
-    b[i] = b[j];
-}
-
-// The same with a word of another list.
-pub fn copy_from(b: &mut [i64], i: usize, t: &[i64], j: usize)
-    requires { (i < length b.old) × (j < length t.now) }
-    ensures { b.new ≡ set b.old i (get_or t.now j (pos 0)) }
-{
-    b[i] = t[j];
-}
-
 // Whether a signed number is not negative.
 pub fn non_negative(x: i64) -> bool
     ensures { result ≡ non_neg x }

@@ -40,13 +40,6 @@ fn edge_sound(b: &[i64], end: &[i64], weight: &[i64], original: &[i64], i: usize
 
 // ---- the sides at each vertex
 
-// A place as a number.
-fn wide(p: u16) -> usize
-    ensures { (result ≡ p) × (result ≤ 65535) }
-{
-    p as usize
-}
-
 // Whether side s stands at place p; `at` is the row of places.
 fn placed_at(b: &[i64], at: &[i64], p: usize, s: usize) -> bool
     requires { Laid b.now × (s < side_count (state_of b.now)) × RowPart b.now at_row (side_count (state_of b.now)) at.now }
@@ -68,7 +61,7 @@ fn walk_side(b: &[i64], end: &[i64], at: &[i64], s: usize, next: &mut [u16]) -> 
         × (result ≡ false → all_below (wired_at (state_of b.now)) (vertex_count (state_of b.now)) ≡ false) }
 {
     let v = row_words::number(end, s);
-    let p = wide(next[v]);
+    let p = usize::from(next[v]);
     if placed_at(b, at, p, s) {
         next[v] = vertices::place(p + 1);
         true
@@ -112,15 +105,11 @@ fn edges_in(
         && all_below (wired_at (state_of b.now)) (vertex_count (state_of b.now)) ≡ false) }
 {
     let n = rows::edge_count(b);
-    let mut i = 0;
-    while i < n {
-        if edge_sound(b, end, weight, original, i) {
-            if walk_edge(b, end, at, i, next) {
-                i += 1;
-            } else {
-                return false;
-            }
-        } else {
+    for i in 0..n {
+        if !edge_sound(b, end, weight, original, i) {
+            return false;
+        }
+        if !walk_edge(b, end, at, i, next) {
             return false;
         }
     }
@@ -134,15 +123,12 @@ fn all_reached(b: &[i64], first: &[i64], next: &[u16]) -> bool
     ensures { result ≡ all_below (reached_at b.now next.now) (vertex_count (state_of b.now)) }
 {
     let n = rows::vertex_count(b) - 1;
-    let mut v = 0;
-    while v < n {
-        if row_words::holds(first, v + 1, wide(next[v])) {
-            v += 1;
-        } else {
+    for v in 0..n {
+        if !row_words::holds(first, v + 1, usize::from(next[v])) {
             return false;
         }
     }
-    rows::side_count(b) == wide(next[n])
+    rows::side_count(b) == usize::from(next[n])
 }
 
 // Whether all edges are sound and the sides at each vertex are those whose end it is, by rising number.

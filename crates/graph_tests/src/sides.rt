@@ -51,11 +51,8 @@ fn sides_in(b: &[i64], growth: &[i64], holder: &[i64], grandson: &[i64]) -> bool
     ensures { result ≡ all_below (side_sound (state_of b.now)) (side_count (state_of b.now)) }
 {
     let n = rows::side_count(b);
-    let mut s = 0;
-    while s < n {
-        if side_sound(b, growth, holder, grandson, s) {
-            s += 1;
-        } else {
+    for s in 0..n {
+        if !side_sound(b, growth, holder, grandson, s) {
             return false;
         }
     }

@@ -52,16 +52,13 @@ fn vertices_in(
     let n = rows::vertex_count(b);
     let m = rows::side_count(b);
     let mut a = 0;
-    let mut v = 0;
-    while v < n {
+    for v in 0..n {
         let x = vertex_numbers(b, flags, holder, grandson, v);
-        if x & row_words::between(first, v, a, m) {
-            a = row_words::number(first, v);
-            next[v] = place(a);
-            v += 1;
-        } else {
+        if !(x & row_words::between(first, v, a, m)) {
             return false;
         }
+        a = row_words::number(first, v);
+        next[v] = place(a);
     }
     true
 }

@@ -40,17 +40,9 @@ fn reaches_any(b: &[i64], n: usize) -> bool
     requires { Formed b.now × (n < node_count (state_of b.now)) × (sides_ok (state_of b.now) n ≡ true) }
     ensures { result ≡ any (reaches (state_of b.now)) (boundary_of (state_of b.now) n) }
 {
-    let l = graph::lists::boundary_len(b, n);
-    let mut i = 0;
-    while i < l {
-        let s = graph::lists::boundary_side(b, n, i);
-        if reaches(b, s) {
-            return true;
-        } else {
-            i += 1;
-        }
-    }
-    false
+    graph::lists::boundary(b, n)
+        .iter()
+        .any(|s| reaches(b, graph::words::to_nat(*s)))
 }
 
 // The side across from side s is held by node n, for the grandson of s.
@@ -81,10 +73,8 @@ fn note_far(
         graph::vertex::set_holder(b, v, n + 1);
         graph::words::put(t, 2 * m + p.noted, s);
         GrowProgress {
-            kept: p.kept,
             noted: p.noted + 1,
-            pushed: p.pushed,
-            another: p.another,
+            ..p
         }
     } else {
         p
@@ -111,9 +101,7 @@ fn grow_step(
         graph::words::put(t, p.kept, s);
         GrowProgress {
             kept: p.kept + 1,
-            noted: p.noted,
-            pushed: p.pushed,
-            another: p.another,
+            ..p
         }
     }
 }
@@ -126,17 +114,15 @@ fn grow_scan(b: &mut [i64], t: &mut [i64], n: usize, m: usize) -> GrowProgress
     ensures { GrowWorked b.old b.new t.new n m result (grow_scanned_once (state_of b.old) n) }
 {
     let l = graph::lists::boundary_len(b, n);
-    let mut i = 0;
     let mut q = GrowProgress {
         kept: 0,
         noted: 0,
         pushed: 0,
         another: 0,
     };
-    while i < l {
+    for i in 0..l {
         let s = graph::lists::boundary_side(b, n, i);
         q = grow_step(b, t, n, m, s, q);
-        i += 1;
     }
     q
 }

@@ -39,9 +39,8 @@ fn take_side(
         graph::words::put(t, p.kept, s);
         GrowProgress {
             kept: p.kept + 1,
-            noted: p.noted,
-            pushed: p.pushed,
             another: another::called_if(w == 0, p.another),
+            ..p
         }
     } else {
         p
@@ -64,12 +63,10 @@ fn take_sides(
         (sides_at (state_of b.old) v)) }
 {
     let l = graph::sides::sides_len(b, v);
-    let mut i = 0;
     let mut q = p;
-    while i < l {
+    for i in 0..l {
         let s = graph::sides::vertex_side(b, v, i);
         q = take_side(b, t, n, g, m, s, q);
-        i += 1;
     }
     q
 }
@@ -95,10 +92,8 @@ fn take_vertex(
     if q.kept == before {
         graph::words::put(t, m + q.pushed, v);
         GrowProgress {
-            kept: q.kept,
-            noted: q.noted,
             pushed: q.pushed + 1,
-            another: q.another,
+            ..q
         }
     } else {
         q
@@ -132,12 +127,10 @@ pub fn take_noted(b: &mut [i64], t: &mut [i64], n: usize, m: usize, p: GrowProgr
         (numbers_at t.old (2 * m) p.noted)) }
 {
     let l = p.noted;
-    let mut i = 0;
     let mut q = p;
-    while i < l {
+    for i in 0..l {
         let s = graph::words::word(t, 2 * m + i);
         q = take_step(b, t, n, m, s, q);
-        i += 1;
     }
     q
 }

@@ -68,16 +68,9 @@ fn some_side_refuses(b: &[i64], boundary: &[i64], n: usize, l: usize, k: usize) 
         × (all (λ s. ltb s (side_count (state_of b.now))) (map to_nat boundary.now) ≡ true) }
     ensures { result ≡ any (side_refuses (state_of b.now) n l k) (map to_nat boundary.now) }
 {
-    let mut i = 0;
-    while i < boundary.len() {
-        let s = words::word(boundary, i);
-        if side_refuses(b, n, l, k, s) {
-            return true;
-        } else {
-            i += 1;
-        }
-    }
-    false
+    boundary
+        .iter()
+        .any(|s| side_refuses(b, n, l, k, words::to_nat(*s)))
 }
 
 // Whether some side of the boundary of node n calls for refusal k.
@@ -191,11 +184,9 @@ fn move_sides(b: &mut [i64], n: usize, d: usize, l: usize)
     ensures { Becomes b.old b.new (fold (move_side d l) (state_of b.old) (boundary_of (state_of b.old) n)) }
 {
     let m = lists::boundary_len(b, n);
-    let mut i = 0;
-    while i < m {
+    for i in 0..m {
         let s = lists::boundary_side(b, n, i);
         move_side(b, d, l, s);
-        i += 1;
     }
 }
 

@@ -17,16 +17,13 @@ fn active_once(b: &[i64]) -> bool
     let k = rows::active_count(b);
     let m = rows::node_count(b);
     let mut marks = [0u8; 1024];
-    let mut i = 0;
-    while i < k {
+    for i in 0..k {
         let n = rows::active_node(b, i);
-        if n < m {
-            if marks[n] != 1 {
-                marks[n] = 1;
-                i += 1;
-            } else {
-                return false;
-            }
+        if m <= n {
+            return false;
+        }
+        if marks[n] != 1 {
+            marks[n] = 1;
         } else {
             return false;
         }

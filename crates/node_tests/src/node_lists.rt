@@ -39,18 +39,15 @@ pub fn packed(b: &[i64]) -> bool
 {
     let c = rows::node_count(b);
     let l = rows::store_limit(b);
-    let mut n = 0;
     let mut a = 0;
-    while n < c {
+    for n in 0..c {
         let s = rows::node_word(b, rows::START, n);
         let k = rows::node_word(b, rows::BOUNDARY_LENGTH, n);
         let o = rows::node_word(b, rows::OVERGROWN_LENGTH, n);
-        if fits_at(a, l, s, k, o) {
-            a = a + k + o;
-            n += 1;
-        } else {
+        if !fits_at(a, l, s, k, o) {
             return false;
         }
+        a = a + k + o;
     }
     true
 }
@@ -103,11 +100,8 @@ fn sides_from(b: &[i64], store: &[i64], n: usize, a: usize, j: usize) -> bool
     ensures { result ≡ sides_ok (state_of b.now) n }
 {
     let k = lists::boundary_len(b, n);
-    let mut i = j;
-    while i < k {
-        if is_side(b, store, n, a, i) {
-            i += 1;
-        } else {
+    for i in j..k {
+        if !is_side(b, store, n, a, i) {
             return false;
         }
     }
@@ -122,15 +116,13 @@ fn boundary_sound(b: &[i64], store: &[i64], n: usize) -> bool
 {
     let a = lists::start(b, n);
     let k = lists::boundary_len(b, n);
-    let mut i = 0;
-    while i + 4 <= k {
-        if four_sides(b, store, n, a, i) {
-            i += 4;
-        } else {
+    let fours = k / 4;
+    for i in 0..fours {
+        if !four_sides(b, store, n, a, 4 * i) {
             return false;
         }
     }
-    sides_from(b, store, n, a, i)
+    sides_from(b, store, n, a, 4 * fours)
 }
 
 // ---- the overgrown stack
@@ -168,11 +160,8 @@ fn overgrown_sound(b: &[i64], store: &[i64], n: usize) -> bool
     ensures { result ≡ all (over_sound (state_of b.now)) (overgrown_of (state_of b.now) n) }
 {
     let k = lists::overgrown_len(b, n);
-    let mut i = 0;
-    while i < k {
-        if entry_sound(b, store, n, i) {
-            i += 1;
-        } else {
+    for i in 0..k {
+        if !entry_sound(b, store, n, i) {
             return false;
         }
     }

@@ -83,11 +83,8 @@ pub fn nodes_sound(b: &[i64]) -> bool
     let store = parts::store_row(b);
     let mut sides = [0u8; 8192];
     let mut vertices = [0u8; 1024];
-    let mut n = 0;
-    while n < c {
-        if node_sound(b, store, n, &mut sides, &mut vertices) {
-            n += 1;
-        } else {
+    for n in 0..c {
+        if !node_sound(b, store, n, &mut sides, &mut vertices) {
             return false;
         }
     }

@@ -48,16 +48,13 @@ fn boundary_own(b: &[i64], store: &[i64], holder: &[i64], n: usize, marks: &mut 
 {
     let a = lists::start(b, n);
     let k = lists::boundary_len(b, n);
-    let mut i = 0;
-    while i < k {
-        if node_lists::is_side(b, store, n, a, i) {
-            let s = side_at(b, store, n, a, i);
-            if row_words::holds(holder, s, n + 1) & (marks[s] != 1) {
-                marks[s] = 1;
-                i += 1;
-            } else {
-                return false;
-            }
+    for i in 0..k {
+        if !node_lists::is_side(b, store, n, a, i) {
+            return false;
+        }
+        let s = side_at(b, store, n, a, i);
+        if row_words::holds(holder, s, n + 1) & (marks[s] != 1) {
+            marks[s] = 1;
         } else {
             return false;
         }
@@ -76,16 +73,13 @@ fn overgrown_own(b: &[i64], store: &[i64], holder: &[i64], n: usize, marks: &mut
         × Unmarked (vertex_holder_at (state_of b.now)) (n + 1) marks.new }
 {
     let k = lists::overgrown_len(b, n);
-    let mut i = 0;
-    while i < k {
-        if node_lists::entry_sound(b, store, n, i) {
-            let v = vertex_at(b, store, n, i);
-            if row_words::holds(holder, v, n + 1) & (marks[v] != 1) {
-                marks[v] = 1;
-                i += 1;
-            } else {
-                return false;
-            }
+    for i in 0..k {
+        if !node_lists::entry_sound(b, store, n, i) {
+            return false;
+        }
+        let v = vertex_at(b, store, n, i);
+        if row_words::holds(holder, v, n + 1) & (marks[v] != 1) {
+            marks[v] = 1;
         } else {
             return false;
         }

@@ -16,12 +16,9 @@ fn none_removed(b: &[i64]) -> bool
     ensures { result ≡ all_below (live (state_of b.now)) (node_count (state_of b.now)) }
 {
     let c = rows::node_count(b);
-    let mut n = 0;
-    while n < c {
+    for n in 0..c {
         if node::is_removed(b, n) {
             return false;
-        } else {
-            n += 1;
         }
     }
     true
@@ -81,11 +78,8 @@ fn nodes_live(b: &[i64]) -> bool
     ensures { result ≡ all_below (node_live (state_of b.now)) (node_count (state_of b.now)) }
 {
     let c = rows::node_count(b);
-    let mut n = 0;
-    while n < c {
-        if node_live(b, n) {
-            n += 1;
-        } else {
+    for n in 0..c {
+        if !node_live(b, n) {
             return false;
         }
     }
@@ -100,11 +94,8 @@ fn vertices_live(b: &[i64]) -> bool
         (vertex_count (state_of b.now)) }
 {
     let c = rows::vertex_count(b);
-    let mut v = 0;
-    while v < c {
-        if live_or_none(b, vertex::holder(b, v)) {
-            v += 1;
-        } else {
+    for v in 0..c {
+        if !live_or_none(b, vertex::holder(b, v)) {
             return false;
         }
     }
@@ -119,11 +110,8 @@ fn sides_live(b: &[i64]) -> bool
         (side_count (state_of b.now)) }
 {
     let c = rows::side_count(b);
-    let mut s = 0;
-    while s < c {
-        if live_or_none(b, side::holder(b, s)) {
-            s += 1;
-        } else {
+    for s in 0..c {
+        if !live_or_none(b, side::holder(b, s)) {
             return false;
         }
     }

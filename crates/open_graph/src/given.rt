@@ -43,11 +43,8 @@ pub fn edges_ok(v: usize, e: usize, edges: &[i64]) -> bool
     requires { (e ≤ 4096) × (edges_in edges.now ≡ e) }
     ensures { result ≡ all (edge_ok v) (edges_from edges.now) }
 {
-    let mut i = 0;
-    while i < e {
-        if edge_ok(v, edges, i) {
-            i += 1;
-        } else {
+    for i in 0..e {
+        if !edge_ok(v, edges, i) {
             return false;
         }
     }
@@ -58,13 +55,5 @@ pub fn edges_ok(v: usize, e: usize, edges: &[i64]) -> bool
 pub fn virtuals_ok(v: usize, virtuals: &[i64]) -> bool
     ensures { result ≡ all (λ x. ltb x v) (virtuals_from virtuals.now) }
 {
-    let mut i = 0;
-    while i < virtuals.len() {
-        if words::word(virtuals, i) < v {
-            i += 1;
-        } else {
-            return false;
-        }
-    }
-    true
+    virtuals.iter().all(|w| words::to_nat(*w) < v)
 }

@@ -8,9 +8,5 @@ pub fn wipe(t: &mut [i64], p: usize, n: usize)
     requires { p + n ≤ length t.old }
     ensures { t.new ≡ wiped t.old p n }
 {
-    let mut i = 0;
-    while i < n {
-        graph::words::put(t, p + i, 0);
-        i += 1;
-    }
+    t[p..p + n].fill(0);
 }

@@ -8,24 +8,16 @@ ghost use Rattle.graph.specs.Form.{Formed};
 ghost use Rattle.pass.specs.KeepsSound.{holds_lists};
 ghost use Rattle.pass.specs.inner.Ready.{Shrinkable};
 
-use graph::{lists, side, vertex};
+use graph::{lists, side, vertex, words};
 
 // Whether node n holds every side that it lists.
 fn holds_sides(b: &[i64], n: usize) -> bool
     requires { Formed b.now × (n < node_count (state_of b.now)) × Shrinkable (state_of b.now) n }
     ensures { result ≡ all (λ s. eqb (holder_at (state_of b.now) s) (n + 1)) (boundary_of (state_of b.now) n) }
 {
-    let l = lists::boundary_len(b, n);
-    let mut i = 0;
-    while i < l {
-        let s = lists::boundary_side(b, n, i);
-        if side::holder(b, s) == n + 1 {
-            i += 1;
-        } else {
-            return false;
-        }
-    }
-    true
+    lists::boundary(b, n)
+        .iter()
+        .all(|s| side::holder(b, words::to_nat(*s)) == n + 1)
 }
 
 // Whether it holds every vertex of its overgrown stack.
@@ -35,12 +27,9 @@ fn holds_stack(b: &[i64], n: usize) -> bool
         (overgrown_of (state_of b.now) n) }
 {
     let l = lists::overgrown_len(b, n);
-    let mut i = 0;
-    while i < l {
+    for i in 0..l {
         let v = lists::overgrown_vertex(b, n, i);
-        if vertex::holder(b, v) == n + 1 {
-            i += 1;
-        } else {
+        if vertex::holder(b, v) != n + 1 {
             return false;
         }
     }

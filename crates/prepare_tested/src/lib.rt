@@ -40,7 +40,7 @@ pub fn prepare_tested(b: &mut [i64], t: &mut [i64], n: usize) -> Preparation
     }
     let holds = held::holds_lists(b, n);
     Preparation {
-        passes: passes,
+        passes,
         kept: freed_own & holds,
     }
 }
@@ -57,8 +57,5 @@ pub fn prepare_asked(b: &mut [i64], t: &mut [i64], n: usize, d: usize, ask: bool
         return prepare_tested(b, t, n);
     }
     let passes = prepare::prepare_dual_node_growth(b, t, n, d);
-    Preparation {
-        passes: passes,
-        kept: ask,
-    }
+    Preparation { passes, kept: ask }
 }

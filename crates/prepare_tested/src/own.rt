@@ -9,7 +9,7 @@ ghost use Rattle.pass.specs.Shrink.{empty_tops};
 ghost use Rattle.pass.specs.KeepsSound.{own_side, may_go, side_may_go, pass_own};
 ghost use Rattle.pass.specs.inner.Ready.{Shrinkable};
 
-use graph::{lists, side, sides, vertex};
+use graph::{lists, side, sides, vertex, words};
 use shrink_pass::{shrink, tops};
 
 // Whether side s is free, or node n holds it.
@@ -27,12 +27,9 @@ fn own_sides(b: &[i64], n: usize, v: usize) -> bool
     ensures { result ≡ all (own_side n (state_of b.now)) (sides_at (state_of b.now) v) }
 {
     let l = sides::sides_len(b, v);
-    let mut i = 0;
-    while i < l {
+    for i in 0..l {
         let s = sides::vertex_side(b, v, i);
-        if own_side(b, n, s) {
-            i += 1;
-        } else {
+        if !own_side(b, n, s) {
             return false;
         }
     }
@@ -73,17 +70,9 @@ fn sides_may_go(b: &[i64], n: usize) -> bool
     requires { Formed b.now × (n < node_count (state_of b.now)) × Shrinkable (state_of b.now) n }
     ensures { result ≡ all (side_may_go n (state_of b.now)) (boundary_of (state_of b.now) n) }
 {
-    let l = lists::boundary_len(b, n);
-    let mut i = 0;
-    while i < l {
-        let s = lists::boundary_side(b, n, i);
-        if side_may_go(b, n, s) {
-            i += 1;
-        } else {
-            return false;
-        }
-    }
-    true
+    lists::boundary(b, n)
+        .iter()
+        .all(|s| side_may_go(b, n, words::to_nat(*s)))
 }
 
 // Whether every empty top of node n's overgrown stack may go.
@@ -92,12 +81,9 @@ fn tops_may_go(b: &[i64], n: usize) -> bool
     ensures { result ≡ all (may_go n (state_of b.now)) (empty_tops (overgrown_of (state_of b.now) n)) }
 {
     let l = tops::empty_tops(b, n);
-    let mut i = 0;
-    while i < l {
+    for i in 0..l {
         let v = lists::overgrown_vertex(b, n, i);
-        if may_go(b, n, v) {
-            i += 1;
-        } else {
+        if !may_go(b, n, v) {
             return false;
         }
     }

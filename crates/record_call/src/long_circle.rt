@@ -19,15 +19,12 @@ fn entries_refusal(b: &[i64], body: &[u8]) -> usize
 {
     let k = (body.len() - 2) / 4 - 1;
     let mut inner = false;
-    let mut i = 0;
-    while i < k {
+    for i in 0..k {
         let m = bytes::field(body, i + 1);
         if refuse::bad_node(b, m) {
             return 3;
-        } else {
-            inner = inner | refuse::in_blossom(b, m);
-            i += 1;
         }
+        inner = inner | refuse::in_blossom(b, m);
     }
     if inner { 6 } else { 7 }
 }

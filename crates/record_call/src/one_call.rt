@@ -18,10 +18,8 @@ fn circle_into(c: &mut [i64], body: &[u8]) -> usize
         × (result ≤ length c.old) }
 {
     let k = (body.len() - 2) / 4 - 1;
-    let mut i = 0;
-    while i < k {
+    for i in 0..k {
         words::put(c, i, bytes::field(body, i + 1));
-        i += 1;
     }
     k
 }

@@ -27,7 +27,7 @@ pub struct After {
 pub fn fresh() -> Run
     ensures { (result.stage ≡ 0) × (result.record ≡ 0) }
 {
-    let s = Setup {
+    let setup = Setup {
         v: 0,
         e: 0,
         n: 0,
@@ -39,7 +39,7 @@ pub fn fresh() -> Run
     Run {
         stage: 0,
         record: 0,
-        setup: s,
+        setup,
     }
 }
 
@@ -51,13 +51,8 @@ pub fn stop(lines: &mut [u8], r: Run, o: Out, k: usize) -> After
         × (result.run.stage ≡ 3) × (result.run.record ≡ r.record) }
 {
     let out = told::answer(lines, o, r.record, Answer::Refused(k));
-    let s = r.setup;
-    let run = Run {
-        stage: 3,
-        record: r.record,
-        setup: s,
-    };
-    After { run: run, out: out }
+    let run = Run { stage: 3, ..r };
+    After { run, out }
 }
 
 // Input that ends inside a record.
@@ -67,11 +62,9 @@ pub fn cut(lines: &mut [u8], r: Run, o: Out) -> After
         (ends (r.record + 1) 3).lines
         × (result.run.stage ≡ 3) × (result.run.record ≡ r.record + 1) }
 {
-    let s = r.setup;
-    let p = Run {
-        stage: r.stage,
+    let next = Run {
         record: r.record + 1,
-        setup: s,
+        ..r
     };
-    stop(lines, p, o, 3)
+    stop(lines, next, o, 3)
 }

@@ -75,12 +75,8 @@ fn first(
         return run::stop(lines, r, o, k);
     }
     let out = ask(lines, o, r.record, s, kind, body, block, scratch);
-    let run = Run {
-        stage: 2,
-        record: r.record,
-        setup: s,
-    };
-    After { run: run, out: out }
+    let run = Run { stage: 2, ..r };
+    After { run, out }
 }
 
 // A record that asks for a call.
@@ -112,7 +108,7 @@ fn asked(
     }
     let s = r.setup;
     let out = ask(lines, o, r.record, s, kind, body, block, scratch);
-    After { run: r, out: out }
+    After { run: r, out }
 }
 
 // A record of sizes, of an edge or of a virtual vertex.
@@ -135,34 +131,33 @@ fn gather(
 {
     if kind == 1 {
         if r.stage == 0 {
-            let s = setup::sizes(body);
+            let setup = setup::sizes(body);
             let run = Run {
                 stage: 1,
-                record: r.record,
-                setup: s,
+                setup,
+                ..r
             };
-            return After { run: run, out: o };
+            return After { run, out: o };
         }
         return run::stop(lines, r, o, 3);
     }
     if r.stage == 1 {
-        let s = r.setup;
         if kind == 2 {
-            let p = setup::add_edge(s, edges, body);
+            let setup = setup::add_edge(r.setup, edges, body);
             let run = Run {
                 stage: 1,
-                record: r.record,
-                setup: p,
+                setup,
+                ..r
             };
-            return After { run: run, out: o };
+            return After { run, out: o };
         }
-        let p = setup::add_virtual(s, virtuals, body);
+        let setup = setup::add_virtual(r.setup, virtuals, body);
         let run = Run {
             stage: 1,
-            record: r.record,
-            setup: p,
+            setup,
+            ..r
         };
-        return After { run: run, out: o };
+        return After { run, out: o };
     }
     run::stop(lines, r, o, 3)
 }
@@ -187,11 +182,9 @@ pub fn step_record(
         lines.old o.at o.full lines.new result.out.at result.out.full (decoded body.now)
         × (result.run.record ≡ r0.record + 1) × (scratch.new ≡ scratch.old) }
 {
-    let s = r0.setup;
     let r = Run {
-        stage: r0.stage,
         record: r0.record + 1,
-        setup: s,
+        ..r0
     };
     if record::well_formed(body) {
         let kind = bytes::pair(body, 0);

@@ -3,19 +3,12 @@
 ghost use Rattle.std.specs.Prelude.{◌≡◌, ◌+◌, ◌*◌, ◌<◌, ◌≤◌, length};
 ghost use Rattle.records.specs.Record.{pair_at, four_at, field, signed};
 
-// A byte as a number.
-fn wide(x: u8) -> usize
-    ensures { (result ≡ x) × (result ≤ 255) }
-{
-    x as usize
-}
-
 // 2 bytes from place i.
 pub fn pair(b: &[u8], i: usize) -> usize
     requires { i + 1 < length b.now }
     ensures { (result ≡ pair_at b.now i) × (result ≤ 65535) }
 {
-    wide(b[i]) + 256 * wide(b[i + 1])
+    usize::from(b[i]) + 256 * usize::from(b[i + 1])
 }
 
 // 4 bytes from place i, without sign.

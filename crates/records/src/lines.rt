@@ -23,10 +23,7 @@ fn put_line(lines: &mut [u8], o: Out, l: &[u8]) -> Out
         return o;
     }
     if lines.len() - o.at < l.len() {
-        return Out {
-            at: o.at,
-            full: true,
-        };
+        return Out { full: true, ..o };
     }
     let n = text::word(lines, o.at, l);
     Out { at: n, full: false }

@@ -69,13 +69,8 @@ pub fn add_edge(s: Setup, edges: &mut [i64], body: &[u8]) -> Setup
     let w = bytes::field(body, 2);
     store_edge(edges, s.edges, x, y, w);
     Setup {
-        v: s.v,
-        e: s.e,
-        n: s.n,
-        l: s.l,
         edges: counted_edge(s.edges),
-        virtuals: s.virtuals,
-        bad: s.bad,
+        ..s
     }
 }
 
@@ -83,14 +78,7 @@ pub fn add_edge(s: Setup, edges: &mut [i64], body: &[u8]) -> Setup
 fn missing(words: &[i64], x: usize) -> bool
     ensures { result ≡ not (member x (virtuals_from words.now)) }
 {
-    let mut i = 0;
-    while i < words.len() {
-        if words::word(words, i) == x {
-            return false;
-        }
-        i += 1;
-    }
-    true
+    !words.iter().any(|w| words::to_nat(*w) == x)
 }
 
 // Whether x is to be stored: it is below 64 and not among the first n.
@@ -109,26 +97,13 @@ pub fn add_virtual(s: Setup, virtuals: &mut [i64], body: &[u8]) -> Setup
 {
     let x = bytes::field(body, 0);
     if s.v <= x {
-        return Setup {
-            v: s.v,
-            e: s.e,
-            n: s.n,
-            l: s.l,
-            edges: s.edges,
-            virtuals: s.virtuals,
-            bad: true,
-        };
+        return Setup { bad: true, ..s };
     }
     if new_virtual(virtuals, s.virtuals, x) {
         words::put(virtuals, s.virtuals, x);
         return Setup {
-            v: s.v,
-            e: s.e,
-            n: s.n,
-            l: s.l,
-            edges: s.edges,
             virtuals: s.virtuals + 1,
-            bad: s.bad,
+            ..s
         };
     }
     s

@@ -30,12 +30,9 @@ pub fn table(lines: &mut [u8], o: Out, k: usize, b: &[i64]) -> Out
     ensures { LinesPut lines.old o.at o.full lines.new result.at result.full
         (lines_for k (growths (growth_table (state_of b.now)))) }
 {
-    let n = rows::edge_count(b);
     let mut out = o;
-    let mut e = 0;
-    while e < n {
+    for e in 0..rows::edge_count(b) {
         out = edge_line(lines, out, k, b, e);
-        e += 1;
     }
     out
 }
@@ -60,12 +57,9 @@ pub fn contacts(lines: &mut [u8], o: Out, k: usize, b: &[i64]) -> Out
     ensures { LinesPut lines.old o.at o.full lines.new result.at result.full
         (lines_for k (touching (contacts (state_of b.now)))) }
 {
-    let n = rows::edge_count(b);
     let mut out = o;
-    let mut e = 0;
-    while e < n {
+    for e in 0..rows::edge_count(b) {
         out = contact_line(lines, out, k, b, e);
-        e += 1;
     }
     out
 }

@@ -18,12 +18,8 @@ pub fn word(t: &mut [u8], n: usize, w: &[u8]) -> usize
     requires { n + length w.now ≤ length t.old }
     ensures { Written t.old n t.new result w.now }
 {
-    let mut m = n;
-    let mut i = 0;
-    while i < w.len() {
-        m = byte(t, m, w[i]);
-        i += 1;
-    }
+    let m = n + w.len();
+    t[n..m].copy_from_slice(w);
     m
 }
 
@@ -74,10 +70,8 @@ pub fn numbers(t: &mut [u8], n: usize, ns: &[usize]) -> usize
     ensures { Written t.old n t.new result (spaced ns.now) }
 {
     let mut m = n;
-    let mut i = 0;
-    while i < ns.len() {
-        m = number(t, m, ns[i]);
-        i += 1;
+    for x in ns {
+        m = number(t, m, *x);
     }
     m
 }

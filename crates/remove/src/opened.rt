@@ -21,11 +21,9 @@ fn set_holders(b: &mut [i64], n: usize, x: usize)
     ensures { Becomes b.old b.new (fold (set_holder x) (state_of b.old) (boundary_of (state_of b.old) n)) }
 {
     let l = lists::boundary_len(b, n);
-    let mut i = 0;
-    while i < l {
+    for i in 0..l {
         let s = lists::boundary_side(b, n, i);
         side::set_holder(b, s, x);
-        i += 1;
     }
 }
 
@@ -56,10 +54,8 @@ fn return_members(b: &mut [i64], n: usize)
     ensures { Becomes b.old b.new (fold member_step (state_of b.old) (members_of (state_of b.old) n)) }
 {
     let c = rows::node_count(b);
-    let mut m = 0;
-    while m < c {
+    for m in 0..c {
         return_node(b, n, m);
-        m += 1;
     }
 }
 

@@ -21,14 +21,12 @@ fn mark_held(b: &[i64], n: usize, own: &mut [usize]) -> bool
         × (result ≡ true → Carry 1 (boundary_of (state_of b.now) n) (length (boundary_of (state_of b.now) n)) own.new) }
 {
     let l = lists::boundary_len(b, n);
-    let mut i = 0;
-    while i < l {
+    for i in 0..l {
         let s = lists::boundary_side(b, n, i);
         if side::holder(b, s) == 0 {
             return false;
         }
         own[s] = 1;
-        i += 1;
     }
     true
 }
@@ -51,15 +49,12 @@ fn list_free(b: &[i64], n: usize, m: usize, own: &[usize], met: &mut [usize]) ->
         × (result ≡ false → false ≡ once_all (free_by (state_of b.now) own.now) (member_lists (state_of b.now) n)) }
 {
     let l = lists::boundary_len(b, m);
-    let mut i = 0;
-    while i < l {
+    for i in 0..l {
         let s = lists::boundary_side(b, m, i);
-        if is_fresh(b, own, met, s) {
-            met[s] = 1;
-            i += 1;
-        } else {
+        if !is_fresh(b, own, met, s) {
             return false;
         }
+        met[s] = 1;
     }
     true
 }
@@ -86,11 +81,8 @@ fn members_free(b: &[i64], n: usize, own: &[usize]) -> bool
 {
     let c = rows::node_count(b);
     let mut met = [0usize; 8192];
-    let mut m = 0;
-    while m < c {
-        if member_free(b, n, m, own, &mut met) {
-            m += 1;
-        } else {
+    for m in 0..c {
+        if !member_free(b, n, m, own, &mut met) {
             return false;
         }
     }

@@ -40,13 +40,10 @@ pub fn first_refusal(b: &[i64]) -> usize
     ensures { result ≡ first_refusal (answers_of (state_of b.now) (state_of b.now).active) }
 {
     let k = rows::active_count(b);
-    let mut i = 0;
-    while i < k {
+    for i in 0..k {
         let r = trial::refusal_of(answer_at(b, i));
         if r != 0 {
             return r;
-        } else {
-            i += 1;
         }
     }
     0
@@ -87,11 +84,8 @@ pub fn all_free(b: &[i64]) -> bool
     ensures { result ≡ all is_free (answers_of (state_of b.now) (state_of b.now).active) }
 {
     let k = rows::active_count(b);
-    let mut i = 0;
-    while i < k {
-        if is_free(answer_at(b, i)) {
-            i += 1;
-        } else {
+    for i in 0..k {
+        if !is_free(answer_at(b, i)) {
             return false;
         }
     }
@@ -168,10 +162,8 @@ pub fn free_group(b: &[i64]) -> GroupMaxUpdateLength
 {
     let k = rows::active_count(b);
     let mut g = GroupMaxUpdateLength::Unlimited(false);
-    let mut i = 0;
-    while i < k {
+    for i in 0..k {
         g = join_free(g, answer_at(b, i));
-        i += 1;
     }
     g
 }

@@ -65,13 +65,10 @@ fn phase(b: &mut [i64], t: &mut [i64], x: usize, l: usize) -> usize
         × (t.new ≡ t.old) }
 {
     let k = rows::active_count(b);
-    let mut i = 0;
-    while i < k {
+    for i in 0..k {
         let r = call_at(b, t, i, x, l);
         if r != 0 {
             return r;
-        } else {
-            i += 1;
         }
     }
     0
@@ -83,13 +80,10 @@ fn none_in(b: &[i64], x: usize) -> bool
     ensures { result ≡ none_of (active_in (state_of b.now) x) }
 {
     let k = rows::active_count(b);
-    let mut i = 0;
-    while i < k {
+    for i in 0..k {
         let n = rows::active_node(b, i);
         if node::grow_state(b, n) == x {
             return false;
-        } else {
-            i += 1;
         }
     }
     true

@@ -25,11 +25,8 @@ fn ends_ok(v: usize, e: usize, edges: &[i64]) -> bool
     requires { (e ≤ 4096) × (edges_in edges.now ≡ e) }
     ensures { result ≡ all (ends_ok v) (edges_from edges.now) }
 {
-    let mut i = 0;
-    while i < e {
-        if end_ok(v, edges, i) {
-            i += 1;
-        } else {
+    for i in 0..e {
+        if !end_ok(v, edges, i) {
             return false;
         }
     }

@@ -17,28 +17,14 @@ fn greater(x: usize, y: usize) -> usize
 pub fn largest(sheet: &[i64]) -> usize
     ensures { result ≡ largest (values_from sheet.now) }
 {
-    let mut m = 0;
-    let mut i = 0;
-    while i < sheet.len() {
-        m = greater(m, words::word(sheet, i));
-        i += 1;
-    }
-    m
+    sheet.iter().fold(0, |m, w| greater(m, words::to_nat(*w)))
 }
 
 // Whether every value is in range.
 fn all_in_range(sheet: &[i64]) -> bool
     ensures { result ≡ all in_range (values_from sheet.now) }
 {
-    let mut i = 0;
-    while i < sheet.len() {
-        if words::word(sheet, i) <= 999999999 {
-            i += 1;
-        } else {
-            return false;
-        }
-    }
-    true
+    sheet.iter().all(|w| words::to_nat(*w) <= 999999999)
 }
 
 // Whether every value is in range and one of them positive.

@@ -38,13 +38,9 @@ pub fn vanished(sheet: &[i64]) -> usize
 {
     let m = values::largest(sheet);
     let mut k = 0;
-    let mut i = 0;
-    while i < sheet.len() {
-        if vanishes(m, words::word(sheet, i)) {
+    for w in sheet {
+        if vanishes(m, words::to_nat(*w)) {
             k += 1;
-            i += 1;
-        } else {
-            i += 1;
         }
     }
     k
@@ -56,10 +52,8 @@ pub fn weigh(edges: &mut [i64], sheet: &[i64])
     ensures { edges.new ≡ weighed (values_from sheet.now) edges.old }
 {
     let m = values::largest(sheet);
-    let mut i = 0;
-    while i < sheet.len() {
-        let w = scaled(m, words::word(sheet, i));
+    for (i, t) in sheet.iter().enumerate() {
+        let w = scaled(m, words::to_nat(*t));
         words::put(edges, 3 * i + 2, w);
-        i += 1;
     }
 }

@@ -30,8 +30,7 @@ pub fn keep_once(t: &mut [i64], m: usize, p: ShrinkProgress, s: usize) -> Shrink
         words::put(t, m + s, 1);
         ShrinkProgress {
             kept: p.kept + 1,
-            noted: p.noted,
-            another: p.another,
+            ..p
         }
     } else {
         p
@@ -46,9 +45,8 @@ pub fn note(t: &mut [i64], m: usize, p: ShrinkProgress, v: usize) -> ShrinkProgr
 {
     words::put(t, 2 * m + p.noted, v);
     ShrinkProgress {
-        kept: p.kept,
         noted: p.noted + 1,
-        another: p.another,
+        ..p
     }
 }
 
@@ -57,11 +55,9 @@ fn unmark(t: &mut [i64], m: usize, k: usize)
     requires { (k ≤ m) × (m ≤ 8192) × (2 * m ≤ length t.old) × ((i : ℕ) → i < k → word_at t.old i < m) }
     ensures { t.new ≡ unmarked t.old m k }
 {
-    let mut i = 0;
-    while i < k {
+    for i in 0..k {
         let s = words::word(t, i);
         words::put(t, m + s, 0);
-        i += 1;
     }
 }
 

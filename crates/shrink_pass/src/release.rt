@@ -36,9 +36,8 @@ fn drop_side(b: &mut [i64], t: &mut [i64], m: usize, p: ShrinkProgress, s: usize
     side::free(b, s);
     let q = keep::keep_once(t, m, p, o);
     ShrinkProgress {
-        kept: q.kept,
-        noted: q.noted,
         another: another::called_if(empty, q.another),
+        ..q
     }
 }
 
@@ -78,12 +77,10 @@ fn part_sides(
         (λ w. fold (part_side off n) w (sides_at (state_of b.old) v)) }
 {
     let l = sides::sides_len(b, v);
-    let mut i = 0;
     let mut q = p;
-    while i < l {
+    for i in 0..l {
         let s = sides::vertex_side(b, v, i);
         q = part_side(b, t, n, m, q, s, off);
-        i += 1;
     }
     q
 }

@@ -35,17 +35,9 @@ fn any_emptied(b: &[i64], n: usize) -> bool
     requires { Formed b.now × (n < node_count (state_of b.now)) × (sides_ok (state_of b.now) n ≡ true) }
     ensures { result ≡ any (vertex_left (state_of b.now)) (boundary_of (state_of b.now) n) }
 {
-    let l = lists::boundary_len(b, n);
-    let mut i = 0;
-    while i < l {
-        let s = lists::boundary_side(b, n, i);
-        if emptied(b, s) {
-            return true;
-        } else {
-            i += 1;
-        }
-    }
-    false
+    lists::boundary(b, n)
+        .iter()
+        .any(|s| emptied(b, words::to_nat(*s)))
 }
 
 // The vertex of side s, if held, has no holder any more and is noted.
@@ -93,12 +85,10 @@ fn shrink_scan(
         (λ w. fold shrink_step_once w (boundary_of (state_of b.old) n)) }
 {
     let l = lists::boundary_len(b, n);
-    let mut i = 0;
     let mut q = p;
-    while i < l {
+    for i in 0..l {
         let s = lists::boundary_side(b, n, i);
         q = shrink_side(b, t, m, q, s);
-        i += 1;
     }
     q
 }
@@ -115,12 +105,10 @@ fn release_noted(
     ensures { ShrinkWorked b.old t.old b.new t.new m p result (λ w. fold (release_once n) w w.noted) }
 {
     let l = p.noted;
-    let mut i = 0;
     let mut q = p;
-    while i < l {
+    for i in 0..l {
         let v = words::word(t, 2 * m + i);
         q = release::release_vertex(b, t, n, m, q, v);
-        i += 1;
     }
     q
 }

@@ -19,15 +19,12 @@ pub fn empty_tops(b: &[i64], n: usize) -> usize
     ensures { result ≡ length (empty_tops (overgrown_of (state_of b.now) n)) }
 {
     let l = lists::overgrown_len(b, n);
-    let mut i = 0;
-    while i < l {
-        if lists::overgrown_amount(b, n, i) == 0 {
-            i += 1;
-        } else {
+    for i in 0..l {
+        if lists::overgrown_amount(b, n, i) != 0 {
             return i;
         }
     }
-    i
+    l
 }
 
 // The z of them are taken off: their vertices go, from the top down.
@@ -44,12 +41,10 @@ pub fn drop_tops(
     ensures { ShrinkWorked b.old t.old b.new t.new m p result
         (λ w. fold (drop_step n) w (empty_tops (overgrown_of (state_of b.old) n))) }
 {
-    let mut i = 0;
     let mut q = p;
-    while i < z {
+    for i in 0..z {
         let v = lists::overgrown_vertex(b, n, i);
         q = release::drop_vertex(b, t, n, m, q, v);
-        i += 1;
     }
     q
 }

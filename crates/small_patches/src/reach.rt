@@ -49,11 +49,8 @@ fn spread_along(m: &mut [usize], edges: &[i64], i: usize)
 fn spread_once(m: &mut [usize], edges: &[i64])
     ensures { m.new ≡ fold spread_along m.old (edges_from edges.now) }
 {
-    let n = given::edges_in(edges);
-    let mut i = 0;
-    while i < n {
+    for i in 0..given::edges_in(edges) {
         spread_along(m, edges, i);
-        i += 1;
     }
 }
 
@@ -61,10 +58,8 @@ fn spread_once(m: &mut [usize], edges: &[i64])
 fn spread(m: &mut [usize], edges: &[i64])
     ensures { m.new ≡ spread_over (edges_from edges.now) times m.old }
 {
-    let mut n = 0usize;
-    while n < 3 {
+    for _n in 0..3usize {
         spread_once(m, edges);
-        n += 1;
     }
 }
 
@@ -72,11 +67,8 @@ fn spread(m: &mut [usize], edges: &[i64])
 fn all_marked(m: &[usize]) -> bool
     ensures { result ≡ all_below (has_mark m.now) 4 }
 {
-    let mut a = 0;
-    while a < 4 {
-        if 0 < mark(m, a) {
-            a += 1;
-        } else {
+    for a in 0..4 {
+        if mark(m, a) == 0 {
             return false;
         }
     }

@@ -29,10 +29,8 @@ fn tell_all(lines: &mut [u8]) -> Out
     ensures { LinesPut lines.old 0 false lines.new result.at result.full listing }
 {
     let mut o = Out { at: 0, full: false };
-    let mut k = 1;
-    while k < 729 {
+    for k in 1..729 {
         o = tell(lines, o, k);
-        k += 1;
     }
     o
 }

@@ -5,3 +5,4 @@ pub mod Insert
 pub mod Move
 pub mod Replace
 pub mod Store
+pub mod Stretch

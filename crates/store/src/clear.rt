@@ -36,11 +36,7 @@ fn zero_vertices(b: &mut [i64], k: usize)
 {
     let m = rows::vertex_count(b);
     let a = rows::vertex_place(b, k, 0);
-    let mut v = 0;
-    while v < m {
-        words::put(b, a + v, 0);
-        v += 1;
-    }
+    b[a..a + m].fill(0);
 }
 
 // A row over sides becomes zero.
@@ -50,11 +46,7 @@ fn zero_sides(b: &mut [i64], k: usize)
 {
     let m = rows::side_count(b);
     let a = rows::side_place(b, k, 0);
-    let mut s = 0;
-    while s < m {
-        words::put(b, a + s, 0);
-        s += 1;
-    }
+    b[a..a + m].fill(0);
 }
 
 // Of the flags of each vertex, the virtual one stays.
@@ -64,11 +56,8 @@ fn drop_defects(b: &mut [i64])
 {
     let m = rows::vertex_count(b);
     let a = rows::vertex_place(b, rows::FLAGS, 0);
-    let mut v = 0;
-    while v < m {
-        let x = words::word(b, a + v);
-        words::put(b, a + v, x % 2);
-        v += 1;
+    for w in &mut b[a..a + m] {
+        *w = words::to_word(words::to_nat(*w) % 2);
     }
 }
 
@@ -80,11 +69,7 @@ fn restore_weights(b: &mut [i64])
     let m = rows::edge_count(b);
     let a = rows::edge_place(b, 0);
     let o = rows::original_place(b, 0);
-    let mut i = 0;
-    while i < m {
-        words::copy(b, a + i, o + i);
-        i += 1;
-    }
+    b.copy_within(o..o + m, a);
 }
 
 // The rows over vertices: no defect, nothing held.

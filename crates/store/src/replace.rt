@@ -17,68 +17,19 @@ ghost use Rattle.store.specs.inner.Store.{Resized, Stored, Moved, Replaceable};
 use graph::{lists, rows, words};
 
 // ---- stretches of the store
-// The store is gone over from its first place on, so that a word costs no look at the header, and words are moved as they stand.
-
-// Word i of the store, which begins at place a, becomes word j.
-fn copy_at(b: &mut [i64], a: usize, i: usize, j: usize)
-    requires { Laid b.old × Found b.old store_row 0 a × (i < (state_of b.old).store_limit) × (j < (state_of b.old).store_limit) }
-    ensures { Rowed store_row b.old b.new (set (store_of b.old) i (get_or (store_of b.old) j 0)) }
-{
-    words::copy(b, a + i, a + j);
-}
-
-// The same with word j of t.
-fn fill_at(b: &mut [i64], a: usize, i: usize, t: &[i64], j: usize)
-    requires { Laid b.old × Found b.old store_row 0 a × (i < (state_of b.old).store_limit) × (j < length t.now) }
-    ensures { Rowed store_row b.old b.new (set (store_of b.old) i (word_at t.now j)) }
-{
-    words::copy_from(b, a + i, t, j);
-}
-
-// The n words at `from` are copied to `to`, which lies before them.
-fn move_down(b: &mut [i64], from: usize, to: usize, n: usize)
-    requires { Laid b.old × (to ≤ from) × (from + n ≤ (state_of b.old).store_limit) }
-    ensures { Copied b.old b.new from to n }
-{
-    if n == 0 {
-        return;
-    }
-    let a = rows::store_place(b, 0);
-    let mut i = 0;
-    while i < n {
-        copy_at(b, a, to + i, from + i);
-        i += 1;
-    }
-}
-
-// The n words at `from` are copied to `to`, which lies behind them.
-fn move_up(b: &mut [i64], from: usize, to: usize, n: usize)
-    requires { Laid b.old × (from ≤ to) × (to + n ≤ (state_of b.old).store_limit) }
-    ensures { Copied b.old b.new from to n }
-{
-    if n == 0 {
-        return;
-    }
-    let a = rows::store_place(b, 0);
-    let mut i = n;
-    while 0 < i {
-        i -= 1;
-        copy_at(b, a, to + i, from + i);
-    }
-}
+// Words are moved as they stand.
 
 // The n words at `from` are copied to `to`.
 fn move_words(b: &mut [i64], from: usize, to: usize, n: usize)
     requires { Laid b.old × (from + n ≤ (state_of b.old).store_limit) × (to + n ≤ (state_of b.old).store_limit) }
     ensures { Copied b.old b.new from to n }
 {
-    if from < to {
-        move_up(b, from, to, n);
-    } else {
-        if to < from {
-            move_down(b, from, to, n);
-        }
+    if n == 0 {
+        return;
     }
+    let p = rows::store_place(b, from);
+    let q = rows::store_place(b, to);
+    b.copy_within(p..p + n, q);
 }
 
 // The n words of t from q on are put into the store at `at`.
@@ -89,12 +40,8 @@ fn fill(b: &mut [i64], t: &[i64], q: usize, at: usize, n: usize)
     if n == 0 {
         return;
     }
-    let a = rows::store_place(b, 0);
-    let mut i = 0;
-    while i < n {
-        fill_at(b, a, at + i, t, q + i);
-        i += 1;
-    }
+    let a = rows::store_place(b, at);
+    b[a..a + n].copy_from_slice(&t[q..q + n]);
 }
 
 // ---- starts
@@ -109,11 +56,9 @@ fn shift_each(b: &mut [i64], lo: usize, hi: usize, add: usize, sub: usize)
         return;
     }
     let a = rows::node_place(b, rows::START, 0);
-    let mut i = lo;
-    while i < hi {
+    for i in lo..hi {
         let x = words::word(b, a + i);
         words::put(b, a + i, x + add - sub);
-        i += 1;
     }
 }
 
@@ -216,10 +161,10 @@ pub fn replace_lists(b: &mut [i64], n: usize, t: &[i64], k: usize, m: usize, q: 
     let both = boundary + lists::overgrown_len(b, n);
     let rest = lists::entry_count(b) - (start + both);
     let p = Place {
-        start: start,
-        boundary: boundary,
+        start,
+        boundary,
         length: both,
-        rest: rest,
+        rest,
     };
     let c = Change {
         boundary: k,

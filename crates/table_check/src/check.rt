@@ -9,6 +9,7 @@ ghost use Rattle.table_check.specs.Tests.{positive_in, rows_right, tested};
 use crate::{Verdict, reach};
 use table_refuse::refuse;
 use table_rows::rows;
+use table_words::table::Table;
 use table_words::words;
 
 // Whether no edge has weight 0.
@@ -16,63 +17,36 @@ pub fn positive(e: usize, edges: &[i64]) -> bool
     requires { e ≤ 4096 }
     ensures { result ≡ all_below (positive_in edges.now) (2 * e) }
 {
-    let mut s = 0;
-    while s < 2 * e {
-        if 0 < words::weight(edges, s) {
-            s += 1;
-        } else {
-            return false;
-        }
-    }
-    true
+    (0..2 * e).all(|s| 0 < words::weight(edges, s))
 }
 
 // Whether every row is right, and no side has a growth that no defect covers.
-fn rows_right(
-    v: usize,
-    e: usize,
-    edges: &[i64],
-    virtuals: &[i64],
-    defects: &[i64],
-    duals: &[i64],
-    growths: &[i64],
-    distances: &[i64],
-) -> bool
-    requires { (v ≤ 1024) × (e ≤ 4096) × (length defects.now ≤ 1024) × (length distances.now ≡ length defects.now * v) }
-    ensures { result ≡ rows_right v e edges.now virtuals.now defects.now duals.now
-        growths.now (λ i. distance_in (row_of v distances.now i)) }
+fn rows_right(table: &Table, distances: &[i64]) -> bool
+    requires { (table.now.v ≤ 1024) × (table.now.e ≤ 4096) × (length table.now.defects.now ≤ 1024) × (length distances.now ≡ length table.now.defects.now * table.now.v) }
+    ensures { result ≡ rows_right table.now.v table.now.e table.now.edges.now table.now.virtuals.now table.now.defects.now table.now.duals.now
+        table.now.growths.now (λ i. distance_in (row_of table.now.v distances.now i)) }
 {
     let mut m = [0usize; 1024];
-    let mut i = 0;
-    while i < defects.len() {
-        let row = &distances[i * v..i * v + v];
-        if rows::row_right(v, e, edges, virtuals, defects, duals, growths, row, i) {
-            rows::cover(&mut m, v, row, words::number(duals, i));
-            i += 1;
-        } else {
+    for i in 0..table.defects.len() {
+        let row = &distances[i * table.v..i * table.v + table.v];
+        if !rows::row_right(table, row, i) {
             return false;
         }
+        rows::cover(&mut m, table.v, row, words::number(table.duals, i));
     }
-    rows::free(e, edges, growths, &m)
+    rows::free(table.e, table.edges, table.growths, &m)
 }
 
 // Whether all is right, where nothing refuses the call.
-fn tested(
-    v: usize,
-    e: usize,
-    edges: &[i64],
-    virtuals: &[i64],
-    defects: &[i64],
-    duals: &[i64],
-    growths: &[i64],
-    distances: &[i64],
-) -> bool
-    requires { (v ≤ 1024) × (e ≤ 4096) × (length defects.now ≤ 1024) × (length distances.now ≡ length defects.now * v) }
-    ensures { result ≡ tested v e edges.now virtuals.now defects.now duals.now
-        growths.now (λ i. distance_in (row_of v distances.now i)) }
+fn tested(table: &Table, distances: &[i64]) -> bool
+    requires { (table.now.v ≤ 1024) × (table.now.e ≤ 4096) × (length table.now.defects.now ≤ 1024) × (length distances.now ≡ length table.now.defects.now * table.now.v) }
+    ensures { result ≡ tested table.now.v table.now.e table.now.edges.now table.now.virtuals.now table.now.defects.now table.now.duals.now
+        table.now.growths.now (λ i. distance_in (row_of table.now.v distances.now i)) }
 {
-    if positive(e, edges) & reach::in_reach(v, e, edges, virtuals) {
-        rows_right(v, e, edges, virtuals, defects, duals, growths, distances)
+    if positive(table.e, table.edges)
+        & reach::in_reach(table.v, table.e, table.edges, table.virtuals)
+    {
+        rows_right(table, distances)
     } else {
         false
     }
@@ -92,11 +66,20 @@ pub fn check_table(
     ensures { result ≡ table_verdict v e edges.now virtuals.now defects.now duals.now
         growths.now distances.now }
 {
-    let k = refuse::refusal(v, e, edges, virtuals, defects, duals, growths, distances);
+    let table = Table {
+        v,
+        e,
+        edges,
+        virtuals,
+        defects,
+        duals,
+        growths,
+    };
+    let k = refuse::refusal(&table, distances);
     if k != 0 {
         return Verdict::Refused(k);
     }
-    if tested(v, e, edges, virtuals, defects, duals, growths, distances) {
+    if tested(&table, distances) {
         Verdict::Yes
     } else {
         Verdict::No

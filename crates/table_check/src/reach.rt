@@ -5,16 +5,15 @@ ghost use Rattle.graph.specs.Basic.{all_below};
 ghost use Rattle.table_words.specs.Sides.{marked};
 ghost use Rattle.table_check.specs.Tests.{spreads_at, spread_side, spread_sides, spread_new, spread_until, virtual_marks, all_marked};
 
+use graph::words::to_nat;
 use table_words::{marks, words};
 
 // Every virtual vertex gets a mark.
 fn mark_virtuals(m: &mut [usize], virtuals: &[i64])
     ensures { m.new ≡ virtual_marks virtuals.now m.old }
 {
-    let mut k = 0;
-    while k < virtuals.len() {
-        marks::mark_if(m, words::number(virtuals, k), true);
-        k += 1;
+    for x in virtuals {
+        marks::mark_if(m, to_nat(*x), true);
     }
 }
 
@@ -43,13 +42,9 @@ fn spread_once(m: &mut [usize], e: usize, edges: &[i64]) -> bool
         × (m.new ≡ spread_sides edges.now m.old (2 * e)) }
 {
     let mut t = false;
-    let mut s = 0;
-    while s < 2 * e {
+    for s in 0..2 * e {
         if spread_side(m, edges, s) {
             t = true;
-            s += 1;
-        } else {
-            s += 1;
         }
     }
     t
@@ -60,11 +55,8 @@ fn spread(m: &mut [usize], v: usize, e: usize, edges: &[i64])
     requires { e ≤ 4096 }
     ensures { m.new ≡ spread_until e edges.now v m.old }
 {
-    let mut n = 0;
-    while n < v {
-        if spread_once(m, e, edges) {
-            n += 1;
-        } else {
+    for _ in 0..v {
+        if !spread_once(m, e, edges) {
             return;
         }
     }
@@ -74,15 +66,7 @@ fn spread(m: &mut [usize], v: usize, e: usize, edges: &[i64])
 fn each_marked(m: &[usize], v: usize) -> bool
     ensures { result ≡ all_below (marked m.now) v }
 {
-    let mut u = 0;
-    while u < v {
-        if marks::marked(m, u) {
-            u += 1;
-        } else {
-            return false;
-        }
-    }
-    true
+    (0..v).all(|u| marks::marked(m, u))
 }
 
 // Marks spread from the virtual vertices; whether every vertex has one in the end.

@@ -7,6 +7,7 @@ ghost use Rattle.table_check.specs.Streamed.{begun, advanced, ended};
 use crate::{Verdict, check, reach};
 use table_refuse::refuse;
 use table_rows::rows;
+use table_words::table::Table;
 use table_words::words;
 
 // What is known after some rows; the vertices that a defect covers are marked in a list.
@@ -17,50 +18,31 @@ pub struct Known {
 }
 
 // Before the first row.
-pub fn begin(
-    v: usize,
-    e: usize,
-    edges: &[i64],
-    virtuals: &[i64],
-    defects: &[i64],
-    duals: &[i64],
-    growths: &[i64],
-) -> Known
-    requires { sizes_right v e edges.now ≡ true }
-    ensures { (result.in_range ≡ (begun v e edges.now virtuals.now defects.now duals.now
-        growths.now).in_range)
-        × (result.passed ≡ (begun v e edges.now virtuals.now defects.now duals.now
-        growths.now).passed) }
+pub fn begin(table: &Table) -> Known
+    requires { sizes_right table.now.v table.now.e table.now.edges.now ≡ true }
+    ensures { (result.in_range ≡ (begun table.now.v table.now.e table.now.edges.now table.now.virtuals.now table.now.defects.now table.now.duals.now
+        table.now.growths.now).in_range)
+        × (result.passed ≡ (begun table.now.v table.now.e table.now.edges.now table.now.virtuals.now table.now.defects.now table.now.duals.now
+        table.now.growths.now).passed) }
 {
     Known {
-        in_range: refuse::head_in_range(v, e, edges, virtuals, defects, duals, growths),
-        passed: check::positive(e, edges) & reach::in_reach(v, e, edges, virtuals),
+        in_range: refuse::head_in_range(table),
+        passed: check::positive(table.e, table.edges)
+            & reach::in_reach(table.v, table.e, table.edges, table.virtuals),
     }
 }
 
 // After the row of defect i too.
-pub fn next(
-    k: Known,
-    m: &mut [usize],
-    v: usize,
-    e: usize,
-    edges: &[i64],
-    virtuals: &[i64],
-    defects: &[i64],
-    duals: &[i64],
-    growths: &[i64],
-    row: &[i64],
-    i: usize,
-) -> Known
-    requires { e ≤ 4096 }
+pub fn next(k: Known, m: &mut [usize], table: &Table, row: &[i64], i: usize) -> Known
+    requires { table.now.e ≤ 4096 }
     ensures { record { in_range = result.in_range; passed = result.passed; marks = m.new }
-        ≡ advanced v e edges.now virtuals.now defects.now duals.now growths.now
+        ≡ advanced table.now.v table.now.e table.now.edges.now table.now.virtuals.now table.now.defects.now table.now.duals.now table.now.growths.now
         (record { in_range = k.in_range; passed = k.passed; marks = m.old }) row.now i }
 {
-    rows::cover(m, v, row, words::number(duals, i));
+    rows::cover(m, table.v, row, words::number(table.duals, i));
     Known {
         in_range: k.in_range & refuse::distances_in_range(row),
-        passed: k.passed & rows::row_right(v, e, edges, virtuals, defects, duals, growths, row, i),
+        passed: k.passed & rows::row_right(table, row, i),
     }
 }
 

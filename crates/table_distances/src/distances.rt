@@ -24,15 +24,7 @@ fn relaxed(e: usize, edges: &[i64], row: &[i64]) -> bool
     requires { e ≤ 4096 }
     ensures { result ≡ all_below (relaxed_at edges.now (distance_in row.now)) (2 * e) }
 {
-    let mut s = 0;
-    while s < 2 * e {
-        if relaxed_at(edges, row, s) {
-            s += 1;
-        } else {
-            return false;
-        }
-    }
-    true
+    (0..2 * e).all(|s| relaxed_at(edges, row, s))
 }
 
 // Whether the vertex across precedes that of side s.
@@ -51,11 +43,9 @@ fn mark_preceded(m: &mut [usize], e: usize, edges: &[i64], row: &[i64])
     ensures { m.new ≡ marks_by (precedes_at edges.now (distance_in row.now)) (near_in edges.now)
         m.old (2 * e) }
 {
-    let mut s = 0;
-    while s < 2 * e {
+    for s in 0..2 * e {
         let t = precedes_at(edges, row, s);
         marks::mark_if(m, words::near(edges, s), t);
-        s += 1;
     }
 }
 
@@ -70,15 +60,7 @@ fn settled_at(m: &[usize], row: &[i64], a: usize, u: usize) -> bool
 fn settled(m: &[usize], v: usize, row: &[i64], a: usize) -> bool
     ensures { result ≡ all_below (settled_at m.now (distance_in row.now) a) v }
 {
-    let mut u = 0;
-    while u < v {
-        if settled_at(m, row, a, u) {
-            u += 1;
-        } else {
-            return false;
-        }
-    }
-    true
+    (0..v).all(|u| settled_at(m, row, a, u))
 }
 
 // Whether the row has the certificate for the defect at vertex a.

@@ -1,5 +1,5 @@
--- A table in a file (docs/TABLE-FILE.md): its sizes, how many words it has, and its verdict as a number.
-use Rattle.std.specs.Prelude.{ℕ, ◌+◌, ◌*◌, Bool, ◌&&◌, leb}
+-- A table in a file (docs/TABLE-FILE.md): its sizes, how many words it has, and the text of its verdict.
+use Rattle.std.specs.Prelude.{ℕ, ◌+◌, ◌*◌, Bool, ◌&&◌, List, [], ◌∷◌, leb, ◌==◌, if◌then◌else◌}
 use Rattle.table_check.specs.declared.Verdict.{Verdict}
 use Rattle.table_check.specs.declared.Verdict.TheVariants.{Yes, No, Refused}
 
@@ -11,10 +11,10 @@ file_sizes v e k n = leb 1 v && (leb v 1024 && (leb 1 e && (leb e 4096 && (leb k
 unfoldable pub file_words : (v e k n : ℕ) → ℕ
 file_words v e k n = 4 + 5 * e + k + 2 * n + n * v
 
--- ---- what a table gets, as a number
+-- ---- what a table gets, as text
 
--- 0 yes, 1 no, 4 refused: where sizes and lengths fit, by no other number
-unfoldable pub verdict_number : Verdict → ℕ
-verdict_number Yes = 0
-verdict_number No = 1
-verdict_number (Refused k) = 4
+-- "yes", "no", "refused 4" or "refused 1": by no other number
+unfoldable pub verdict_text : Verdict → List ℕ
+verdict_text Yes = 121 ∷ 101 ∷ 115 ∷ []
+verdict_text No = 110 ∷ 111 ∷ []
+verdict_text (Refused k) = 114 ∷ 101 ∷ 102 ∷ 117 ∷ 115 ∷ 101 ∷ 100 ∷ 32 ∷ (if k == 4 then 52 else 49) ∷ []

@@ -1,2 +1,2 @@
--- The sizes of a table in a file, and its verdict as a number.
+-- The sizes of a table in a file, and the text of its verdict.
 pub mod File

@@ -1,9 +1,9 @@
 #![tactic(auto)]
 
-// A table in a file: its sizes, how many words it has, and its verdict as a number. docs/TABLE-FILE.md has the form of a file.
+// A table in a file: its sizes, how many words it has, and the text of its verdict. docs/TABLE-FILE.md has the form of a file.
 
 ghost use Rattle.std.specs.Prelude.{◌≡◌, ◌≤◌};
-ghost use Rattle.table_file.specs.File.{file_sizes, file_words, verdict_number};
+ghost use Rattle.table_file.specs.File.{file_sizes, file_words, verdict_text};
 
 use table_check::Verdict;
 
@@ -22,13 +22,14 @@ pub fn words_of(v: usize, e: usize, k: usize, n: usize) -> usize
     4 + 5 * e + k + 2 * n + n * v
 }
 
-// The number of a verdict.
-pub fn number(a: Verdict) -> usize
-    ensures { result ≡ verdict_number a }
+// The text of a verdict.
+pub fn text(a: Verdict) -> &'static str
+    ensures { result.now ≡ verdict_text a }
 {
     match a {
-        Verdict::Yes => 0,
-        Verdict::No => 1,
-        Verdict::Refused(k) => 4,
+        Verdict::Yes => "yes",
+        Verdict::No => "no",
+        Verdict::Refused(4) => "refused 4",
+        Verdict::Refused(_) => "refused 1",
     }
 }

@@ -7,6 +7,7 @@ ghost use Rattle.table_refuse.specs.Refuse.{head_in_range, sizes_right, lengths_
 
 use graph::{sizes, words as blockwords};
 use open_graph::given;
+use table_words::table::Table;
 use table_words::words;
 
 // Whether V, E and the number of edges are in range.
@@ -17,28 +18,22 @@ pub fn sizes_right(v: usize, e: usize, edges: &[i64]) -> bool
 }
 
 // Whether there are a dual variable for each defect, two growths for each edge, and v distances for each defect.
-fn lengths_right(
-    v: usize,
-    e: usize,
-    defects: &[i64],
-    duals: &[i64],
-    growths: &[i64],
-    distances: &[i64],
-) -> bool
-    requires { (1 ≤ v) × (e ≤ 4096) }
-    ensures { result ≡ lengths_right v e defects.now duals.now growths.now distances.now }
+fn lengths_right(table: &Table, distances: &[i64]) -> bool
+    requires { (1 ≤ table.now.v) × (table.now.e ≤ 4096) }
+    ensures { result ≡ lengths_right table.now.v table.now.e table.now.defects.now table.now.duals.now table.now.growths.now distances.now }
 {
-    (duals.len() == defects.len())
-        & ((growths.len() == 2 * e)
-            & ((distances.len() / v == defects.len()) & (distances.len() % v == 0)))
+    let count = table.defects.len();
+    (table.duals.len() == count)
+        & ((table.growths.len() == 2 * table.e)
+            & ((distances.len() / table.v == count) & (distances.len() % table.v == 0)))
 }
 
 // Whether the graph is in range.
-fn graph_in_range(v: usize, e: usize, edges: &[i64], virtuals: &[i64]) -> bool
-    requires { sizes_right v e edges.now ≡ true }
-    ensures { result ≡ graph_in_range v edges.now virtuals.now }
+fn graph_in_range(table: &Table) -> bool
+    requires { sizes_right table.now.v table.now.e table.now.edges.now ≡ true }
+    ensures { result ≡ graph_in_range table.now.v table.now.edges.now table.now.virtuals.now }
 {
-    given::edges_ok(v, e, edges) & given::virtuals_ok(v, virtuals)
+    given::edges_ok(table.v, table.e, table.edges) & given::virtuals_ok(table.v, table.virtuals)
 }
 
 // Whether no defect is listed twice: each that was met is marked.
@@ -47,15 +42,12 @@ fn all_distinct(defects: &[i64]) -> bool
     ensures { result ≡ distinct (map to_nat defects.now) }
 {
     let mut marks = [0usize; 1024];
-    let mut i = 0;
-    while i < defects.len() {
-        let a = blockwords::word(defects, i);
+    for x in defects {
+        let a = blockwords::to_nat(*x);
         if marks[a] == 1 {
             return false;
-        } else {
-            marks[a] = 1;
-            i += 1;
         }
+        marks[a] = 1;
     }
     true
 }
@@ -76,90 +68,48 @@ fn defects_in_range(v: usize, defects: &[i64]) -> bool
 fn at_most(list: &[i64], limit: usize) -> bool
     ensures { result ≡ all (λ x. leb x limit) (map to_nat list.now) }
 {
-    let mut i = 0;
-    while i < list.len() {
-        if blockwords::word(list, i) <= limit {
-            i += 1;
-        } else {
-            return false;
-        }
-    }
-    true
+    list.iter().all(|x| blockwords::to_nat(*x) <= limit)
 }
 
 // Whether every word gives a distance.
 pub fn distances_in_range(list: &[i64]) -> bool
     ensures { result ≡ distances_in_range list.now }
 {
-    let mut i = 0;
-    while i < list.len() {
-        if words::distance_in(list, i) <= 2000000000000 {
-            i += 1;
-        } else {
-            return false;
-        }
-    }
-    true
+    list.iter().all(|x| words::distance(*x) <= 2000000000000)
 }
 
 // Whether all but the distances is in range.
-pub fn head_in_range(
-    v: usize,
-    e: usize,
-    edges: &[i64],
-    virtuals: &[i64],
-    defects: &[i64],
-    duals: &[i64],
-    growths: &[i64],
-) -> bool
-    requires { sizes_right v e edges.now ≡ true }
-    ensures { result ≡ head_in_range v edges.now virtuals.now defects.now duals.now
-        growths.now }
+pub fn head_in_range(table: &Table) -> bool
+    requires { sizes_right table.now.v table.now.e table.now.edges.now ≡ true }
+    ensures { result ≡ head_in_range table.now.v table.now.edges.now table.now.virtuals.now table.now.defects.now table.now.duals.now
+        table.now.growths.now }
 {
-    graph_in_range(v, e, edges, virtuals)
-        & (defects_in_range(v, defects)
-            & (at_most(duals, 1000000000) & at_most(growths, 1100000000000)))
+    graph_in_range(table)
+        & (defects_in_range(table.v, table.defects)
+            & (at_most(table.duals, 1000000000) & at_most(table.growths, 1100000000000)))
 }
 
 // Whether every number is in range.
-fn numbers_right(
-    v: usize,
-    e: usize,
-    edges: &[i64],
-    virtuals: &[i64],
-    defects: &[i64],
-    duals: &[i64],
-    growths: &[i64],
-    distances: &[i64],
-) -> bool
-    requires { sizes_right v e edges.now ≡ true }
-    ensures { result ≡ numbers_right v edges.now virtuals.now defects.now duals.now
-        growths.now distances.now }
+fn numbers_right(table: &Table, distances: &[i64]) -> bool
+    requires { sizes_right table.now.v table.now.e table.now.edges.now ≡ true }
+    ensures { result ≡ numbers_right table.now.v table.now.edges.now table.now.virtuals.now table.now.defects.now table.now.duals.now
+        table.now.growths.now distances.now }
 {
-    head_in_range(v, e, edges, virtuals, defects, duals, growths) & distances_in_range(distances)
+    head_in_range(table) & distances_in_range(distances)
 }
 
 // The number of the refusal, 0 where there is none.
-pub fn refusal(
-    v: usize,
-    e: usize,
-    edges: &[i64],
-    virtuals: &[i64],
-    defects: &[i64],
-    duals: &[i64],
-    growths: &[i64],
-    distances: &[i64],
-) -> usize
-    ensures { result ≡ table_refusal v e edges.now virtuals.now defects.now duals.now
-        growths.now distances.now }
+pub fn refusal(table: &Table, distances: &[i64]) -> usize
+    ensures { result ≡ table_refusal table.now.v table.now.e table.now.edges.now table.now.virtuals.now table.now.defects.now table.now.duals.now
+        table.now.growths.now distances.now }
 {
-    if !sizes_right(v, e, edges) {
+    if !sizes_right(table.v, table.e, table.edges) {
         return 4;
     }
-    if !lengths_right(v, e, defects, duals, growths, distances) {
+    if !lengths_right(table, distances) {
         return 1;
     }
-    if !numbers_right(v, e, edges, virtuals, defects, duals, growths, distances) {
+    if !numbers_right(table, distances) {
         return 4;
     }
     0

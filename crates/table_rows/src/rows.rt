@@ -9,6 +9,7 @@ ghost use Rattle.table_rows.specs.Row.{defect_pair_at, virtual_pair_at, side_at,
 ghost use Rattle.graph.specs.Word.{word_limit};
 
 use table_distances::distances;
+use table_words::table::Table;
 use table_words::{marks, words};
 
 // Whether the dual variables of defects i and j sum to at most their distance.
@@ -25,15 +26,7 @@ fn pairs(defects: &[i64], duals: &[i64], row: &[i64], i: usize) -> bool
         ≡ all_below (defect_pair_at defects.now duals.now (distance_in row.now) i)
         (length defects.now) }
 {
-    let mut j = 0;
-    while j < defects.len() {
-        if pair_at(defects, duals, row, i, j) {
-            j += 1;
-        } else {
-            return false;
-        }
-    }
-    true
+    (0..defects.len()).all(|j| pair_at(defects, duals, row, i, j))
 }
 
 // Whether y is at most the distance to the virtual vertex at place k.
@@ -47,22 +40,7 @@ fn virtual_at(virtuals: &[i64], row: &[i64], y: usize, k: usize) -> bool
 fn far(virtuals: &[i64], row: &[i64], y: usize) -> bool
     ensures { result ≡ all_below (virtual_pair_at virtuals.now (distance_in row.now) y) (length virtuals.now) }
 {
-    let mut k = 0;
-    while k < virtuals.len() {
-        if virtual_at(virtuals, row, y, k) {
-            k += 1;
-        } else {
-            return false;
-        }
-    }
-    true
-}
-
-// The lesser number.
-fn lesser(x: usize, y: usize) -> usize
-    ensures { result ≡ Prim.Native.Nat.min x y }
-{
-    if x <= y { x } else { y }
+    (0..virtuals.len()).all(|k| virtual_at(virtuals, row, y, k))
 }
 
 // What a defect of dual variable y gives a side.
@@ -71,7 +49,7 @@ fn share(y: usize, n: usize, f: usize, w: usize) -> usize
     ensures { result ≡ share y n f w }
 {
     if f == n + w {
-        lesser(y - n, w)
+        (y - n).min(w)
     } else {
         if n == f + w { 0 } else { y - n }
     }
@@ -95,48 +73,33 @@ fn shares(e: usize, edges: &[i64], growths: &[i64], row: &[i64], y: usize) -> bo
     requires { (e ≤ 4096) × (y < word_limit) }
     ensures { result ≡ all_below (side_at edges.now growths.now (distance_in row.now) y) (2 * e) }
 {
-    let mut s = 0;
-    while s < 2 * e {
-        if side_at(edges, growths, row, y, s) {
-            s += 1;
-        } else {
-            return false;
-        }
-    }
-    true
+    (0..2 * e).all(|s| side_at(edges, growths, row, y, s))
 }
 
 // Whether the row of defect i is right.
-pub fn row_right(
-    v: usize,
-    e: usize,
-    edges: &[i64],
-    virtuals: &[i64],
-    defects: &[i64],
-    duals: &[i64],
-    growths: &[i64],
-    row: &[i64],
-    i: usize,
-) -> bool
-    requires { e ≤ 4096 }
-    ensures { result ≡ row_right v e edges.now virtuals.now defects.now duals.now
-        growths.now (distance_in row.now) i }
+pub fn row_right(table: &Table, row: &[i64], i: usize) -> bool
+    requires { table.now.e ≤ 4096 }
+    ensures { result ≡ row_right table.now.v table.now.e table.now.edges.now table.now.virtuals.now table.now.defects.now table.now.duals.now
+        table.now.growths.now (distance_in row.now) i }
 {
-    let y = words::number(duals, i);
-    distances::certified(v, e, edges, words::number(defects, i), row)
-        & (pairs(defects, duals, row, i)
-            & (far(virtuals, row, y) & shares(e, edges, growths, row, y)))
+    let y = words::number(table.duals, i);
+    distances::certified(
+        table.v,
+        table.e,
+        table.edges,
+        words::number(table.defects, i),
+        row,
+    ) & (pairs(table.defects, table.duals, row, i)
+        & (far(table.virtuals, row, y) & shares(table.e, table.edges, table.growths, row, y)))
 }
 
 // The vertices that the defect covers get marks.
 pub fn cover(m: &mut [usize], v: usize, row: &[i64], y: usize)
     ensures { m.new ≡ cover_marks v (distance_in row.now) y m.old }
 {
-    let mut u = 0;
-    while u < v {
+    for u in 0..v {
         let t = words::distance_in(row, u) < y;
         marks::mark_if(m, u, t);
-        u += 1;
     }
 }
 
@@ -153,13 +116,5 @@ pub fn free(e: usize, edges: &[i64], growths: &[i64], m: &[usize]) -> bool
     requires { e ≤ 4096 }
     ensures { result ≡ all_below (free_at edges.now growths.now m.now) (2 * e) }
 {
-    let mut s = 0;
-    while s < 2 * e {
-        if free_at(edges, growths, m, s) {
-            s += 1;
-        } else {
-            return false;
-        }
-    }
-    true
+    (0..2 * e).all(|s| free_at(edges, growths, m, s))
 }

@@ -3,7 +3,7 @@
 // The program: tables from other decoders, one after another from standard input, and for each a line with its verdict. The rows of distances
 // are read one at a time. docs/TABLE-FILE.md has the form of a file.
 
-ghost use Rattle.std.specs.Prelude.{◌≡◌, ◌≢◌, true, ◌+◌, ◌*◌, ◌≤◌, ◌<◌, min, length, replicate, IfOk, OnErr};
+ghost use Rattle.std.specs.Prelude.{◌≡◌, true, ◌*◌, ◌≤◌, ◌<◌, length, replicate, IfOk, IfSome, OnErr};
 ghost use Rattle.table_refuse.specs.Refuse.{sizes_right};
 ghost use Rattle.tablecheck.specs.File.{RowsRead, RowsBegun};
 ghost use Rattle.graph.specs.Word.{word_limit};
@@ -11,266 +11,118 @@ ghost use Rattle.graph.specs.Word.{word_limit};
 use graph::words;
 use std::io;
 use std::io::Read;
-use table_check::stream;
+use table_check::{Verdict, stream};
 use table_refuse::refuse;
-
-// ---- words
-
-// A byte as a number.
-fn wide(x: u8) -> usize
-    ensures { (result ≡ x) × (result ≤ 255) }
-{
-    x as usize
-}
-
-// 4 bytes from place i, little-endian.
-fn four(b: &[u8], i: usize) -> usize
-    requires { i + 3 < length b.now }
-    ensures { result ≤ 4294967295 }
-{
-    wide(b[i]) + 256 * wide(b[i + 1]) + 65536 * wide(b[i + 2]) + 16777216 * wide(b[i + 3])
-}
-
-// A number of 64 bits with its sign.
-fn signed(x: usize) -> i64 {
-    if x < 9223372036854775808 {
-        x as i64
-    } else {
-        -1 - (18446744073709551615 - x) as i64
-    }
-}
-
-// The word of 8 bytes at place i.
-fn word(b: &[u8], i: usize) -> i64
-    requires { i + 7 < length b.now }
-{
-    signed(four(b, i) + 4294967296 * four(b, i + 4))
-}
-
-// Words of bytes.
-fn decode(bytes: &[u8], list: &mut [i64])
-    requires { 8 * length list.old ≤ length bytes.now }
-{
-    let mut i = 0;
-    while i < list.len() {
-        list[i] = word(bytes, 8 * i);
-        i += 1;
-    }
-}
+use table_words::table::Table;
 
 // ---- reading
 
-// Bytes are read until the buffer is full or the input ends; how many.
-fn read_full(input: &mut impl Read, buffer: &mut [u8]) -> io::Result<usize>
-    ensures { IfOk result (λ n. n ≤ length buffer.old) }
+// Words of bytes, little-endian.
+fn decode(bytes: &[u8], list: &mut [i64])
+    requires { 8 * length list.old ≤ length bytes.now }
 {
-    let mut done = 0;
-    while done < buffer.len() {
-        let n = input.read(&mut buffer[done..])?;
-        if n == 0 {
-            break;
-        }
-        done += n;
+    for (word, part) in list.iter_mut().zip(bytes.as_chunks::<8>().0) {
+        *word = i64::from_le_bytes(*part);
     }
-    Ok(done)
 }
 
-// At most 1,024 words are read; whether all of them were there.
-fn read_some(input: &mut impl Read, bytes: &mut [u8], list: &mut [i64]) -> io::Result<bool>
-    requires { (length bytes.old ≡ 8192) × (length list.old ≤ 1024) }
-{
-    let n = 8 * list.len();
-    if read_full(input, &mut bytes[0..n])? < n {
-        return Ok(false);
-    }
-    decode(&bytes[0..n], list);
-    Ok(true)
+// An input of words, which are read through a buffer of 1,024.
+#[derive(Drop)]
+struct WordReader<R> {
+    input: R,
+    bytes: [u8; 8192],
 }
 
-// The lesser number.
-fn lesser(x: usize, y: usize) -> usize
-    ensures { result ≡ min x y }
-{
-    if x <= y { x } else { y }
-}
-
-// All words of the list are read; whether they were there.
-fn read_list(input: &mut impl Read, bytes: &mut [u8], list: &mut [i64]) -> io::Result<bool>
-    requires { length bytes.old ≡ 8192 }
-{
-    let mut at = 0;
-    while at < list.len() {
-        let n = lesser(list.len() - at, 1024);
-        if read_some(input, bytes, &mut list[at..at + n])? {
-            at += n;
-        } else {
+impl<R: Read> WordReader<R> {
+    // At most 1,024 words are read; whether all of them were there.
+    fn read_some(&mut self, list: &mut [i64]) -> io::Result<bool>
+        requires { length list.old ≤ 1024 }
+    {
+        let n = 8 * list.len();
+        if input::read_full(&mut self.input, &mut self.bytes[0..n])? < n {
             return Ok(false);
         }
+        decode(&self.bytes[0..n], list);
+        Ok(true)
     }
-    Ok(true)
-}
 
-// So many words are read and passed over; whether they were there.
-fn pass_over(input: &mut impl Read, bytes: &mut [u8], count: usize) -> io::Result<bool>
-    requires { length bytes.old ≡ 8192 }
-{
-    let mut left = count;
-    while 0 < left {
-        let n = lesser(left, 1024);
-        if read_full(input, &mut bytes[0..8 * n])? < 8 * n {
-            return Ok(false);
+    // All words of the list are read; whether they were there.
+    fn read_list(&mut self, list: &mut [i64]) -> io::Result<bool> {
+        for part in list.chunks_mut(1024) {
+            if !self.read_some(part)? {
+                return Ok(false);
+            }
         }
-        left -= n;
+        Ok(true)
     }
-    Ok(true)
+
+    // So many words are read and passed over; whether they were there.
+    fn pass_over(&mut self, count: usize) -> io::Result<bool> {
+        let mut left = count;
+        while 0 < left {
+            let n = left.min(1024);
+            if input::read_full(&mut self.input, &mut self.bytes[0..8 * n])? < 8 * n {
+                return Ok(false);
+            }
+            left -= n;
+        }
+        Ok(true)
+    }
 }
 
 // ---- one table
-
-// What a table gets is a number: 0 yes, 1 no, 4 refused 4, 2 refused 1; 3 refused 1 where input ends inside it; 5 where there is no table.
+// None stands for a table inside which the input ends.
 
 // The rows, one at a time, and the verdict behind the last. Where one can't be read, the marks are those of the rows before it.
-fn rows(
-    input: &mut impl Read,
-    bytes: &mut [u8],
+fn rows<R: Read>(
+    input: &mut WordReader<R>,
     m: &mut [usize],
-    v: usize,
-    e: usize,
-    edges: &[i64],
-    virtuals: &[i64],
-    defects: &[i64],
-    duals: &[i64],
-    growths: &[i64],
+    table: &Table,
     row: &mut [i64],
-) -> io::Result<usize>
-    requires { (length bytes.old ≡ 8192) × (v ≤ 1024) × (e ≤ 4096) × (length row.old ≡ v) × (length defects.now ≤ 1024)
-        × (length duals.now ≡ length defects.now) × (length growths.now ≡ 2 * e)
-        × (sizes_right v e edges.now ≡ true) × (m.old ≡ replicate 1024 0) }
-    ensures told { IfOk result (λ x. x ≢ 3 → RowsRead v e edges.now virtuals.now defects.now duals.now
-        growths.now x) }
-    ensures lost { OnErr result (RowsBegun v e edges.now virtuals.now defects.now duals.now growths.now m.new) }
+) -> io::Result<Option<Verdict>>
+    requires { (table.now.v ≤ 1024) × (table.now.e ≤ 4096) × (length row.old ≡ table.now.v) × (length table.now.defects.now ≤ 1024)
+        × (length table.now.duals.now ≡ length table.now.defects.now) × (length table.now.growths.now ≡ 2 * table.now.e)
+        × (sizes_right table.now.v table.now.e table.now.edges.now ≡ true) × (m.old ≡ replicate 1024 0) }
+    ensures told { IfOk result (λ x. IfSome x (RowsRead table.now.v table.now.e table.now.edges.now table.now.virtuals.now
+        table.now.defects.now table.now.duals.now table.now.growths.now)) }
+    ensures lost { OnErr result (RowsBegun table.now.v table.now.e table.now.edges.now table.now.virtuals.now table.now.defects.now
+        table.now.duals.now table.now.growths.now m.new) }
 {
-    let mut k = stream::begin(v, e, edges, virtuals, defects, duals, growths);
-    let mut i = 0;
-    while i < defects.len() {
-        if read_some(input, bytes, row)? {
-            k = stream::next(k, m, v, e, edges, virtuals, defects, duals, growths, row, i);
-            i += 1;
-        } else {
-            return Ok(3);
+    let mut k = stream::begin(table);
+    for i in 0..table.defects.len() {
+        if !input.read_some(row)? {
+            return Ok(None);
         }
+        k = stream::next(k, m, table, row, i);
     }
-    Ok(table_file::number(stream::end(k, m, e, edges, growths)))
-}
-
-// Two lists are read; whether they were there.
-fn read_two(
-    input: &mut impl Read,
-    bytes: &mut [u8],
-    first: &mut [i64],
-    second: &mut [i64],
-) -> io::Result<bool>
-    requires { length bytes.old ≡ 8192 }
-{
-    if read_list(input, bytes, first)? {
-        read_list(input, bytes, second)
-    } else {
-        Ok(false)
-    }
-}
-
-// All lists but the rows are read; whether they were there.
-fn read_lists(
-    input: &mut impl Read,
-    bytes: &mut [u8],
-    edges: &mut [i64],
-    virtuals: &mut [i64],
-    defects: &mut [i64],
-    duals: &mut [i64],
-    growths: &mut [i64],
-) -> io::Result<bool>
-    requires { length bytes.old ≡ 8192 }
-{
-    if !read_two(input, bytes, edges, virtuals)? {
-        return Ok(false);
-    }
-    if !read_two(input, bytes, defects, duals)? {
-        return Ok(false);
-    }
-    read_list(input, bytes, growths)
+    Ok(Some(stream::end(k, m, table.e, table.edges, table.growths)))
 }
 
 // The rows of a table whose other lists are read.
-fn checked(
-    input: &mut impl Read,
-    bytes: &mut [u8],
-    v: usize,
-    e: usize,
-    edges: &[i64],
-    virtuals: &[i64],
-    defects: &[i64],
-    duals: &[i64],
-    growths: &[i64],
+fn checked<R: Read>(
+    input: &mut WordReader<R>,
+    table: &Table,
     row: &mut [i64],
-) -> io::Result<usize>
-    requires { (length bytes.old ≡ 8192) × (v ≤ 1024) × (e ≤ 4096) × (length row.old ≡ v) × (length defects.now ≤ 1024)
-        × (length duals.now ≡ length defects.now) × (length growths.now ≡ 2 * e) }
+) -> io::Result<Option<Verdict>>
+    requires { (table.now.v ≤ 1024) × (table.now.e ≤ 4096) × (length row.old ≡ table.now.v) × (length table.now.defects.now ≤ 1024)
+        × (length table.now.duals.now ≡ length table.now.defects.now) × (length table.now.growths.now ≡ 2 * table.now.e) }
 {
-    if !refuse::sizes_right(v, e, edges) {
-        return Ok(4);
+    if !refuse::sizes_right(table.v, table.e, table.edges) {
+        return Ok(Some(Verdict::Refused(4)));
     }
     let mut m = [0usize; 1024];
-    rows(
-        input, bytes, &mut m, v, e, edges, virtuals, defects, duals, growths, row,
-    )
+    rows(input, &mut m, table, row)
 }
 
-// A table whose four sizes fit: its lists are read, then its rows.
-fn lists(
-    input: &mut impl Read,
-    bytes: &mut [u8],
-    v: usize,
-    e: usize,
-    edges: &mut [i64],
-    virtuals: &mut [i64],
-    defects: &mut [i64],
-    duals: &mut [i64],
-    growths: &mut [i64],
-    row: &mut [i64],
-) -> io::Result<usize>
-    requires { (length bytes.old ≡ 8192) × (v ≤ 1024) × (e ≤ 4096) × (length row.old ≡ v) × (length defects.old ≤ 1024)
-        × (length duals.old ≡ length defects.old) × (length growths.old ≡ 2 * e) }
-{
-    if read_lists(input, bytes, edges, virtuals, defects, duals, growths)? {
-        checked(
-            input, bytes, v, e, edges, virtuals, defects, duals, growths, row,
-        )
-    } else {
-        Ok(3)
-    }
-}
-
-// A table that is not read on: its other words are passed over.
-fn refused(input: &mut impl Read, bytes: &mut [u8], left: usize, x: usize) -> io::Result<usize>
-    requires { length bytes.old ≡ 8192 }
-{
-    if pass_over(input, bytes, left)? {
-        Ok(x)
-    } else {
-        Ok(3)
-    }
-}
-
-// A table of these sizes, in lists of its own.
-fn sized(
-    input: &mut impl Read,
-    bytes: &mut [u8],
+// A table of these sizes, in lists of its own: they are read, then its rows.
+fn sized<R: Read>(
+    input: &mut WordReader<R>,
     v: usize,
     e: usize,
     k: usize,
     n: usize,
-) -> io::Result<usize>
-    requires { (length bytes.old ≡ 8192) × (v ≤ 1024) × (e ≤ 4096) × (k ≤ 1024) × (n ≤ 1024) }
+) -> io::Result<Option<Verdict>>
+    requires { (v ≤ 1024) × (e ≤ 4096) × (k ≤ 1024) × (n ≤ 1024) }
 {
     let mut edges = [0i64; 12288];
     let mut virtuals = [0i64; 1024];
@@ -278,108 +130,125 @@ fn sized(
     let mut duals = [0i64; 1024];
     let mut growths = [0i64; 8192];
     let mut row = [0i64; 1024];
-    lists(
-        input,
-        bytes,
+    let whole = input.read_list(&mut edges[0..3 * e])?
+        && input.read_list(&mut virtuals[0..k])?
+        && input.read_list(&mut defects[0..n])?
+        && input.read_list(&mut duals[0..n])?
+        && input.read_list(&mut growths[0..2 * e])?;
+    if !whole {
+        return Ok(None);
+    }
+    let table = Table {
         v,
         e,
-        &mut edges[0..3 * e],
-        &mut virtuals[0..k],
-        &mut defects[0..n],
-        &mut duals[0..n],
-        &mut growths[0..2 * e],
-        &mut row[0..v],
-    )
+        edges: &edges[0..3 * e],
+        virtuals: &virtuals[0..k],
+        defects: &defects[0..n],
+        duals: &duals[0..n],
+        growths: &growths[0..2 * e],
+    };
+    checked(input, &table, &mut row[0..v])
+}
+
+// A table that is refused by a number: its other words are passed over.
+fn refused<R: Read>(
+    input: &mut WordReader<R>,
+    left: usize,
+    number: usize,
+) -> io::Result<Option<Verdict>> {
+    if input.pass_over(left)? {
+        Ok(Some(Verdict::Refused(number)))
+    } else {
+        Ok(None)
+    }
 }
 
 // A table of these sizes; its other words are passed over where they are not as many as the sizes say.
-fn counted(
-    input: &mut impl Read,
-    bytes: &mut [u8],
+fn counted<R: Read>(
+    input: &mut WordReader<R>,
     left: usize,
     v: usize,
     e: usize,
     k: usize,
     n: usize,
-) -> io::Result<usize>
-    requires { (length bytes.old ≡ 8192) × (left < word_limit) }
+) -> io::Result<Option<Verdict>>
+    requires { left < word_limit }
 {
     if !table_file::sizes_fit(v, e, k, n) {
-        return refused(input, bytes, left, 4);
+        return refused(input, left, 4);
     }
     if 4 + left != table_file::words_of(v, e, k, n) {
-        return refused(input, bytes, left, 2);
+        return refused(input, left, 1);
     }
-    sized(input, bytes, v, e, k, n)
+    sized(input, v, e, k, n)
 }
 
 // A table of `count` words.
-fn table(input: &mut impl Read, bytes: &mut [u8], count: usize) -> io::Result<usize>
-    requires { (length bytes.old ≡ 8192) × (count < word_limit) }
+fn table<R: Read>(input: &mut WordReader<R>, count: usize) -> io::Result<Option<Verdict>>
+    requires { count < word_limit }
 {
     if count < 4 {
-        return refused(input, bytes, count, 2);
+        return refused(input, count, 1);
     }
     let mut head = [0i64; 4];
-    if !read_some(input, bytes, &mut head)? {
-        return Ok(3);
+    if !input.read_some(&mut head)? {
+        return Ok(None);
     }
     let v = words::word(&head, 0);
     let e = words::word(&head, 1);
     let k = words::word(&head, 2);
     let n = words::word(&head, 3);
-    counted(input, bytes, count - 4, v, e, k, n)
+    counted(input, count - 4, v, e, k, n)
+}
+
+// What the input has next.
+enum Step {
+    Table(Verdict),
+    Cut, // a table inside which the input ends
+    End,
 }
 
 // The next table: its count of words, then the words.
-fn next(input: &mut impl Read, bytes: &mut [u8]) -> io::Result<usize>
-    requires { length bytes.old ≡ 8192 }
-{
-    let got = read_full(input, &mut bytes[0..8])?;
+fn next<R: Read>(input: &mut WordReader<R>) -> io::Result<Step> {
+    let got = input::read_full(&mut input.input, &mut input.bytes[0..8])?;
     if got == 0 {
-        return Ok(5);
+        return Ok(Step::End);
     }
     if got < 8 {
-        return Ok(3);
+        return Ok(Step::Cut);
     }
     let mut count = [0i64; 1];
-    decode(&bytes[0..8], &mut count);
-    table(input, bytes, words::word(&count, 0))
+    decode(&input.bytes[0..8], &mut count);
+    match table(input, words::word(&count, 0))? {
+        Some(verdict) => Ok(Step::Table(verdict)),
+        None => Ok(Step::Cut),
+    }
 }
 
 // ---- the lines
 
 // The line of table k.
-fn tell(rt: &impl Print, k: usize, x: usize) -> io::Result<()> {
-    let verdict = match x {
-        0 => "yes",
-        1 => "no",
-        4 => "refused 4",
-        _ => "refused 1",
-    };
-    println!(rt; "{k} {verdict}")
+fn tell(rt: &impl Print, k: usize, verdict: Verdict) -> io::Result<()> {
+    let text = table_file::text(verdict);
+    println!(rt; "{k} {text}")
 }
 
 // All tables. A proved loop has to end, and nothing says that input does: this one stops at a number of tables that no input has.
-fn tables(rt: &impl Print, input: &mut impl Read, bytes: &mut [u8]) -> io::Result<()>
-    requires { length bytes.old ≡ 8192 }
-{
-    let mut k = 1;
-    let mut more = true;
-    while more & (k < 9223372036854775807) {
-        let x = next(input, bytes)?;
-        if x == 5 {
-            return Ok(());
+fn tables<R: Read>(rt: &impl Print, input: &mut WordReader<R>) -> io::Result<()> {
+    for k in 1..9223372036854775807 {
+        match next(input)? {
+            Step::Table(verdict) => tell(rt, k, verdict)?,
+            Step::Cut => return tell(rt, k, Verdict::Refused(1)),
+            Step::End => return Ok(()),
         }
-        tell(rt, k, x)?;
-        more = x != 3;
-        k += 1;
     }
     Ok(())
 }
 
 fn main(rt: HostRuntime) -> io::Result<()> {
-    let mut input = rt.stdin();
-    let mut bytes = [0u8; 8192];
-    tables(&rt, &mut input, &mut bytes)
+    let mut input = WordReader {
+        input: rt.stdin(),
+        bytes: [0u8; 8192],
+    };
+    tables(&rt, &mut input)
 }

@@ -30,7 +30,7 @@ pub fn join(r: Scan, l: Look) -> Scan
         },
         Scan::Within(y) => match l {
             Look::Skip => Scan::Within(y),
-            Look::Room(x) => Scan::Within(lengths::lesser(y, x)),
+            Look::Room(x) => Scan::Within(y.min(x)),
             Look::Meets(a) => Scan::Over(a),
         },
     }

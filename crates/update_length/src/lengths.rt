@@ -1,6 +1,6 @@
 // Lengths. A length z is kept as z + ZERO, so that a negative one needs no sign.
 
-ghost use Rattle.std.specs.Prelude.{◌≡◌, ◌<◌, min};
+ghost use Rattle.std.specs.Prelude.{◌≡◌, ◌<◌};
 ghost use Rattle.update_length.specs.Scan.{half};
 ghost use Rattle.update_length.specs.inner.Length.{length_of, length_end};
 
@@ -17,13 +17,6 @@ pub fn half(x: usize) -> usize
     } else {
         ZERO - (ZERO - x) / 2
     }
-}
-
-// The smaller number.
-pub fn lesser(x: usize, y: usize) -> usize
-    ensures { result ≡ min x y }
-{
-    if x <= y { x } else { y }
 }
 
 // The length as a word.

@@ -26,15 +26,13 @@ fn scan_sides(b: &[i64], boundary: &[i64], n: usize, d: usize, start: Scan) -> S
     ensures { Knows result (fold (scan_step (state_of b.now) n d) (scan_of start) (map to_nat boundary.now)) }
 {
     let mut r = start;
-    let mut i = 0;
-    while i < boundary.len() {
-        let s = words::word(boundary, i);
+    for word in boundary {
+        let s = words::to_nat(*word);
         let l = look::look_side(b, n, d, s);
         r = join::join(r, l);
         if join::is_over(r) {
             return r;
         }
-        i += 1;
     }
     r
 }
@@ -60,7 +58,7 @@ fn shrink_limit(b: &[i64], n: usize) -> usize
         y
     } else {
         let a = lists::overgrown_amount(b, n, 0);
-        lengths::lesser(y, a)
+        y.min(a)
     }
 }
 

@@ -77,11 +77,9 @@ fn peers_at(b: &[i64], v: usize) -> Peers
 {
     let l = sides::sides_len(b, v);
     let mut r = Peers::NoPeer;
-    let mut i = 0;
-    while i < l {
+    for i in 0..l {
         let s = sides::vertex_side(b, v, i);
         r = stop_step(b, r, s);
-        i += 1;
     }
     r
 }

@@ -25,8 +25,5 @@ loop-i-preserved c =
       c.keep-j.auto.b ∙ l.invariant.2,
     )
 
-pub cut-requires : goal.cut-requires
-cut-requires c = let l = c.loop-i in let h = l.invariant.0.half in (l.invariant.0.block.formed, omega (arith, h.size, h.behind, h.within))
-
 pub returns : goal.returns
 returns c = let l = c.loop-i in renewing-all _ _ _ l.i l.j l.invariant.0 (omega (arith, l.invariant.1)) c.cut.ensures

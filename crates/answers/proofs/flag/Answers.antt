@@ -1,11 +1,14 @@
+use Rattle.std.specs.Prelude.{◌≡◌, ◌≤◌, ℕ, Bool, true, false, refl}
 use native.Mathlib.Omega.{arith}
+use mir.Val.{bool_byte}
 use Rattle.answers.specs.Answer.{flag}
 use Rattle.answers.proofs.flag.Goals as goal
 
-pub returns-then-e : goal.returns-then-e
+-- the byte of a test is its flag
+byte-flag : (e : Bool) → (bool_byte e ≡ flag e) × (bool_byte e ≤ 1)
 unfolding flag
-returns-then-e c = (cc, omega arith)
+byte-flag true = (refl, omega arith)
+byte-flag false = (refl, omega arith)
 
-pub returns-else-e : goal.returns-else-e
-unfolding flag
-returns-else-e c = (cc, omega arith)
+pub returns : goal.returns
+returns c = rw c.from.ensures (byte-flag c.args.e)

@@ -1,7 +1,6 @@
 use mir.Facts.{to_z-of_z}
 use Rattle.answers.specs.Numbers.{length_numbers}
 use Rattle.answers.specs.laws.Numbers.{tells_as}
-use borrow.Author.Rules.{rules}
 use Rattle.answers.proofs.free.Goals as goal
 
 pub returns : goal.returns

@@ -1,7 +1,6 @@
 use mathlib.Core.Path.{sym, ap}
 use Rattle.answers.specs.Numbers.{answer_numbers}
 use Rattle.answers.specs.laws.Numbers.{tells_as}
-use borrow.Author.Rules.{rules}
 use Rattle.answers.proofs.tell.Goals as goal
 
 pub returns-in-Length : goal.returns-in-Length

@@ -1,19 +1,8 @@
 use mathlib.Core.Path.{sym, ap, ◌∙◌}
 use mathlib.Core.List.{[], ◌∷◌}
-use mir.Facts.{to_z-of_z}
-use mir.Syntax.{w64}
-use Rattle.answers.specs.declared.MaxUpdateLength.TheVariants.{NonZeroGrow}
 use Rattle.answers.specs.Numbers.{length_numbers}
 use Rattle.answers.specs.laws.Numbers.{tells_as}
-use borrow.Author.Rules.{rules, sfits_of}
 use Rattle.answers.proofs.tell_length.Goals as goal
-
-pub returns-in-NonZeroGrow : goal.returns-in-NonZeroGrow
-returns-in-NonZeroGrow c =
-    tells_as c.free.ensures
-    (ap (λ z. length_numbers (NonZeroGrow z c.in-NonZeroGrow.e))
-    (to_z-of_z {w = w64} (sfits_of (rw c.in-NonZeroGrow.is at c.well_formed.1.0).1.1.1.1.0.1))
-    ∙ ap length_numbers (sym c.in-NonZeroGrow.is))
 
 pub returns-in-Unlimited : goal.returns-in-Unlimited
 unfolding length_numbers
@@ -28,16 +17,20 @@ returns-in-Conflicting c = tells_as c.front-in-Conflicting.ensures (ap length_nu
 
 pub returns-in-TouchingVirtual : goal.returns-in-TouchingVirtual
 unfolding length_numbers
-returns-in-TouchingVirtual c = tells_as c.front-in-TouchingVirtual.ensures (ap length_numbers (sym c.in-TouchingVirtual.is))
+returns-in-TouchingVirtual c =
+    tells_as c.front-in-TouchingVirtual.ensures (ap length_numbers (sym c.in-TouchingVirtual.is))
 
 pub returns-in-BlossomNeedExpand : goal.returns-in-BlossomNeedExpand
 unfolding length_numbers
-returns-in-BlossomNeedExpand c = tells_as c.front-in-BlossomNeedExpand.ensures (ap length_numbers (sym c.in-BlossomNeedExpand.is))
+returns-in-BlossomNeedExpand c =
+    tells_as c.front-in-BlossomNeedExpand.ensures (ap length_numbers (sym c.in-BlossomNeedExpand.is))
 
 pub returns-in-VertexShrinkStop : goal.returns-in-VertexShrinkStop
 unfolding length_numbers
-returns-in-VertexShrinkStop c = tells_as c.front-in-VertexShrinkStop.ensures (ap length_numbers (sym c.in-VertexShrinkStop.is))
+returns-in-VertexShrinkStop c =
+    tells_as c.front-in-VertexShrinkStop.ensures (ap length_numbers (sym c.in-VertexShrinkStop.is))
 
 pub returns-in-VertexShrinkStopPeer : goal.returns-in-VertexShrinkStopPeer
 unfolding length_numbers
-returns-in-VertexShrinkStopPeer c = tells_as c.front-in-VertexShrinkStopPeer.ensures (ap length_numbers (sym c.in-VertexShrinkStopPeer.is))
+returns-in-VertexShrinkStopPeer c =
+    tells_as c.front-in-VertexShrinkStopPeer.ensures (ap length_numbers (sym c.in-VertexShrinkStopPeer.is))

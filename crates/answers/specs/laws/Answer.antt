@@ -1,5 +1,5 @@
 -- Cases of an answer.
-use Rattle.std.specs.Prelude.{ℕ, ◌≡◌, Bool, false, ℤ}
+use Rattle.std.specs.Prelude.{◌≡◌, Bool, false, ℤ}
 use Rattle.std.proofs.Math.Path.{refl}
 use Rattle.std.proofs.Common.{sym}
 use Rattle.std.proofs.Math.Bool.{true}

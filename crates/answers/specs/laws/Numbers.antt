@@ -1,24 +1,11 @@
 -- Answers as numbers: how they are written over the front of a list, and how many they are.
-use Rattle.std.specs.Prelude.{ℕ, suc, ◌+◌, ◌≤◌, ◌<◌, ◌≡◌, refl, ◌≢◌, List, ◌++◌, length, take, drop, set, get_or}
-use Rattle.std.proofs.Common.{add-one, arith, take_all}
-use Rattle.std.proofs.Math.Seq.{paste-suc}
+use Rattle.std.specs.Prelude.{ℕ, ◌≤◌, ◌≡◌, refl, ◌≢◌, List, ◌++◌, length, get_or}
+use Rattle.std.proofs.Common.{arith}
 use Rattle.answers.specs.declared.Answer.{Answer}
 use Rattle.answers.specs.declared.Answer.TheVariants.{Length, Done, Node, Prepared, Vertex, Refused}
 use Rattle.answers.specs.declared.MaxUpdateLength.{MaxUpdateLength}
 use Rattle.answers.specs.declared.MaxUpdateLength.TheVariants.{NonZeroGrow, Unlimited, Conflicting, TouchingVirtual, BlossomNeedExpand, VertexShrinkStop, VertexShrinkStopPeer}
 use Rattle.answers.specs.Numbers.{length_numbers, answer_numbers, Tells}
-
--- one number more over the front
-pub front-more : (numbers list : List ℕ) (i : ℕ) → i < length numbers → i < length list
-    → set (take i numbers ++ drop i list) i (get_or numbers i 0) ≡ take (i + 1) numbers ++ drop (i + 1) list
-front-more numbers list i h k =
-    let z : 0 + i ≡ i = omega arith in
-    let y : 0 + suc i ≡ suc i = omega arith in
-    rw (add-one) (rw (z, y) at (paste-suc list 0 numbers i 0 (omega arith) h))
-
--- all of them
-pub front-all : (numbers list : List ℕ) (i : ℕ) → i ≡ length numbers → Tells numbers list (take i numbers ++ drop i list) i
-front-all numbers list i e = record { listed = rw (take_all i numbers (omega (arith, e)), e); count = e }
 
 -- the same numbers, given otherwise
 pub tells_as : {numbers others list list' : List ℕ} {k : ℕ} → Tells numbers list list' k → numbers ≡ others → Tells others list list' k

@@ -2,7 +2,4 @@ use Prim.Native.Nat.{◌-◌, ◌≤◌}
 use Rattle.bad_blocks.proofs.changes.Given as goal
 
 abbrev pub invariant-loop-i : goal.invariant-loop-i
-invariant-loop-i l = (l.n ≤ l.i) × (l.i ≤ 56)
-
-abbrev pub decreases-loop-i : goal.decreases-loop-i
-decreases-loop-i l = 56 - l.i
+invariant-loop-i l = l.n ≤ l.i

@@ -12,7 +12,6 @@ use Rattle.graph.specs.laws.Members.{or-neither-right}
 use Rattle.calls.specs.Refuse.{bad_node, in_blossom}
 use Rattle.calls.specs.Insert.{no_circle}
 use Rattle.blossom.specs.laws.Circle.{nodes-small, circle-once, blossom-refusal-0, blossom-refusal-3, blossom-refusal-6, blossom-refusal-7, blossom-refusal-8, blossom-refusal-9}
-use borrow.Author.Rules.{rules}
 use Rattle.blossom.proofs.blossom_refusal.Goals.{Else-x-any_bad}
 use Rattle.blossom.proofs.blossom_refusal.Goals.{Else-any_inner}
 use Rattle.blossom.proofs.blossom_refusal.Goals.{Else-no_circle}

@@ -3,7 +3,6 @@ use mathlib.Core.List.{map}
 use Rattle.graph.specs.Word.{to_nat}
 use Rattle.pass.proofs.laws.Scratch.{scratch-same}
 use Rattle.blossom.specs.laws.Blossom.{circle-joined}
-use borrow.Author.Rules.{rules}
 use Rattle.blossom.proofs.join_circle.Goals as goal
 
 pub join_members-count-requires : goal.join_members-count-requires

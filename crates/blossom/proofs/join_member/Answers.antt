@@ -1,7 +1,6 @@
 use native.Mathlib.Omega.{arith}
 use Rattle.calls.specs.Insert.{join_step}
 use Rattle.blossom.specs.laws.Blossom.{joined-member-stays}
-use borrow.Author.Rules.{rules}
 use Rattle.blossom.proofs.join_member.Goals as goal
 
 pub set_grow_state-requires : goal.set_grow_state-requires

@@ -1,14 +1,14 @@
-use borrow.Author.Rules.{rules}
 use native.Mathlib.Omega.{arith}
-use Prim.Native.Nat.{ℕ, ◌-◌, ◌<◌}
+use Prim.Native.Nat.{ℕ, ◌<◌}
 use mathlib.Core.Path.{◌≡◌, sym, ap, ◌∙◌}
 use mathlib.Core.List.{List}
 use lib.ListN.{length, get_or}
 use Rattle.graph.specs.State.{side_count, boundary_of}
 use Rattle.graph.specs.Layout.{state_of}
-use Rattle.blossom.specs.laws.Blossom.{SidesJoined, joined-space, sides-none, sides-list, sides-ok, sides-more, sides-skip, sides_all}
+use Rattle.blossom.specs.laws.Blossom.{joined-space, sides-none, sides-list, sides-ok, sides-more, sides-skip, sides_all}
 use Rattle.blossom.proofs.join_sides.Goals.{After-boundary_side-s}
 use Rattle.blossom.proofs.join_sides.Goals.{Then-holder-m}
+use Rattle.blossom.proofs.join_sides.Goals.{then-holder-m, else-holder-m}
 use Rattle.blossom.proofs.join_sides.Goals as goal
 
 -- side i of the boundary as it was at first
@@ -67,8 +67,11 @@ set_holder-requires c = (
 )
 
 pub put-requires : goal.put-requires
-put-requires c = let q = c.loop-i.invariant.joined in
-    (omega (arith, space c.before.before.before.before, q.holding.size), omega (arith, c.boundary_side-s.ensures.1, q.block.formed.sides-max))
+put-requires c = let q = c.loop-i.invariant.joined in (
+  omega (arith, space c.before.before.before.before, q.holding.size),
+  omega
+      (arith, c.boundary_side-s.ensures.1, q.block.formed.sides-max),
+)
 
 pub overflow_add-q : goal.overflow_add-q
 overflow_add-q c =
@@ -81,16 +84,20 @@ overflow_add-q c =
       );
     }
 
-pub loop-i-preserved-then-holder-m : goal.loop-i-preserved-then-holder-m
-loop-i-preserved-then-holder-m c = rw c.put.ensures
-    (sides-more c.loop-i.invariant c.boundary_side-s.result (within c.before.before.before.before.before.before.before.before) (entry c.before.before.before.before.before.before.before.before) (inside c.before.before.before.before.before.before.before.before)
-    (sym c.holder.ensures.0 ∙ c.if-holder-m.true) c.requires.4
-    c.set_holder.ensures)
-
 pub loop-i-preserved : goal.loop-i-preserved
 loop-i-preserved c =
-    sides-skip c.loop-i.invariant c.boundary_side-s.result (within c.before.before) (entry c.before.before)
-    (λ q. c.if-holder-m.false (c.holder.ensures.0 ∙ q))
+    let q = c.loop-i.invariant in
+    elim c.if-holder-m.branch [
+      | then-holder-m w ↦
+          rw (w.b-is, w.t-is, w.q-is, w.put.ensures)
+          (sides-more q c.boundary_side-s.result (within c.before.before) (entry c.before.before)
+          (inside c.before.before)
+          (sym c.holder.ensures.0 ∙ w.if-holder-m.true) c.requires.4 w.set_holder.ensures)
+      | else-holder-m w ↦
+          rw (w.b-is, w.t-is, w.q-is)
+          (sides-skip q c.boundary_side-s.result (within c.before.before) (entry c.before.before)
+          (λ e. w.if-holder-m.false (c.holder.ensures.0 ∙ e)))
+    ]
 
 pub shape_of-b : goal.shape_of-b
 shape_of-b c = c.loop-i.invariant.joined.block.len

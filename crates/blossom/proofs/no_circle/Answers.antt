@@ -1,6 +1,5 @@
 use mathlib.Core.Path.{◌∙◌}
 use Rattle.blossom.specs.laws.Circle.{no-circle-count, no-circle-repeat}
-use borrow.Author.Rules.{rules}
 use Rattle.blossom.proofs.no_circle.Goals as goal
 
 pub returns-then-circle : goal.returns-then-circle

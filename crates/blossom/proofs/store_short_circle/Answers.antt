@@ -6,7 +6,6 @@ use Rattle.graph.specs.Word.{to_nat}
 use Rattle.graph.specs.Layout.{state_of}
 use Rattle.graph.specs.laws.List.{store-max}
 use Rattle.blossom.specs.laws.Circle.{circle-size, short-circle}
-use borrow.Author.Rules.{rules}
 use Rattle.blossom.proofs.store_short_circle.Goals as goal
 
 pub over_store-requires : goal.over_store-requires

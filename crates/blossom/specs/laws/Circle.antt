@@ -1,6 +1,6 @@
 -- Laws of the circle of a blossom: what refuses it, and its store.
 use Rattle.std.specs.Prelude.{ℕ, zero, suc, ◌+◌, ◌*◌, ◌%◌, ◌≤◌, ◌<◌, ◌≡◌, refl, Bool, true, false, not, ◌&&◌, ◌||◌, List, [], ◌∷◌, map, ℤ, ltb, eqb, length, get_or, set, drop, replicate, ◌≢◌}
-use Rattle.std.proofs.Common.{add-one, arith, ap, ◌∙◌, drop_of_length-le, drop-cons}
+use Rattle.std.proofs.Common.{add-one, arith, pos, ap, ◌∙◌, drop_of_length-le, drop-cons}
 use Rattle.std.proofs.lemmas.List.{length-map}
 use borrow.Author.Tests.{lt-ltb, le-leb, lt-leb, not-false, eq-eqb, ne_eqb}
 use Rattle.graph.specs.Basic.{all, any, member, distinct, sum_below}
@@ -208,3 +208,8 @@ accepted-joinable {b} {t} {x} {circle} u a = record {
   count = a.count;
   room = store-room (state_of b) circle (length circle + 1) a.room;
 }
+
+-- the number that an entry of a circle stands for, read as the entry goes by
+pub item : (l : List ℤ) (i : ℕ) {z : ℤ} {m : ℕ} → m ≡ to_nat z → z ≡ get_or l i (pos 0) → m ≡ word_at l i
+unfolding word_at
+item l i e f = e ∙ ap to_nat f

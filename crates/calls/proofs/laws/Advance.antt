@@ -1,12 +1,12 @@
 -- Laws of advance: a shrinking length is not below 0, and growth along the direction of the grow state is what the definition asks for.
-use Rattle.std.specs.Prelude.{◌≡◌, ℕ, ◌-◌, ◌≤◌, Bool, true, false, not, ◌&&◌, ◌≢◌, List, [], ◌∷◌, ℤ, pos, negsuc, ◌==◌, nat_lt}
+use Rattle.std.specs.Prelude.{◌≡◌, ℕ, ◌≤◌, Bool, true, false, not, ◌&&◌, ◌≢◌, List, [], ◌∷◌, ℤ, pos, negsuc, ◌==◌, nat_lt}
 use Rattle.std.proofs.Math.Decide.{ℕ_discrete as dec_eq}
 use Rattle.std.proofs.Math.Path.{refl, sym, ap}
 use Rattle.std.proofs.Common.{◌∙◌}
 use Rattle.std.specs.Int.Signed.{non_neg}
 use Rattle.std.proofs.Math.ListN.{get_or-eq_default}
 use borrow.Author.Tests.{eq-eqb, ne_eqb}
-use Rattle.graph.specs.State.{State, NodeClass, defect_vertex, blossom, removed, up, stay, growing, opposite, node_count, sides_at, growth_at, holder_at, grandson_at, class_of, grow_state_of, dual_of, boundary_of, overgrown_of}
+use Rattle.graph.specs.State.{State, NodeClass, up, stay, growing, node_count, growth_at, class_of, grow_state_of, dual_of, boundary_of, overgrown_of}
 use Rattle.graph.specs.Layout.{state_of}
 use Rattle.graph.specs.Form.{Formed}
 use Rattle.graph.specs.laws.State.{if-both, fold-keeps}

@@ -1,12 +1,12 @@
 -- A change of weights moves the present weights and the mark, and nothing else.
 use Rattle.std.specs.Prelude.{◌≡◌, ℕ, ◌≤◌, true, not, ◌||◌, List, [], ◌∷◌, length, ◌==◌, slice_index, slice_set}
-use Rattle.std.proofs.Common.{arith, sym, ◌∙◌, length-set, get_or-set_same, get_or-set_other, eqb-true, leb-true}
+use Rattle.std.proofs.Common.{arith, ◌∙◌, length-set, get_or-set_same, get_or-set_other, eqb-true, leb-true}
 use Rattle.std.proofs.Math.Decide.{ℕ_discrete as dec_eq, dec_lt}
 use Rattle.std.specs.Prelude.{refl}
 use Rattle.std.proofs.Math.Seq.{set_out}
 use Rattle.std.proofs.lemmas.Bool.{not-false}
 use Rattle.graph.specs.Basic.{fold, all}
-use Rattle.graph.specs.State.{State, node_count, edge_count, with_graph, with_edge_weight, with_reweighted}
+use Rattle.graph.specs.State.{State, node_count, with_graph, with_edge_weight, with_reweighted}
 use Rattle.graph.specs.Open.{weight_limit}
 use Rattle.graph.specs.laws.State.{passed}
 use Rattle.graph.specs.laws.Members.{all_first, all_others, or-neither-left, or-neither-right}

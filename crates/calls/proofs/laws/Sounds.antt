@@ -1,6 +1,6 @@
 -- Calls that keep a sound state sound, whatever sound state it is: preparation for growing, growth, set state, clear.
 -- (Preparation for shrinking keeps it on states that calls reach; that needs the invariant of such states.)
-use Rattle.std.specs.Prelude.{◌≡◌, ℕ, ◌+◌, ◌-◌, ◌<◌, ◌≤◌, true, false, ltb, ◌≢◌, List, [], ◌∷◌, map, length, get_or, set, ◌==◌, nat_eq, nat_le, nat_lt, slice_index, slice_index_or, slice_set}
+use Rattle.std.specs.Prelude.{◌≡◌, ℕ, ◌+◌, ◌<◌, ◌≤◌, true, false, ltb, ◌≢◌, List, [], ◌∷◌, map, length, get_or, ◌==◌, nat_eq, nat_le, nat_lt, slice_index, slice_index_or, slice_set}
 use native.Mathlib.Omega.{arith}
 use Rattle.std.proofs.Math.Decide.{ℕ_discrete as dec_eq, dec_lt}
 use Rattle.std.proofs.Math.Path.{refl, ap}

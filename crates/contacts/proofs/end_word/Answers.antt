@@ -3,7 +3,6 @@ use mir.Facts.{to_z_pos}
 use native.Mathlib.Omega.{arith}
 use mathlib.Core.Path.{refl}
 use borrow.Author.Tests.{ne_eqb}
-use borrow.Author.Rules.{rules}
 use Rattle.contacts.proofs.end_word.Goals as goal
 
 pub returns-then-p-eq0 : goal.returns-then-p-eq0

@@ -1,6 +1,5 @@
 use mathlib.Core.Path.{refl}
 use Rattle.calls.specs.Contacts.{free_virtual}
-use borrow.Author.Rules.{rules}
 use Rattle.contacts.proofs.free_virtual.Goals as goal
 
 pub returns : goal.returns

@@ -1,6 +1,5 @@
 use mathlib.Core.Path.{refl}
 use Rattle.calls.specs.Contacts.{is_contact}
-use borrow.Author.Rules.{rules}
 use Rattle.contacts.proofs.is_contact.Goals as goal
 
 pub returns-then-touches : goal.returns-then-touches

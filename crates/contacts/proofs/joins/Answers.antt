@@ -1,7 +1,6 @@
 use mathlib.Core.Path.{refl}
 use borrow.Author.Tests.{ne_eqb}
 use Rattle.calls.specs.Contacts.{joins_nodes}
-use borrow.Author.Rules.{rules}
 use Rattle.contacts.proofs.joins.Goals as goal
 
 pub returns-then-p-eq0 : goal.returns-then-p-eq0

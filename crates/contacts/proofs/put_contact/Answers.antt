@@ -3,7 +3,6 @@ use lib.ListN.{set}
 use Prim.Native.Nat.{◌+◌, ◌*◌}
 use Rattle.graph.specs.Layout.{state_of}
 use Rattle.calls.specs.Contacts.{side_node, end_word}
-use borrow.Author.Rules.{rules}
 use Rattle.contacts.proofs.put_contact.Goals as goal
 
 pub returns : goal.returns

@@ -2,7 +2,7 @@ use mir.Syntax.{w64}
 use mathlib.Core.Path.{◌∙◌, ap}
 use mir.Facts.{to_z-of_z}
 use lib.ListN.{set}
-use borrow.Author.Rules.{rules, sfits_of}
+use borrow.Author.Rules.{sfits_of}
 use Rattle.contacts.proofs.put_end.Goals as goal
 
 pub returns : goal.returns

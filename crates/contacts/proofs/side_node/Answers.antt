@@ -3,10 +3,8 @@ use mathlib.Core.Path.{refl, ap}
 use Prim.Native.Nat.{◌+◌}
 use borrow.Author.Tests.{ne_eqb}
 use Rattle.graph.specs.Layout.{state_of}
-use Rattle.graph.specs.State.{holder_at}
 use Rattle.graph.specs.laws.Shape.{side-facts, sound-side}
 use Rattle.calls.specs.Contacts.{side_node}
-use borrow.Author.Rules.{rules}
 use Rattle.contacts.proofs.side_node.Goals as goal
 
 pub outermost-requires : goal.outermost-requires

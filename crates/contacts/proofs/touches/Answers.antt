@@ -1,5 +1,4 @@
 use Rattle.calls.specs.Contacts.{touches}
-use borrow.Author.Rules.{rules}
 use Rattle.contacts.proofs.touches.Goals as goal
 
 pub returns : goal.returns

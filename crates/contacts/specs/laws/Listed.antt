@@ -1,12 +1,12 @@
 -- The loop that lists the contacts: three words for each, behind those before it.
-use Rattle.std.specs.Prelude.{ℕ, zero, suc, ◌+◌, ◌*◌, ◌≤◌, ◌≡◌, Bool, true, false, List, [], ◌∷◌, ◌++◌, map, ℤ, pos, length, set}
+use Rattle.std.specs.Prelude.{ℕ, ◌+◌, ◌*◌, ◌≤◌, ◌≡◌, true, false, List, [], ◌∷◌, ◌++◌, map, ℤ, pos, length, set}
 use Rattle.std.proofs.Common.{arith, add-one, sym, ◌∙◌}
 use Rattle.std.proofs.Math.Path.{refl, ap}
 use Rattle.std.proofs.Math.ListN.{length-append}
 use Rattle.std.proofs.lemmas.List.{length-map}
 use Rattle.graph.specs.Basic.{only, below}
 use Rattle.graph.specs.State.{State, edge_count}
-use Rattle.graph.specs.laws.Members.{by-test, length-only, length-below}
+use Rattle.graph.specs.laws.Members.{length-only, length-below}
 use Rattle.active_list.specs.laws.Renewal.{only-snoc}
 use Rattle.calls.specs.Reply.{over_front}
 use Rattle.calls.specs.Contacts.{Contact, is_contact, contact_of, contacts, contact_words, end_word}

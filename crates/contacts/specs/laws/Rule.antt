@@ -1,6 +1,6 @@
 -- The list and the rule, both directions; the edges rise.
-use Rattle.std.specs.Prelude.{ℕ, zero, suc, ◌+◌, ◌*◌, ◌≤◌, ◌<◌, ◌≡◌, refl, Bool, true, false, not, ◌&&◌, List, [], ◌∷◌, ◌++◌, map, eqb, if◌then◌else◌}
-use Rattle.std.proofs.Common.{arith, add-one, sym, ap, ◌∙◌, eqb-true, eq-eqb, ne_eqb}
+use Rattle.std.specs.Prelude.{ℕ, zero, suc, ◌+◌, ◌*◌, ◌≤◌, ◌<◌, ◌≡◌, refl, true, not, ◌&&◌, List, [], ◌∷◌, ◌++◌, map, eqb, if◌then◌else◌}
+use Rattle.std.proofs.Common.{arith, add-one, ◌∙◌, eqb-true, eq-eqb, ne_eqb}
 use Rattle.std.proofs.lemmas.Bool.{eqb-false, not-true}
 use Rattle.graph.specs.Basic.{member, only, below}
 use Rattle.graph.specs.State.{State, edge_count, end_at, growth_at, holder_at, weight_at, virtual_at, vertex_holder_at}

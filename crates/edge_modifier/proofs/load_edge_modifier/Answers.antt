@@ -4,7 +4,6 @@ use Rattle.graph.specs.Layout.{state_of}
 use Rattle.calls.specs.Erasures.{pairs_from}
 use Rattle.calls.proofs.laws.Erasures.{modifier-accepted}
 use Rattle.edge_modifier.specs.laws.Load.{load-nothing, load-done}
-use borrow.Author.Rules.{rules}
 use Rattle.edge_modifier.proofs.load_edge_modifier.Goals as goal
 
 pub returns-then-pairs-lt2 : goal.returns-then-pairs-lt2

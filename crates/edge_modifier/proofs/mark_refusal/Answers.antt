@@ -1,6 +1,5 @@
 use mathlib.Core.Path.{refl}
 use Rattle.edge_modifier.specs.inner.Refusals.{refusal_of_mark}
-use borrow.Author.Rules.{rules}
 use Rattle.edge_modifier.proofs.mark_refusal.Goals as goal
 
 pub returns-then-n-x : goal.returns-then-n-x

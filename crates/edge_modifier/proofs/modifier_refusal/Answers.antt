@@ -2,7 +2,6 @@ use mathlib.Core.Path.{sym, ◌∙◌}
 use Rattle.graph.specs.Layout.{state_of}
 use Rattle.calls.specs.Erasures.{pairs_from}
 use Rattle.edge_modifier.specs.laws.Load.{refusal-links}
-use borrow.Author.Rules.{rules}
 use Rattle.edge_modifier.proofs.modifier_refusal.Goals as goal
 
 pub returns-then-edges_named : goal.returns-then-edges_named

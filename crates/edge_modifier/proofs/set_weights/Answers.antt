@@ -1,7 +1,5 @@
-use Prim.Native.Nat.{◌-◌}
 use native.Mathlib.Omega.{arith}
-use Rattle.edge_modifier.specs.laws.Load.{WeightsSet, set-none, pair-edge, pair-weight, set_more, set_all}
-use borrow.Author.Rules.{rules}
+use Rattle.edge_modifier.specs.laws.Load.{set-none, pair-edge, pair-weight, set_more, set_all}
 use Rattle.edge_modifier.proofs.set_weights.Goals as goal
 
 pub loop-i-init : goal.loop-i-init

@@ -1,6 +1,5 @@
 use mathlib.Core.Path.{sym, ◌∙◌}
 use Rattle.edge_modifier.specs.inner.Refusals.{refusal_of_weights}
-use borrow.Author.Rules.{rules}
 use Rattle.edge_modifier.proofs.weights_refusal.Goals as goal
 
 pub returns-then-weights_in_range : goal.returns-then-weights_in_range

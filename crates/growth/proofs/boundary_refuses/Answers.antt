@@ -1,5 +1,4 @@
 use Rattle.graph.specs.inner.Form.{sides_ok}
-use borrow.Author.Rules.{rules}
 use Rattle.growth.proofs.boundary_refuses.Goals as goal
 
 pub some_side_refuses-requires : goal.some_side_refuses-requires

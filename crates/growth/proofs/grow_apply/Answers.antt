@@ -1,6 +1,5 @@
 use Rattle.growth.proofs.laws.Moving.{sides-after, node-then-sides}
 use Rattle.graph.specs.Layout.{state_of}
-use borrow.Author.Rules.{rules}
 use Rattle.growth.proofs.grow_apply.Goals as goal
 
 pub move_sides-requires : goal.move_sides-requires

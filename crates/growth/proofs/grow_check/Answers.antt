@@ -1,7 +1,6 @@
 use mathlib.Core.Path.{sym, ◌∙◌}
 use Rattle.graph.specs.Layout.{state_of}
 use Rattle.growth.proofs.laws.Moving.{refused-10, refused-12, grown-up, refused-11, grown-down}
-use borrow.Author.Rules.{rules}
 use Rattle.growth.proofs.grow_check.Goals as goal
 
 pub returns-then-boundary_refuses : goal.returns-then-boundary_refuses

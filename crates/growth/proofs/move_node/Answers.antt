@@ -2,7 +2,6 @@ use mathlib.Core.Path.{ap, ◌∙◌}
 use Rattle.graph.specs.Node.{grown_node}
 use Rattle.graph.specs.Layout.{state_of}
 use Rattle.growth.proofs.laws.Moving.{node-movable, grown-small, grown-put, dual-then-top}
-use borrow.Author.Rules.{rules}
 use Rattle.growth.proofs.move_node.Goals as goal
 
 pub grown-x-requires : goal.grown-x-requires

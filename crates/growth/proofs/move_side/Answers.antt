@@ -1,5 +1,4 @@
 use Rattle.growth.specs.Growth.{move_side}
-use borrow.Author.Rules.{rules}
 use Rattle.growth.proofs.move_side.Goals as goal
 
 pub move_number-requires : goal.move_number-requires

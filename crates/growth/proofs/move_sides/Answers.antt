@@ -1,20 +1,18 @@
-use borrow.Author.Rules.{rules}
 use native.Mathlib.Omega.{arith}
-use Prim.Native.Nat.{◌-◌, ◌≤◌, ◌<◌}
+use Prim.Native.Nat.{◌<◌}
 use lib.ListN.{length}
 use Rattle.graph.specs.State.{boundary_of}
 use Rattle.graph.specs.Layout.{state_of}
-use Rattle.graph.specs.inner.Form.{Becomes}
-use Rattle.growth.proofs.laws.Moving.{moved_to, same-boundary, same-sides, next-movable, next_small, next-moved, none-moved, all_moved}
+use Rattle.growth.proofs.laws.Moving.{same-boundary, same-sides, next-movable, next_small, next-moved, none-moved}
 use Rattle.growth.proofs.move_sides.Goals as goal
 
 pub loop-i-init : goal.loop-i-init
-loop-i-init c = (omega arith, none-moved c.args.b.now c.args.n c.args.d c.args.l c.requires.0)
+loop-i-init c = none-moved c.args.b.now c.args.n c.args.d c.args.l c.requires.0
 
 pub boundary_side-s-requires : goal.boundary_side-s-requires
 boundary_side-s-requires c =
     let q = c.loop-i in
-    let p = q.invariant.1 in (
+    let p = q.invariant in (
       p.formed.laid,
       p.formed.listed,
       rw p.nodes c.requires.1,
@@ -26,7 +24,7 @@ boundary_side-s-requires c =
 pub move_side-requires : goal.move_side-requires
 move_side-requires c =
     let q = c.loop-i in
-    let p = q.invariant.1 in
+    let p = q.invariant in
     let k : q.i < length (boundary_of (state_of c.args.b.now) c.args.n) =
     omega (
       arith,
@@ -43,22 +41,13 @@ move_side-requires c =
 pub loop-i-preserved : goal.loop-i-preserved
 loop-i-preserved c =
     let q = c.loop-i in
-    let p = q.invariant.1 in
+    let p = q.invariant in
     let k : q.i < length (boundary_of (state_of c.args.b.now) c.args.n) =
     omega (
       arith,
       c.boundary_len-m.ensures.0,
       c.loop-i-test.true,
     ) in (
-      omega (arith, c.loop-i-test.true),
-      next-moved c.args.b.now q.b c.args.n c.args.d c.args.l q.i p c.requires.2 k _ _
-          c.boundary_side-s.ensures.0 c.move_side.ensures,
+    next-moved c.args.b.now q.b c.args.n c.args.d c.args.l q.i p c.requires.2 k _ _
+    c.boundary_side-s.ensures.0 c.move_side.ensures
     )
-
-pub shape_of-b : goal.shape_of-b
-shape_of-b c = c.loop-i.invariant.1.len
-
-pub returns : goal.returns
-returns c =
-    all_moved c.args.b.now _ c.args.n c.args.d c.args.l c.loop-i.i
-    (omega (arith, c.boundary_len-m.ensures.0)) c.loop-i.invariant.1

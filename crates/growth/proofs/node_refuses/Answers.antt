@@ -4,7 +4,6 @@ use Rattle.graph.specs.State.{dual_of, overgrown_of}
 use Rattle.graph.specs.Layout.{state_of}
 use Rattle.growth.specs.inner.Moving.{number_refuses, node_refuses}
 use Rattle.growth.proofs.laws.Moving.{top-none, top-some}
-use borrow.Author.Rules.{rules}
 use Rattle.growth.proofs.node_refuses.Goals as goal
 
 pub returns-then-number_refuses : goal.returns-then-number_refuses

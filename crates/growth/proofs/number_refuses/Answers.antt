@@ -1,6 +1,5 @@
 use borrow.Author.Tests.{eq-eqb, ne_eqb}
 use Rattle.growth.specs.inner.Moving.{number_refuses}
-use borrow.Author.Rules.{rules}
 use Rattle.growth.proofs.number_refuses.Goals as goal
 
 pub returns-then-k-eq12 : goal.returns-then-k-eq12

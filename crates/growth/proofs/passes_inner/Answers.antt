@@ -1,5 +1,4 @@
 use native.Mathlib.Omega.{arith}
-use borrow.Author.Rules.{rules}
 use Rattle.growth.proofs.passes_inner.Goals as goal
 
 pub overflow_add-grown-2 : goal.overflow_add-grown-2

@@ -2,8 +2,6 @@ use Rattle.growth.proofs.laws.Gap.{passes-own, passes-other, passes-left, passes
 use Rattle.gap.specs.laws.Gap.{left-side, over-side}
 use Rattle.graph.specs.Layout.{state_of}
 use mathlib.Core.Path.{sym, ◌∙◌}
-use native.Mathlib.Omega.{arith}
-use borrow.Author.Rules.{rules}
 use Rattle.growth.proofs.passes_weight.Goals as goal
 
 pub returns-then-holder-n : goal.returns-then-holder-n

@@ -1,6 +1,5 @@
 use native.Mathlib.Omega.{arith}
 use Rattle.growth.proofs.laws.Moving.{top-still}
-use borrow.Author.Rules.{rules}
 use Rattle.growth.proofs.put_top.Goals as goal
 
 pub set_amount-requires : goal.set_amount-requires

@@ -1,6 +1,5 @@
 use mathlib.Core.Path.{sym, ◌∙◌}
 use Rattle.growth.specs.inner.Moving.{refuses}
-use borrow.Author.Rules.{rules}
 use Rattle.growth.proofs.refuses.Goals as goal
 
 pub returns-then-node_refuses : goal.returns-then-node_refuses

@@ -1,6 +1,5 @@
 use borrow.Author.Tests.{eq-eqb, ne_eqb}
 use Rattle.growth.specs.inner.Moving.{side_refuses}
-use borrow.Author.Rules.{rules}
 use Rattle.growth.proofs.side_refuses.Goals as goal
 
 pub returns-then-k-eq10 : goal.returns-then-k-eq10

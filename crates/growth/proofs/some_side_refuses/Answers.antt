@@ -1,54 +1,32 @@
-use borrow.Author.Rules.{rules}
-use native.Mathlib.Omega.{arith}
-use Prim.Native.Nat.{◌-◌, ◌≤◌}
-use mathlib.Core.Path.{◌≡◌, refl, sym, ◌∙◌}
-use mathlib.Core.List.{map}
-use lib.ListN.{length, drop, length-map}
+use Rattle.std.proofs.Common.{rules, tests, ap, ◌∙◌, ◌≡◌, refl, List, [], ◌∷◌, Bool, ◌<◌, ltb-true}
+use Rattle.std.specs.Prelude.{map, ltb, ◌||◌}
+use Rattle.std.specs.List.{list_any}
+use Rattle.std.proofs.lemmas.Iterator.{YieldsList-from_slice}
+use Rattle.std.proofs.lemmas.Iterator.Adapters.{serves_from_places}
+use Rattle.std.proofs.lemmas.Iterator.Search.{any_from_yields_List}
 use Rattle.graph.specs.Basic.{any}
 use Rattle.graph.specs.State.{side_count}
 use Rattle.graph.specs.Word.{to_nat}
 use Rattle.graph.specs.Layout.{state_of}
-use Rattle.graph.specs.laws.Members.{any_here, any-on, any-end}
+use Rattle.graph.specs.laws.Members.{all-unmap}
+use Rattle.graph.specs.laws.Scan.{list_at}
+use Rattle.graph.specs.laws.Chains.{any_mapped}
 use Rattle.growth.specs.inner.Moving.{side_refuses}
-use Rattle.graph.specs.laws.Number.{word-entry, word_below}
 use Rattle.growth.proofs.some_side_refuses.Goals as goal
 
-pub loop-i-init : goal.loop-i-init
-loop-i-init c = (omega arith, refl)
-
-pub side_refuses-requires : goal.side_refuses-requires
-side_refuses-requires c = (
-  c.requires.0,
-  c.requires.1,
-  c.requires.2,
-  c.requires.3,
-  rw c.word-s.ensures.0
-      (word_below (side_count (state_of c.args.b.now)) c.args.boundary.now c.loop-i.i c.requires.4
-      c.loop-i-test.true),
-)
-
-pub returns-then-side_refuses : goal.returns-then-side_refuses
-returns-then-side_refuses c =
-    let a = c.args in
-    any_here (side_refuses (state_of a.b.now) a.n a.l a.k) (map to_nat a.boundary.now)
-    c.loop-i.i c.loop-i.invariant.1
-    (rw (length-map a.boundary.now to_nat) c.loop-i-test.true)
-    (rw (c.word-s.ensures.0 ∙ word-entry a.boundary.now c.loop-i.i)
-    at (sym c.side_refuses.ensures ∙ c.if-side_refuses.true))
-
-pub loop-i-preserved : goal.loop-i-preserved
-loop-i-preserved c =
-    let a = c.args in (
-      omega (arith, c.loop-i-test.true),
-      any-on (side_refuses (state_of a.b.now) a.n a.l a.k) (map to_nat a.boundary.now)
-          c.loop-i.i c.loop-i.invariant.1
-          (rw (length-map a.boundary.now to_nat) c.loop-i-test.true)
-          (rw (c.word-s.ensures.0 ∙ word-entry a.boundary.now c.loop-i.i)
-          at (sym c.side_refuses.ensures ∙ c.if-side_refuses.false)),
-    )
+pub any-requires-clause-callable : goal.any-requires-clause-callable
+any-requires-clause-callable c =
+    let xs = c.args.boundary.now in
+    let m = side_count (state_of c.args.b.now) in
+    let within = all-unmap (λ s. ltb s m) to_nat xs c.requires.4 in
+    serves_from_places (YieldsList-from_slice xs (search rules)) (λ x q r. search rules)
+    (λ x k h e. let z : to_nat x.now < m =
+    rw e (ltb-true _ _ (list_at (λ y. ltb (to_nat y) m) xs k x.now within h)) in search rules)
 
 pub returns : goal.returns
 returns c =
-    let a = c.args in
-    any-end (side_refuses (state_of a.b.now) a.n a.l a.k) (map to_nat a.boundary.now) c.loop-i.i
-    c.loop-i.invariant.1 (rw (length-map a.boundary.now to_nat) (omega arith))
+    let xs = c.args.boundary.now in
+    let test = side_refuses (state_of c.args.b.now) c.args.n c.args.l c.args.k in
+    any_from_yields_List (λ x. test (to_nat x)) _ _ _ c.any.ensures.ran
+    (YieldsList-from_slice xs (search rules)) (λ x b q k. search (rules, tests))
+    ∙ any_mapped test to_nat xs

@@ -1,12 +1,14 @@
 -- The refusals of an opening: the chain link by link, and the tests of all edges and of all virtual vertices.
-use Rattle.std.specs.Prelude.{ℕ, ◌+◌, ◌≤◌, ◌<◌, ◌≡◌, refl, Bool, true, false, ◌&&◌, not, List, ℤ, pos, negsuc, ltb, eqb, length, get_or, drop, if◌then◌else◌}
-use Rattle.std.proofs.Common.{add-one, sym, ap, ◌∙◌, drop_of_length-le, lt-ltb, le-ltb, ltb-true, eqb-true}
+use Rattle.std.specs.Prelude.{ℕ, ◌+◌, ◌≤◌, ◌<◌, ◌≡◌, refl, Bool, true, false, ◌&&◌, not, List, ℤ, pos, negsuc, ltb, eqb, length, get_or, drop, if◌then◌else◌, IsTrue, ◌↔◌, EachIndex, slice_index_or}
+use Rattle.std.proofs.Common.{add-one, sym, ap, ◌∙◌, drop_of_length-le, lt-ltb, ltb-true, eqb-true}
 use Rattle.std.proofs.lemmas.List.{length-map}
 use Rattle.std.proofs.Math.ListN.{get_or-eq_default}
 use Rattle.std.proofs.Math.Seq.{drop-cons}
 use Rattle.graph.specs.Basic.{all, below}
 use Rattle.graph.specs.laws.State.{and_left, and_right}
 use Rattle.graph.specs.laws.Members.{length-below, all-member, member-at}
+use Rattle.graph.specs.laws.Scan.{list-from}
+use Rattle.graph.specs.laws.Chains.{same_test}
 use Rattle.graph.specs.Word.{to_nat, word_at}
 use Rattle.graph.specs.Open.{Edge, sizes_ok, edge_ok, open_refusal}
 use Rattle.graph.specs.laws.Opened.{get_d_any, get_d-tabled}
@@ -98,7 +100,7 @@ module _ {A : Type 0} (p : A → Bool) (l : List A) where
   unfolding all
   rest_all i r h = rw (drop_of_length-le l {i = i} h) at r
 
--- the same of the edges and of the virtual vertices
+-- the same of the edges
 module _ (v : ℕ) (words : List ℤ) (i : ℕ) where
   pub edges_more : Rest (edge_ok v) (edges_from words) i → i < edges_in words → edge_ok v (edge_at words i) ≡ true → Rest (edge_ok v) (edges_from words) (i + 1)
   edges_more r h e = rest_more (edge_ok v) (edges_from words) i (edge_at words 0) r (rw (edges-count words) h) (ap (edge_ok v) (edges-get words i h) ∙ e)
@@ -106,12 +108,11 @@ module _ (v : ℕ) (words : List ℤ) (i : ℕ) where
   pub edges-fails : Rest (edge_ok v) (edges_from words) i → i < edges_in words → edge_ok v (edge_at words i) ≡ false → false ≡ all (edge_ok v) (edges_from words)
   edges-fails r h e = rest-fails (edge_ok v) (edges_from words) i (edge_at words 0) r (rw (edges-count words) h) (ap (edge_ok v) (edges-get words i h) ∙ e)
 
-  pub virtuals-more : Rest (λ x. ltb x v) (virtuals_from words) i → i < length words → word_at words i < v → Rest (λ x. ltb x v) (virtuals_from words) (i + 1)
-  virtuals-more r h e =
-      rest_more (λ x. ltb x v) (virtuals_from words) i 0 r (rw (virtuals-count words) h)
-      (rw (virtuals-get words i) (lt-ltb (word_at words i) v e))
-
-  pub virtuals-fails : Rest (λ x. ltb x v) (virtuals_from words) i → i < length words → v ≤ word_at words i → false ≡ all (λ x. ltb x v) (virtuals_from words)
-  virtuals-fails r h e =
-      rest-fails (λ x. ltb x v) (virtuals_from words) i 0 r (rw (virtuals-count words) h)
-      (rw (virtuals-get words i) (le-ltb (word_at words i) v e))
+pub virtuals-told : (v : ℕ) (words : List ℤ) (r : Bool) → IsTrue r ↔ EachIndex words (λ k. to_nat (slice_index_or words k (pos 0)) < v)
+    → r ≡ all (λ x. ltb x v) (virtuals_from words)
+unfolding word_at
+virtuals-told v words r h =
+    same_test r (all (λ x. ltb x v) (virtuals_from words))
+    (λ e. list-from (λ x. ltb x v) (virtuals_from words) 0 (λ i j. rw (virtuals-get words i)
+    (lt-ltb (word_at words i) v (h.0 e i (rw (virtuals-count words) at j)))))
+    (λ e. h.1 (λ i j. virtual-below words v i e j))

@@ -7,7 +7,8 @@ use Rattle.std.specs.Prelude.{◌≡◌, refl, List, [], ◌∷◌, ◌++◌, ma
 use Rattle.std.proofs.Math.Path.{ap}
 use Rattle.std.proofs.Math.ListN.{length, length-replicate, length-set, get_or-append, get_or-map}
 use Rattle.std.proofs.lemmas.List.{length-map, get_or-replicate}
-use Rattle.std.proofs.Math.Seq.{take_at}
+use Rattle.std.proofs.lemmas.List.Edits.{fill_from_more}
+use Rattle.std.proofs.Math.Seq.{take_at, paste, paste-zero}
 use Rattle.graph.specs.Word.{to_nat, word_at, numbers_at}
 use Rattle.graph.specs.State.{State, side_count}
 use Rattle.graph.specs.Layout.{state_of, scratch_size}
@@ -371,11 +372,8 @@ module _ {t : List ℤ} {m k : ℕ} {a b c : List ℕ} (h : ScratchHolds t m k a
   pub wipe-third : ScratchHolds (wiped t (2 * m) (length c)) m k a b []
   wipe-third = drop-third (wiping-third (length c) (omega arith)) (length c) (zeroed-all c)
 
--- nothing is wiped, and one word more is
-pub wipe-none : (t : List ℤ) (p : ℕ) → t ≡ wiped t p 0
+-- wiping writes a run of zeros
+pub wiped-paste : (t : List ℤ) (p n : ℕ) → p + n ≤ length t → wiped t p n ≡ paste t p (replicate n (pos 0)) n
 unfolding wiped
-wipe-none t p = refl
-
-pub wipe-more : (t : List ℤ) (p i : ℕ) → set (wiped t p i) (p + i) (pos 0) ≡ wiped t p (i + 1)
-unfolding wiped
-wipe-more t p i = rw add-one
+wiped-paste t p zero h = paste-zero t p []
+wiped-paste t p (suc n) h = rw (wiped-paste t p n (omega arith)) (rw add-one at (fill_from_more t p n (pos 0) (omega arith)))

@@ -1,9 +1,7 @@
 use borrow.Author.Rules.{rules}
 use native.Mathlib.Omega.{arith}
-use Rattle.graph.specs.State.{down}
-use Rattle.graph.specs.Layout.{state_of}
-use Rattle.pass.proofs.laws.Preparing.{remaining, preparing-falls, preparing-all}
-use Rattle.prepare_tested.specs.laws.Testing.{Testing, testing-none, testing-more, testing-all}
+use Rattle.pass.proofs.laws.Preparing.{preparing-falls, preparing-all}
+use Rattle.prepare_tested.specs.laws.Testing.{testing-none, testing-more, testing-all}
 use Rattle.prepare_tested.proofs.prepare_tested.Goals as goal
 
 pub loop-more-init : goal.loop-more-init

@@ -1,5 +1,4 @@
 use Rattle.remove.specs.laws.Call.{blossom-word}
-use borrow.Author.Rules.{rules}
 use Rattle.remove.proofs.is_bare.Goals as goal
 
 pub returns : goal.returns

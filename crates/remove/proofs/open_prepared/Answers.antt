@@ -1,6 +1,5 @@
 use Rattle.remove.specs.laws.Call.{opening-stops, opening-done}
 use mathlib.Core.Path.{sym, ◌∙◌}
-use borrow.Author.Rules.{rules}
 use Rattle.remove.proofs.open_prepared.Goals as goal
 
 pub returns-then-stops_opening : goal.returns-then-stops_opening

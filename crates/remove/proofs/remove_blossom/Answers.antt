@@ -1,6 +1,5 @@
 use mathlib.Core.Path.{refl}
 use Rattle.remove.specs.laws.Call.{removal-refused, removal-ready, removal-able, prepared-inside, prepared-sides, removal-done}
-use borrow.Author.Rules.{rules}
 use Rattle.remove.proofs.remove_blossom.Goals as goal
 
 pub returns-then-k-ne0 : goal.returns-then-k-ne0

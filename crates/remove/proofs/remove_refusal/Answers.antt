@@ -1,7 +1,6 @@
 use Rattle.remove.specs.laws.Call.{removal-first, removal-inside, removal-class, removal-short, removal-not}
 use Rattle.graph.specs.Layout.{state_of}
 use mathlib.Core.Path.{sym, ◌∙◌}
-use borrow.Author.Rules.{rules}
 use Rattle.remove.proofs.remove_refusal.Goals as goal
 
 pub returns-then-k-ne0 : goal.returns-then-k-ne0

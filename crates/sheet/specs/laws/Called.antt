@@ -22,7 +22,7 @@ use Rattle.open_graph.specs.laws.OpenedBlock.{opened-block}
 use Rattle.sheet.specs.declared.SheetOpened.TheVariants.{Opened, Refused}
 use Rattle.sheet.specs.Sheet.{values_from, largest, sheet_ok, vanished, weighed}
 use Rattle.sheet.specs.Called.{ends_ok, sheet_refusal, sheet_answer, sheet_edges, SheetCalled}
-use Rattle.sheet.specs.laws.Count.{same_test}
+use Rattle.graph.specs.laws.Chains.{same_test}
 use Rattle.sheet.specs.laws.Weight.{at_most}
 use Rattle.sheet.specs.laws.Sheet.{Valued, valued, values-count, weighed-length, weighed-end, weighed-edge}
 

@@ -7,12 +7,6 @@ use mathlib.Core.List.{List, [], ◌∷◌}
 use Rattle.graph.specs.Basic.{only}
 use Rattle.graph.specs.laws.Members.{by-test}
 
--- two tests are the same where each passes when the other does
-pub same_test : (a b : Bool) → (a ≡ true → b ≡ true) → (b ≡ true → a ≡ true) → a ≡ b
-same_test true b f g = sym (f refl)
-same_test false true f g = g refl
-same_test false false f g = refl
-
 module _ (p : ℕ → Bool) (l : List ℕ) where
   -- k of the first i pass it, and the others that do are still to come
   abbrev pub Counting : ℕ → ℕ → Type 0

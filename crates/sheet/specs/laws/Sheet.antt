@@ -1,14 +1,16 @@
 -- The values of a sheet: reading them, the largest, how many vanish, and the edges with their weights.
 use Prim.Native.Nat.{ℕ, zero, suc, ◌+◌, ◌*◌, ◌%◌, ◌≤◌, ◌<◌, max}
-use Rattle.std.proofs.Common.{arith, sym, ◌∙◌, inl, inr, ⊎_elim, get_or-set_same, leb-true, ltb-true, lt-ltb, eqb-true, eq-eqb}
+use Rattle.std.proofs.Common.{arith, sym, ◌∙◌, inl, inr, ⊎_elim, get_or-set_same, leb-true, le-leb, ltb-true, lt-ltb, eqb-true, eq-eqb}
 use Rattle.std.proofs.Math.Numerals.{add-one}
 use Rattle.std.proofs.Math.Decide.{ℕ_discrete as dec_eq, dec_lt}
-use Rattle.std.specs.Prelude.{◌≡◌, ◌≢◌, ◌⊎◌, true, ◌&&◌, List, [], ◌∷◌, ℤ, pos, negsuc, ltb, eqb, set}
+use Rattle.std.specs.Prelude.{◌≡◌, ◌≢◌, ◌⊎◌, true, ◌&&◌, List, [], ◌∷◌, ℤ, pos, negsuc, ltb, eqb, set, map, Bool, IsTrue, ◌↔◌, EachIndex, slice_index_or}
 use Rattle.std.proofs.Math.Path.{refl, ap}
 use Rattle.std.proofs.Math.ListN.{length, get_or, length-set}
 use Rattle.std.proofs.lemmas.List.{length-map}
 use Rattle.std.proofs.Math.Seq.{get_or-set_other}
 use Rattle.graph.specs.Basic.{fold, all, only, member, below}
+use Rattle.std.specs.List.{fold as library_fold}
+use Rattle.graph.specs.laws.Scan.{list-from, list_at}
 use Rattle.graph.specs.Word.{to_nat, word_at}
 use Rattle.graph.specs.Opening.{given_at, edge_at}
 use Rattle.graph.specs.laws.State.{fold-snoc, fold-keeps, and_left, and_right}
@@ -17,7 +19,8 @@ use Rattle.graph.specs.laws.Row.{numbers-get}
 use Rattle.sheet.specs.Weight.{scaled}
 use Rattle.sheet.specs.Sheet.{values_from, largest, in_range, sheet_ok, vanishes, vanished, sheet_weight, weigh_at, weighed, with_weight}
 use Rattle.sheet.specs.laws.Weight.{zero-exactly}
-use Rattle.sheet.specs.laws.Count.{same_test, only_same}
+use Rattle.graph.specs.laws.Chains.{same_test}
+use Rattle.sheet.specs.laws.Count.{only_same}
 
 -- ---- reading
 
@@ -29,7 +32,28 @@ pub values-get : (words : List ℤ) (i : ℕ) → get_or (values_from words) i 0
 unfolding values_from
 values-get words i = numbers-get words i
 
+-- a test that says of every value whether it is in range
+pub in-range-told : (words : List ℤ) (r : Bool) → IsTrue r ↔ EachIndex words (λ k. to_nat (slice_index_or words k (pos 0)) ≤ 999_999_999)
+    → r ≡ all in_range (values_from words)
+unfolding word_at
+in-range-told words r h =
+    same_test r (all in_range (values_from words))
+    (λ e. list-from in_range (values_from words) 0 (λ i j. rw (values-get words i)
+    (le-leb (word_at words i) 999_999_999 (h.0 e i (rw (values-count words) at j)))))
+    (λ e. h.1 (λ i j. rw (values-get words i) at (leb-true (get_or (values_from words) i 0) 999_999_999
+    (list_at in_range (values_from words) i 0 e (rw (values-count words) j)))))
+
 -- ---- the largest
+
+-- the library's fold over the words
+fold_told : (a : ℕ) (words : List ℤ) → library_fold (λ m w. max m (to_nat w)) a words ≡ fold max a (map to_nat words)
+unfolding fold
+fold_told a [] = refl
+fold_told a (w ∷ words) = fold_told (max a (to_nat w)) words
+
+pub largest-told : (words : List ℤ) (r : ℕ) → r ≡ library_fold (λ m w. max m (to_nat w)) 0 words → r ≡ largest (values_from words)
+unfolding largest values_from
+largest-told words r e = e ∙ fold_told 0 words
 
 largest-from : (a : ℕ) (l : List ℕ) → a ≤ fold max a l
 unfolding fold

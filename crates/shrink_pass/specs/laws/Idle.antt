@@ -1,5 +1,5 @@
 -- A shrinking pass without an empty top and without an emptied side at the boundary changes nothing.
-use Rattle.std.specs.Prelude.{ℕ, ◌+◌, ◌≡◌, Bool, true, false, ◌||◌, not, ℤ, eqb}
+use Rattle.std.specs.Prelude.{ℕ, ◌≡◌, Bool, true, false, ◌||◌, not, ℤ, eqb}
 use Rattle.std.proofs.Common.{arith, sym, ap, ◌∙◌, eqb-true}
 use Rattle.std.proofs.Math.Path.{refl}
 use mathlib.Core.List.{List, [], ◌∷◌, ◌++◌, append_assoc, append-nil}
@@ -33,7 +33,8 @@ distinct_apart (x ∷ xs) y ys h =
 abbrev keep_all : Work → List ℕ → Work
 keep_all w l = record { state = w.state; kept = w.kept ++ l; noted = w.noted; over = w.over; another = w.another }
 
-scan-idle : (w : Work) (l : List ℕ) → any (vertex_left w.state) l ≡ false → distinct (w.kept ++ l) ≡ true → fold shrink_step w l ≡ keep_all w l
+scan-idle : (w : Work) (l : List ℕ) → any (vertex_left w.state) l ≡ false → distinct (w.kept ++ l) ≡ true
+    → fold shrink_step w l ≡ keep_all w l
 unfolding fold any vertex_left shrink_step keep_once keep
 scan-idle w [] h d = rw (append-nil w.kept)
 scan-idle w (x ∷ l) h d =
@@ -72,12 +73,22 @@ module _ (c : State) (n : ℕ) (tops : length (empty_tops (overgrown_of c n)) �
 
 -- what the test before the work says
 pub idle-test : (z : ℕ) (t : Bool) → (not (eqb z 0) || t) ≡ false → (z ≡ 0) × (t ≡ false)
-idle-test z t h = (eqb-true z 0 (not-false (eqb z 0) (or-neither-left (not (eqb z 0)) t h)), or-neither-right (not (eqb z 0)) t h)
+idle-test z t h = (
+  eqb-true z 0 (not-false (eqb z 0) (or-neither-left (not (eqb z 0)) t h)),
+  or-neither-right
+      (not (eqb z 0)) t h,
+)
 
 -- so block and scratch are left as they are
 pub after-idle : (b t : List ℤ) (n : ℕ) → Formed b → Shrinkable (state_of b) n
-    → length (empty_tops (overgrown_of (state_of b) n)) ≡ 0 → any (vertex_left (state_of b)) (boundary_of (state_of b) n) ≡ false
+    → length (empty_tops (overgrown_of (state_of b) n)) ≡ 0
+    → any (vertex_left (state_of b)) (boundary_of (state_of b) n) ≡ false
     → AfterPass b b t t n (shrink_pass (state_of b) n) false
 after-idle b t n f s h k =
     let i = shrink-idle (state_of b) n h k s.once in
-    record { block = becomes-none b (finish_pass (shrink_pass (state_of b) n) n) f (sym i.0); scratch = refl; another = sym i.1 }
+    record {
+      block = becomes-none b (finish_pass (shrink_pass (state_of b) n) n) f (sym i.0);
+      scratch =
+          refl;
+      another = sym i.1;
+    }

@@ -1,5 +1,5 @@
 -- Laws of a shrinking pass in memory: the small changes of its work, one after another, and its loops.
-use Rattle.std.specs.Prelude.{ℕ, ◌+◌, ◌-◌, ◌*◌, ◌≤◌, ◌<◌, ◌≡◌, refl, ◌≢◌, Bool, ◌||◌, List, [], ◌∷◌, ◌++◌, ℤ, pos, get_or, set, take}
+use Rattle.std.specs.Prelude.{ℕ, ◌+◌, ◌*◌, ◌≤◌, ◌<◌, ◌≡◌, refl, ◌≢◌, Bool, ◌||◌, List, [], ◌∷◌, ◌++◌, ℤ, pos, get_or, set, take}
 use Rattle.std.proofs.Common.{arith, subst, ◌∙◌, lt-ltb}
 use Rattle.std.proofs.Math.Path.{sym, ap}
 use Rattle.std.proofs.Math.Bool.{true, false}
@@ -24,7 +24,8 @@ use Rattle.shrink_pass.specs.laws.Mark.{marks-length, mark-zero, mark_set, marks
 use Rattle.shrink_pass.specs.declared.keep.ShrinkProgress.{ShrinkProgress}
 
 -- what has a work is working
-pub busy-of : {b t : List ℤ} {m : ℕ} {p : ShrinkProgress} {w : Work} → Formed b → m ≡ side_count (state_of b) → HasShrinkWork b t m p w → ShrinkWorking b t m p
+pub busy-of : {b t : List ℤ} {m : ℕ} {p : ShrinkProgress} {w : Work} → Formed b → m ≡ side_count (state_of b)
+    → HasShrinkWork b t m p w → ShrinkWorking b t m p
 busy-of {b} {t} {m} {p} {w} f e h =
     record {
       formed = f;
@@ -38,8 +39,10 @@ busy-of {b} {t} {m} {p} {w} f e h =
 
 -- ---- one after another
 
-pub does-none : {b t : List ℤ} {m : ℕ} {p : ShrinkProgress} → ShrinkWorking b t m p → ShrinkWorked b t b t m p p (λ w. w)
-does-none {b} q = record { block = becomes-none b (state_of b) q.formed refl; keeps = kept_refl (state_of b); working = q; run = λ w h. h }
+pub does-none : {b t : List ℤ} {m : ℕ} {p : ShrinkProgress} → ShrinkWorking b t m p
+    → ShrinkWorked b t b t m p p (λ w. w)
+does-none {b} q = record
+    { block = becomes-none b (state_of b) q.formed refl; keeps = kept_refl (state_of b); working = q; run = λ w h. h }
 
 pub does-then : {b₀ t₀ b₁ t₁ b₂ t₂ : List ℤ} {m : ℕ} {p₀ p₁ p₂ : ShrinkProgress} {f g : Work → Work}
     → ShrinkWorked b₀ t₀ b₁ t₁ m p₀ p₁ f → ShrinkWorked b₁ t₁ b₂ t₂ m p₁ p₂ g
@@ -70,9 +73,12 @@ module _ {b₀ t₀ b t : List ℤ} {m : ℕ} {p₀ p : ShrinkProgress} (f : Wor
   pub does-more : {b' t' : List ℤ} {p' : ShrinkProgress} (i x : ℕ) → i < length l → x ≡ get_or l i 0
       → ShrinkWorked b₀ t₀ b t m p₀ p (λ w. fold f w (take i l)) → ShrinkWorked b t b' t' m p p' (λ w. f w x)
       → ShrinkWorked b₀ t₀ b' t' m p₀ p' (λ w. fold f w (take (i + 1) l))
-  does-more i x h e d s = does-same (λ w. fold f w (take (i + 1) l)) (λ w q. sym (fold_more f w l i 0 h ∙ ap (f (fold f w (take i l))) (sym e))) (does-then d s)
+  does-more i x h e d s =
+      does-same (λ w. fold f w (take (i + 1) l))
+      (λ w q. sym (fold_more f w l i 0 h ∙ ap (f (fold f w (take i l))) (sym e))) (does-then d s)
 
-  pub does-all : (i : ℕ) → length l ≤ i → ShrinkWorked b₀ t₀ b t m p₀ p (λ w. fold f w (take i l)) → ShrinkWorked b₀ t₀ b t m p₀ p (λ w. fold f w l)
+  pub does-all : (i : ℕ) → length l ≤ i → ShrinkWorked b₀ t₀ b t m p₀ p (λ w. fold f w (take i l))
+      → ShrinkWorked b₀ t₀ b t m p₀ p (λ w. fold f w l)
   does-all i h d = does-same (λ w. fold f w l) (λ w q. fold_done f w l i h) d
 
 pub does-start : {b t : List ℤ} {m : ℕ} {p : ShrinkProgress} (f : Work → ℕ → Work) (l : List ℕ) → ShrinkWorking b t m p
@@ -120,12 +126,15 @@ module _ {b t : List ℤ} {m : ℕ} {p : ShrinkProgress} (q : ShrinkWorking b t 
       }
 
   -- another pass is called for, if z
-  pub does_call : (z : Bool) → ShrinkWorked b t b t m p (record { kept = p.kept; noted = p.noted; another = called_if z p.another }) (λ w. call_another w z)
+  pub does_call : (z : Bool)
+      → ShrinkWorked b t b t m p (record { kept = p.kept; noted = p.noted; another = called_if z p.another })
+      (λ w. call_another w z)
   unfolding call_another
   does_call z = still (λ w. call_another w z) step
     where
       step : (w : Work) → HasShrinkWork b t m p w
-          → HasShrinkWork b t m (record { kept = p.kept; noted = p.noted; another = called_if z p.another }) (call_another w z)
+          → HasShrinkWork b t m (record { kept = p.kept; noted = p.noted; another = called_if z p.another })
+          (call_another w z)
       step w h =
           record {
             state = h.state;
@@ -161,13 +170,15 @@ module _ {b t : List ℤ} {m : ℕ} {p : ShrinkProgress} (q : ShrinkWorking b t 
       step w h =
           let size : s < length (marks m w.kept) = rw (marks-length m w.kept) l in
           let z : member s w.kept ≡ false = mark-zero m w.kept s l (sym (second-entry h.scratch s size) ∙ e) in
-          let inside : all (λ x. ltb x m) (w.kept ++ (s ∷ [])) ≡ true = all_snoc (λ x. ltb x m) w.kept s h.inside (lt-ltb s m l) in
+          let inside : all (λ x. ltb x m) (w.kept ++ (s ∷ [])) ≡ true =
+          all_snoc (λ x. ltb x m) w.kept s h.inside (lt-ltb s m l) in
           let once : distinct (w.kept ++ (s ∷ [])) ≡ true = distinct_snoc w.kept s h.once z in
           let more : length (w.kept ++ (s ∷ [])) ≡ length w.kept + 1 = length-append w.kept (s ∷ []) in
           let fits : length (w.kept ++ (s ∷ [])) ≤ m = distinct-length m (w.kept ++ (s ∷ [])) once inside in
           rw z (record {
             state = h.state;
-            scratch = rw (h.kept, ← marks-put m w.kept s l) (change-second (hold-first h.scratch s (omega arith)) s 1 size);
+            scratch = rw (h.kept, ← marks-put m w.kept s l)
+                (change-second (hold-first h.scratch s (omega arith)) s 1 size);
             kept = omega (arith, h.kept);
             noted = h.noted;
             another = h.another;
@@ -194,5 +205,6 @@ module _ {b t : List ℤ} {m : ℕ} {p : ShrinkProgress} (q : ShrinkWorking b t 
         another = h.another;
         inside = h.inside;
         once = h.once;
-        ends = all_snoc (λ x. ltb x (vertex_count (state_of b))) w.noted v h.ends (lt-ltb v (vertex_count (state_of b)) l);
+        ends = all_snoc (λ x. ltb x (vertex_count (state_of b))) w.noted v h.ends
+            (lt-ltb v (vertex_count (state_of b)) l);
       }

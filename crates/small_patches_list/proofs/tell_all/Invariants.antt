@@ -8,9 +8,5 @@ use Rattle.small_patches_list.proofs.tell_all.Given as goal
 
 abbrev pub invariant-loop-k : goal.invariant-loop-k
 invariant-loop-k l =
-    (l.k ≤ 729)
-    × Telling l.initial.lines 0 false l.lines l.o.at l.o.full listing (patch_lines_from l.k (729 - l.k))
+    Telling l.initial.lines 0 false l.lines l.o.at l.o.full listing (patch_lines_from l.k (729 - l.k))
     × (length l.lines ≡ length l.initial.lines)
-
-abbrev pub decreases-loop-k : goal.decreases-loop-k
-decreases-loop-k l = 729 - l.k

@@ -2,15 +2,13 @@
 use Rattle.std.specs.Prelude.{ℕ, ◌+◌, ◌-◌, ◌≤◌, ◌<◌, min, max, ◌≡◌, refl, List, ℤ, length, set, get_or}
 use Rattle.std.proofs.Common.{arith, sym, ap, ◌∙◌, length-set, get_or-set_same, get_or-set_other}
 use Rattle.std.proofs.Math.Decide.{ℕ_discrete as dec_eq}
-use Rattle.graph.specs.Word.{word_at}
-use Rattle.graph.specs.Rows.{offset, start_row, store_row}
+use Rattle.graph.specs.Rows.{offset, start_row}
 use Rattle.graph.specs.Layout.{rows_of, row, state_of}
 use Rattle.graph.specs.Form.{Laid}
 use Rattle.graph.specs.inner.Form.{Rowed}
 use Rattle.graph.specs.laws.Row.{rows-length, rowed-row, rowed-then, rowed-none}
-use Rattle.graph.specs.laws.List.{store_length}
 use Rattle.graph.specs.inner.Lists.{store_of, start_word}
-use Rattle.store.specs.inner.Wrote.{Wrote, Copied, Filled, Shifted}
+use Rattle.store.specs.inner.Wrote.{Wrote, Copied, Shifted}
 
 -- nothing to write
 pub wrote_none : (k : ℕ) (b : List ℤ) (lo hi : ℕ) (f : ℕ → ℕ) → Laid b → ((p : ℕ) → lo ≤ p → p < hi → get_or (row (rows_of b) k) p 0 ≡ f p) → Wrote k b b lo hi f
@@ -38,32 +36,7 @@ pub wrote_at : {k : ℕ} {b₀ b : List ℤ} (a n : ℕ) (g : ℕ → ℕ) → W
     → get_or (row (rows_of b) k) (a + i) 0 ≡ g i
 wrote_at a n g w i h = w.inside (a + i) (omega arith) (omega arith) ∙ ap g (let z : a + i - a ≡ i = omega arith in z)
 
--- ---- the loops
-
-module _ {b₀ b b' : List ℤ} (q : Laid b₀) where
-  pub move-down-more : (from to i x : ℕ) → Copied b₀ b from to i → to ≤ from → from + i < (state_of b₀).store_limit
-      → x ≡ get_or (store_of b) (from + i) 0 → Rowed store_row b b' (set (store_of b) (to + i) x) → Copied b₀ b' from to (i + 1)
-  move-down-more from to i x a h k e r =
-      let z : to + i - to ≡ i = omega arith in
-      wrote-more to (to + (i + 1)) (to + i) x (omega arith) a r (omega (arith, store_length b₀ q))
-      (rw z (e ∙ a.above (from + i) (omega arith))) (omega arith) (omega arith) (omega arith) (omega arith)
-
-  pub move-up-more : (from to n i x : ℕ)
-      → Wrote 18 b₀ b (to + (i + 1)) (to + n) (λ p. get_or (store_of b₀) (from + (p - to)) 0) → from ≤ to → i < n
-      → to + n ≤ (state_of b₀).store_limit → x ≡ get_or (store_of b) (from + i) 0 → Rowed store_row b b' (set (store_of b) (to + i) x)
-      → Wrote 18 b₀ b' (to + i) (to + n) (λ p. get_or (store_of b₀) (from + (p - to)) 0)
-  move-up-more from to n i x a h j k e r =
-      let z : to + i - to ≡ i = omega arith in
-      wrote-more (to + i) (to + n) (to + i) x (omega arith) a r (omega (arith, store_length b₀ q))
-      (rw z (e ∙ a.below (from + i) (omega arith))) (omega arith) (omega arith) (omega arith) (omega arith)
-
-  pub fill_more : (t : List ℤ) (s at i x : ℕ) → Filled b₀ b t s at i → at + i < (state_of b₀).store_limit
-      → x ≡ word_at t (s + i) → Rowed store_row b b' (set (store_of b) (at + i) x) → Filled b₀ b' t s at (i + 1)
-  fill_more t s at i x a k e r =
-      let z : at + i - at ≡ i = omega arith in
-      wrote-more
-      at (at + (i + 1)) (at + i) x (omega arith) a r (omega (arith, store_length b₀ q)) (rw z e) (omega arith)
-      (omega arith) (omega arith) (omega arith)
+-- ---- the loop
 
 starts-length : (b : List ℤ) → Laid b → length (row (rows_of b) start_row) ≡ (state_of b).node_limit
 unfolding Laid offset

@@ -11,4 +11,4 @@ words_of-requires g c =
 pub sized-requires : goal.sized-requires
 sized-requires g c =
     let f : Fits c.args.v c.args.e c.args.k c.args.n = sizes-fit _ _ _ _ (sym c.sizes_fit.ensures ∙ c.if-not-sizes_fit.false) in
-    (search rules, omega arith, omega arith, omega arith, omega arith)
+    (omega arith, omega arith, omega arith, omega arith)

@@ -11,7 +11,7 @@ use Rattle.table_words.specs.Handed.{row_of}
 use Rattle.table_refuse.specs.Refuse.{sizes_right, lengths_right}
 use Rattle.table_check.specs.Streamed.{Known, begun, advanced, after_rows, ended}
 use Rattle.table_check.specs.Theorems.{row-by-row}
-use Rattle.table_file.specs.File.{verdict_number}
+use Rattle.table_check.specs.declared.Verdict.{Verdict}
 use Rattle.tablecheck.specs.File.{RowsRead}
 
 module _ (v e : ℕ) (edges virtuals defects duals growths : List ℤ) where
@@ -63,16 +63,16 @@ module _ (v e : ℕ) (edges virtuals defects duals growths : List ℤ) where
 
   -- ---- behind the last
 
-  pub so-all : {i x : ℕ} {k : Known} → SoFar i k → i ≡ length defects → sizes_right v e edges ≡ true → length duals ≡ length defects → length growths ≡ 2 * e
-      → x ≡ verdict_number (ended e edges growths k) → RowsRead v e edges virtuals defects duals growths x
+  pub so-all : {i : ℕ} {x : Verdict} {k : Known} → SoFar i k → i ≡ length defects → sizes_right v e edges ≡ true → length duals ≡ length defects → length growths ≡ 2 * e
+      → x ≡ ended e edges growths k → RowsRead v e edges virtuals defects duals growths x
   so-all {i} {x} {k} s q sizes dual-count growth-count t =
       let long : length s.distances ≡ length defects * v = s.long ∙ ap (λ (j : ℕ). j * v) q in
       record {
         distances = s.distances;
         long = long;
-        told = t ∙ ap (λ (z : Known). verdict_number (ended e edges growths z)) s.known
-            ∙ ap (λ (j : ℕ). verdict_number (ended e edges growths (after_rows v e edges virtuals defects duals growths s.distances j))) q
-            ∙ ap verdict_number (row-by-row v e edges virtuals defects duals growths s.distances sizes (fitting long));
+        told = t ∙ ap (λ (z : Known). ended e edges growths z) s.known
+            ∙ ap (λ (j : ℕ). ended e edges growths (after_rows v e edges virtuals defects duals growths s.distances j)) q
+            ∙ row-by-row v e edges virtuals defects duals growths s.distances sizes (fitting long);
       }
     where
       fitting : length s.distances ≡ length defects * v → lengths_right v e defects duals growths s.distances ≡ true

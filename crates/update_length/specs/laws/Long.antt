@@ -8,11 +8,10 @@ use Rattle.graph.specs.State.{State, NodeClass, defect_vertex, blossom, removed,
 use Rattle.graph.specs.laws.State.{and_left, and_right, if-both, if-cases, fold-keeps}
 use Rattle.graph.specs.laws.Members.{both, by-test, clash, all-member}
 use Rattle.answers.specs.declared.Answer.{Answer}
-use Rattle.answers.specs.declared.Answer.TheVariants.{Length, Refused}
-use Rattle.answers.specs.declared.MaxUpdateLength.TheVariants.{Conflicting, TouchingVirtual}
+use Rattle.answers.specs.declared.Answer.TheVariants.{Length}
 use Rattle.answers.specs.Answer.{free_or, is_free}
 use Rattle.answers.specs.laws.Answer.{free-cases, free_other}
-use Rattle.update_length.specs.Scan.{half, is_zero, lesser, Look, skip, room, meets, gap_of, look_peer, look_free, look_held, look_grow, look_shrink, look, Scan, open-ended, within, over, with_look, scan_step, is_empty, scan_answer, scan_boundary, Peers, no_peer, peer, two_peers, meets_peer, meet, stop_step, stop_with, stop_answer, shrink_limit, scan}
+use Rattle.update_length.specs.Scan.{half, is_zero, lesser, Look, skip, room, meets, gap_of, look_peer, look_free, look_held, look_grow, look_shrink, look, Scan, open-ended, within, over, with_look, scan_step, is_empty, scan_answer, scan_boundary, Peers, no_peer, peer, two_peers, stop_step, stop_with, stop_answer, shrink_limit, scan}
 
 -- ---- lengths
 

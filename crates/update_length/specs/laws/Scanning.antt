@@ -17,7 +17,7 @@ use Rattle.answers.specs.declared.MaxUpdateLength.TheVariants.{BlossomNeedExpand
 use Rattle.update_length.specs.declared.look.Look as LookType
 use Rattle.update_length.specs.declared.join.Scan as ScanType
 use Rattle.update_length.specs.declared.stop.Peers.TheVariants.{NoPeer}
-use Rattle.update_length.specs.Scan.{Scan, open-ended, within, over, Look, gap_of, look, with_look, scan_step, is_empty, scan_answer, scan_boundary, Peers, no_peer, stop_step, stop_with, stop_answer, shrink_limit}
+use Rattle.update_length.specs.Scan.{Scan, open-ended, within, over, gap_of, look, with_look, scan_step, is_empty, scan_answer, scan_boundary, Peers, no_peer, stop_step, stop_with, stop_answer, shrink_limit}
 use Rattle.update_length.specs.inner.Length.{length_end, look_of, scan_of, within_in, is_over, Shows, Knows, peers_of}
 
 -- a boundary as a part of the block

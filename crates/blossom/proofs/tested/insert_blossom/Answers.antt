@@ -11,7 +11,6 @@ use Rattle.graph.specs.laws.Number.{word-entry}
 use Rattle.blossom.specs.laws.Blossom.{joined-read, blossom-refused, blossom-joinable, blossom-state-small, blossom-some, blossom-first, blossom-room, blossom-joins, blossom-done, blossom-wiped}
 use Rattle.calls.proofs.laws.Keeps.{asked-true, asked-as}
 use Rattle.blossom.specs.laws.Keeps.{blossom-refused-passes, blossom-accepted-asks}
-use borrow.Author.Rules.{rules}
 use Rattle.blossom.proofs.tested.insert_blossom.Goals.{Else-k-ne0}
 use Rattle.blossom.proofs.tested.insert_blossom.Goals.{After-t-2-1}
 use Rattle.blossom.proofs.tested.insert_blossom.Goals as goal

@@ -1,6 +1,5 @@
 use mathlib.Core.Path.{refl}
 use Rattle.calls.proofs.laws.Advance.{advance-refused, advance-stay}
-use borrow.Author.Rules.{rules}
 use Rattle.calls.proofs.advance.advance_none.Goals as goal
 
 pub returns-then-k-ne0 : goal.returns-then-k-ne0

@@ -1,6 +1,5 @@
 use native.Mathlib.Omega.{arith}
 use Rattle.calls.proofs.laws.Advance.{state-beyond}
-use borrow.Author.Rules.{rules}
 use Rattle.calls.proofs.advance.moves.Goals as goal
 
 pub returns-then-node_count-n : goal.returns-then-node_count-n

@@ -1,6 +1,5 @@
 use mathlib.Core.Path.{refl}
 use Rattle.calls.specs.Calls.{clear}
-use borrow.Author.Rules.{rules}
 use Rattle.calls.proofs.core_calls.clear_all.Goals as goal
 
 pub returns : goal.returns

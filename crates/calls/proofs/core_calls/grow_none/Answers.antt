@@ -1,5 +1,4 @@
 use Rattle.calls.proofs.laws.Replies.{none-refused, none_done}
-use borrow.Author.Rules.{rules}
 use Rattle.calls.proofs.core_calls.grow_none.Goals as goal
 
 pub returns-then-k-ne0 : goal.returns-then-k-ne0

@@ -2,7 +2,6 @@ use mathlib.Core.Path.{sym, ◌∙◌}
 use Rattle.graph.specs.Layout.{state_of}
 use Rattle.growth.proofs.laws.Moving.{growing-of}
 use Rattle.calls.proofs.laws.Replies.{growth-refused, growth-done}
-use borrow.Author.Rules.{rules}
 use Rattle.calls.proofs.core_calls.grow_prepared.Goals as goal
 
 pub returns-then-k-ne0 : goal.returns-then-k-ne0

@@ -1,7 +1,6 @@
 use mathlib.Core.Path.{refl}
 use Rattle.std.specs.Prelude.{false}
 use Rattle.calls.proofs.laws.Replies.{length-refused, length-accepted, length-plain, sound-scanned}
-use borrow.Author.Rules.{rules}
 use Rattle.calls.proofs.core_calls.length_unprepared.Goals as goal
 
 pub returns-then-k-ne0 : goal.returns-then-k-ne0

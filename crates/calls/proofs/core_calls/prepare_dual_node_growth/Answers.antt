@@ -1,5 +1,4 @@
 use Rattle.calls.proofs.laws.Replies.{usable-steady}
-use borrow.Author.Rules.{rules}
 use Rattle.calls.proofs.core_calls.prepare_dual_node_growth.Goals as goal
 
 pub prepare_toward-requires : goal.prepare_toward-requires

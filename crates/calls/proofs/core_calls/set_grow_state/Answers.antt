@@ -3,7 +3,6 @@ use native.Mathlib.Omega.{arith}
 use borrow.Author.Tests.{ltb-false}
 use Rattle.calls.proofs.laws.Replies.{set-refused, set-accepted, set-done}
 use Rattle.graph.specs.laws.Shape.{sound-active}
-use borrow.Author.Rules.{rules}
 use Rattle.calls.proofs.core_calls.set_grow_state.Goals as goal
 
 pub returns-then-k-ne0 : goal.returns-then-k-ne0

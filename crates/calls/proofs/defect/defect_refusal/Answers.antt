@@ -7,7 +7,6 @@ use Rattle.graph.specs.Layout.{state_of}
 use Rattle.graph.specs.laws.Members.{or-neither-left}
 use Rattle.calls.specs.Insert.{occupied}
 use Rattle.calls.proofs.laws.Defect.{defect-refusal-0, defect-refusal-3, defect-refusal-5, defect-refusal-8, defect-refusal-9}
-use borrow.Author.Rules.{rules}
 use Rattle.calls.proofs.defect.defect_refusal.Goals.{Else-vertex_count-v}
 use Rattle.calls.proofs.defect.defect_refusal.Goals.{Else-looked}
 use Rattle.calls.proofs.defect.defect_refusal.Goals.{Else-node_limit-node_count}

@@ -1,7 +1,6 @@
 use mathlib.Core.Path.{◌∙◌}
 use Rattle.pass.proofs.laws.Scratch.{scratch-same}
 use Rattle.calls.proofs.laws.Defect.{defect-block, defect-scratch, defect-count}
-use borrow.Author.Rules.{rules}
 use Rattle.calls.proofs.defect.hold_defect.Goals as goal
 
 pub hold_sides-requires : goal.hold_sides-requires

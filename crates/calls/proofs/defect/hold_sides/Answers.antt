@@ -1,8 +1,7 @@
-use Rattle.std.specs.Prelude.{ℕ, ◌-◌, List, get_or}
+use Rattle.std.specs.Prelude.{ℕ, List, get_or}
 use mathlib.Core.Path.{ap, ◌∙◌}
-use borrow.Author.Rules.{rules}
 use native.Mathlib.Omega.{arith}
-use Rattle.calls.proofs.laws.Defect.{HeldSides, held_none, held_same, held_more, held-size, held-all-block, held-all-scratch}
+use Rattle.calls.proofs.laws.Defect.{held_none, held_same, held_more, held-size, held-all-block, held-all-scratch}
 use Rattle.calls.proofs.defect.hold_sides.Goals as goal
 
 pub loop-i-init : goal.loop-i-init

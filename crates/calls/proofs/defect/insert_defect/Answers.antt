@@ -1,6 +1,5 @@
 use mathlib.Core.Path.{refl}
 use Rattle.calls.proofs.laws.Defect.{defect-refused, defect-inside, defect-small, defect-count-left, defect-class-small, defect-state-small, defect-read, defect-room, defect-joins, defect-done, defect-wiped}
-use borrow.Author.Rules.{rules}
 use Rattle.calls.proofs.defect.insert_defect.Goals as goal
 
 pub returns-then-k-ne0 : goal.returns-then-k-ne0

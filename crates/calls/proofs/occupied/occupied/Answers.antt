@@ -1,7 +1,6 @@
 use mathlib.Core.Path.{sym, ◌∙◌}
 use Rattle.graph.specs.Layout.{state_of}
 use Rattle.calls.proofs.laws.Occupied.{decides-occupied, decides-read, sides-occupied, sides-read}
-use borrow.Author.Rules.{rules}
 use Rattle.calls.proofs.occupied.occupied.Goals as goal
 
 pub returns-then-vertex_decides : goal.returns-then-vertex_decides

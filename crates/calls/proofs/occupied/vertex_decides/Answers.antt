@@ -1,4 +1,3 @@
-use borrow.Author.Rules.{rules}
 use Rattle.calls.specs.Occupied.{vertex_decides}
 use Rattle.calls.proofs.occupied.vertex_decides.Goals as goal
 

@@ -1,11 +1,9 @@
-use Rattle.std.specs.Prelude.{◌≡◌, ◌-◌, ◌≤◌, length, take}
+use Rattle.std.specs.Prelude.{◌≡◌, length}
 use mathlib.Core.Path.{sym, refl, ◌∙◌}
 use Rattle.graph.specs.laws.Form.{laid-shape}
-use borrow.Author.Rules.{rules}
 use native.Mathlib.Omega.{arith}
 use Rattle.graph.specs.Layout.{state_of}
 use Rattle.calls.specs.Calls.{growth_table}
-use Rattle.calls.specs.Reply.{placed}
 use Rattle.calls.proofs.laws.Read.{table_more, table-all, placed-none}
 use Rattle.calls.proofs.read.read_table.Goals.{After-side_count-m}
 use Rattle.calls.proofs.read.read_table.Goals as goal
@@ -17,7 +15,7 @@ unfolding growth_table
 sized c = (laid-shape c.args.b.now c.requires.0.laid).growth ∙ sym c.side_count-m.ensures.0
 
 pub loop-s-init : goal.loop-s-init
-loop-s-init c = (sym (placed-none c.args.table.now), omega arith, refl)
+loop-s-init c = (sym (placed-none c.args.table.now), refl)
 
 pub loop-s-preserved : goal.loop-s-preserved
 unfolding growth_table
@@ -27,8 +25,7 @@ loop-s-preserved c =
       c.put.ensures
           ∙ table_more (growth_table (state_of c.args.b.now)) c.args.table.now q.s (omega (arith, z))
           (omega (arith, z, c.requires.1)) q.invariant.0 c.growth-g.ensures.0,
-      omega arith,
-      c.put.auto.b ∙ q.invariant.2,
+      c.put.auto.b ∙ q.invariant.1,
     )
 
 pub returns : goal.returns

@@ -2,7 +2,6 @@ use Rattle.calls.proofs.laws.Refuse.{bad-outside, bad-removed}
 use native.Mathlib.Omega.{arith}
 use mathlib.Core.Path.{◌∙◌}
 use Rattle.graph.specs.Layout.{state_of}
-use borrow.Author.Rules.{rules}
 use Rattle.calls.proofs.refuse.bad_node.Goals as goal
 
 pub returns-then-node_count-n : goal.returns-then-node_count-n

@@ -1,6 +1,5 @@
 use native.Mathlib.Omega.{arith}
 use Rattle.graph.specs.Sound.{entries_of}
-use borrow.Author.Rules.{rules}
 use Rattle.calls.proofs.refuse.entries_of.Goals as goal
 
 pub returns : goal.returns

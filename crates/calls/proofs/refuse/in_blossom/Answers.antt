@@ -1,5 +1,4 @@
 use Rattle.calls.specs.Refuse.{in_blossom}
-use borrow.Author.Rules.{rules}
 use Rattle.calls.proofs.refuse.in_blossom.Goals as goal
 
 pub returns : goal.returns

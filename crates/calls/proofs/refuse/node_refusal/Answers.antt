@@ -5,7 +5,6 @@ use Rattle.graph.specs.Layout.{state_of}
 use Rattle.graph.specs.laws.Members.{or-neither-left}
 use Rattle.calls.specs.Refuse.{bad_node, in_blossom}
 use Rattle.calls.proofs.laws.Refuse.{good-inside, refuses-number, refuses-inner, refuses-store, refuses-not}
-use borrow.Author.Rules.{rules}
 use Rattle.calls.proofs.refuse.node_refusal.Goals.{Else-bad_node-wrong}
 use Rattle.calls.proofs.refuse.node_refusal.Goals.{Else-in_blossom}
 use Rattle.calls.proofs.refuse.node_refusal.Goals as goal

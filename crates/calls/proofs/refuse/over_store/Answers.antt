@@ -1,7 +1,6 @@
 use native.Mathlib.Omega.{arith}
 use native.Mathlib.Nat.{mul-le-mul}
 use Rattle.std.specs.Prelude.{◌+◌, ◌*◌, ◌≤◌}
-use borrow.Author.Rules.{rules}
 use Rattle.calls.proofs.refuse.over_store.Goals.{After-store_limit}
 use Rattle.calls.proofs.refuse.over_store.Goals as goal
 

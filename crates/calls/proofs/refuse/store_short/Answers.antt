@@ -1,10 +1,9 @@
 use Rattle.graph.specs.laws.List.{store-max}
 use native.Mathlib.Omega.{arith}
-use Rattle.std.specs.Prelude.{◌-◌, ◌≤◌}
+use Rattle.std.specs.Prelude.{◌≤◌}
 use mathlib.Core.Path.{◌∙◌}
 use Rattle.graph.specs.Layout.{state_of}
 use Rattle.calls.proofs.laws.Refuse.{entries_with, short-node}
-use borrow.Author.Rules.{rules}
 use Rattle.calls.proofs.refuse.store_short.Goals.{After-entries_of-own}
 use Rattle.calls.proofs.refuse.store_short.Goals as goal
 

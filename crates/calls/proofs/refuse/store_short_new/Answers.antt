@@ -3,7 +3,6 @@ use native.Mathlib.Omega.{arith}
 use mathlib.Core.Path.{◌∙◌}
 use Rattle.graph.specs.Layout.{state_of}
 use Rattle.calls.proofs.laws.Refuse.{short-new}
-use borrow.Author.Rules.{rules}
 use Rattle.calls.proofs.refuse.store_short_new.Goals as goal
 
 pub over_store-requires : goal.over_store-requires

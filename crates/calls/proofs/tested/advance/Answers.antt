@@ -3,7 +3,6 @@ use Rattle.calls.proofs.laws.Accepted.{node-accepted}
 use Rattle.calls.proofs.laws.Advance.{advance-refused, advance-stay, advance-moves}
 use Rattle.graph.specs.Layout.{state_of}
 use Rattle.calls.proofs.laws.Keeps.{asked-true, asked-as, advance-refused-passes, advance-stay-passes, advance-moves-asks}
-use borrow.Author.Rules.{rules}
 use Rattle.calls.proofs.tested.advance.Goals as goal
 
 pub returns-then-k-ne0 : goal.returns-then-k-ne0

@@ -13,7 +13,7 @@ use Rattle.calls.specs.Calls.{max_update_length, toward, follow}
 use Rattle.calls.specs.Keeps.{follow_keeps}
 use Rattle.calls.proofs.laws.Advance.{length-below, advance-other, advance-free}
 use Rattle.calls.proofs.laws.Keeps.{asked-as, asked-both, moves-handed, moves-followed}
-use borrow.Author.Rules.{rules, sfits_of}
+use borrow.Author.Rules.{sfits_of}
 use Rattle.calls.proofs.tested.advance_by.Goals as goal
 
 -- an answer that is no length is handed back, and asks nothing

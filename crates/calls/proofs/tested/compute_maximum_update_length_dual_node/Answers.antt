@@ -1,7 +1,6 @@
 use mathlib.Core.Path.{refl}
 use Rattle.graph.specs.Layout.{state_of}
 use Rattle.calls.proofs.laws.Keeps.{asked-true, length-plain-passes}
-use borrow.Author.Rules.{rules}
 use Rattle.calls.proofs.tested.compute_maximum_update_length_dual_node.Goals as goal
 
 pub returns-then-first : goal.returns-then-first

@@ -5,7 +5,6 @@ use mir.Facts.{to_z-of_z}
 use Rattle.graph.specs.Layout.{state_of}
 use Rattle.calls.proofs.laws.Replies.{along-forth, along-back, steady-other}
 use Rattle.calls.proofs.laws.Keeps.{asked-true, asked-as, along-none-passes, along-forth-asks, along-back-asks}
-use borrow.Author.Rules.{rules}
 use Rattle.calls.proofs.tested.grow_along.Goals as goal
 
 pub returns-then-l-eq0 : goal.returns-then-l-eq0

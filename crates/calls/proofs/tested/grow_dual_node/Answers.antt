@@ -2,7 +2,6 @@ use native.Mathlib.Omega.{arith}
 use mathlib.Core.Path.{refl}
 use mir.Facts.{to_z-of_z}
 use Rattle.calls.proofs.laws.Replies.{usable-steady, along-up}
-use borrow.Author.Rules.{rules}
 use Rattle.calls.proofs.tested.grow_dual_node.Goals as goal
 
 pub grow_along-requires : goal.grow_along-requires

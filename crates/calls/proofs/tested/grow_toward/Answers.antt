@@ -2,7 +2,6 @@ use mathlib.Core.Path.{refl}
 use Rattle.graph.specs.Layout.{state_of}
 use Rattle.calls.proofs.laws.Replies.{accepted-ready, accepted-able, prepared-grows, toward-refused, toward-accepted, toward-done}
 use Rattle.calls.proofs.laws.Keeps.{asked-true, asked-as, toward-refused-passes, toward-accepted-asks}
-use borrow.Author.Rules.{rules}
 use Rattle.calls.proofs.tested.grow_toward.Goals as goal
 
 pub returns-then-k-ne0 : goal.returns-then-k-ne0

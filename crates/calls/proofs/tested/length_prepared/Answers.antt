@@ -3,7 +3,6 @@ use Rattle.std.specs.Prelude.{true}
 use Rattle.graph.specs.Layout.{state_of}
 use Rattle.calls.proofs.laws.Replies.{length-refused, length-accepted, length-prepared, usable-steady, accepted-ready, accepted-able, prepared-grows, prepared-steady}
 use Rattle.calls.proofs.laws.Keeps.{asked-true, asked-as, length-refused-passes, length-accepted-asks}
-use borrow.Author.Rules.{rules}
 use Rattle.calls.proofs.tested.length_prepared.Goals as goal
 
 pub returns-then-k-ne0 : goal.returns-then-k-ne0

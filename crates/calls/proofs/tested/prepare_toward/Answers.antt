@@ -2,7 +2,6 @@ use mathlib.Core.Path.{refl}
 use Rattle.graph.specs.Layout.{state_of}
 use Rattle.calls.proofs.laws.Replies.{prepare-refused, prepare-accepted, prepare-done, accepted-ready, accepted-able}
 use Rattle.calls.proofs.laws.Keeps.{asked-true, asked-as, prepare-refused-passes, prepare-accepted-asks}
-use borrow.Author.Rules.{rules}
 use Rattle.calls.proofs.tested.prepare_toward.Goals as goal
 
 pub returns-then-k-ne0 : goal.returns-then-k-ne0

@@ -1,12 +1,8 @@
 use Rattle.graph_tests.specs.inner.Walk.{reached_at}
 use Rattle.graph.specs.Basic.{all_below}
-use Prim.Native.Nat.{◌-◌, ◌≤◌}
 use mathlib.Core.Bool.{true}
 use mathlib.Core.Path.{◌≡◌}
 use Rattle.graph_tests.proofs.edges.all_reached.Given as goal
 
 abbrev pub invariant-loop-v : goal.invariant-loop-v
-invariant-loop-v l = (l.v ≤ l.n) × (all_below (reached_at l.b l.next) l.v ≡ true)
-
-abbrev pub decreases-loop-v : goal.decreases-loop-v
-decreases-loop-v l = l.n - l.v
+invariant-loop-v l = (all_below (reached_at l.b l.next) l.v ≡ true)

@@ -11,32 +11,15 @@ use Prim.Native.Nat.{◌+◌, ◌*◌, ◌<◌}
 use mathlib.Core.Bool.{◌&&◌, true, false}
 use mathlib.Core.Path.{◌≡◌, sym, ap, ◌∙◌}
 use native.Mathlib.Omega.{arith}
-use borrow.Author.Rules.{rules}
 use Rattle.graph_tests.proofs.edges.edge_sound.Goals as goal
-
-pub overflow_mul-i : goal.overflow_mul-i
-unfolding Laid
-overflow_mul-i c = search rules
 
 pub below-x-requires : goal.below-x-requires
 unfolding Laid
 below-x-requires c = let p = c.requires in (omega (arith, p.2.ends.size), omega (arith, c.vertex_count-v.ensures))
 
-pub overflow_mul-i-2 : goal.overflow_mul-i-2
-unfolding Laid
-overflow_mul-i-2 c = search rules
-
-pub overflow_add-i : goal.overflow_add-i
-unfolding Laid
-overflow_add-i c = search rules
-
 pub below-y-requires : goal.below-y-requires
 unfolding Laid
 below-y-requires c = let p = c.requires in (omega (arith, p.2.ends.size), omega (arith, c.vertex_count-v.ensures))
-
-pub overflow_mul-i-then-x-y : goal.overflow_mul-i-then-x-y
-unfolding Laid
-overflow_mul-i-then-x-y c = search rules
 
 pub number-p-requires : goal.number-p-requires
 unfolding Laid
@@ -44,14 +27,6 @@ number-p-requires c = let w = word_at c.args.end.now (2 * c.args.i) in
     let v = c.vertex_count-v.result in
     let h = ltb-true w v (sym c.below-x.ensures ∙ and_left c.below-x.result c.below-y.result c.if-x-y.true) in
     (omega (arith, c.requires.2.ends.size), omega (arith, h, c.vertex_count-v.ensures))
-
-pub overflow_mul-i-then-x-y-2 : goal.overflow_mul-i-then-x-y-2
-unfolding Laid
-overflow_mul-i-then-x-y-2 c = search rules
-
-pub overflow_add-i-then-x-y : goal.overflow_add-i-then-x-y
-unfolding Laid
-overflow_add-i-then-x-y c = search rules
 
 pub number-q-requires : goal.number-q-requires
 unfolding Laid

@@ -3,11 +3,7 @@ use borrow.Author.Tests.{lt-ltb, le-ltb}
 use Rattle.graph.specs.State.{side_count}
 use Rattle.graph.specs.Layout.{state_of}
 use native.Mathlib.Omega.{arith}
-use Rattle.graph.specs.laws.SidesAt.{laid-sides}
 use Rattle.graph_tests.proofs.edges.placed_at.Goals as goal
-
-pub holds-requires : goal.holds-requires
-holds-requires c = (omega (arith, c.requires.2.size), omega (arith, laid-sides c.args.b.now c.requires.0))
 
 pub returns-then-p-side_count : goal.returns-then-p-side_count
 unfolding placed_at

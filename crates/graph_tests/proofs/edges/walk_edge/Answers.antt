@@ -1,9 +1,6 @@
 use Rattle.graph.specs.laws.Shape.{edge-facts}
 use Rattle.graph.specs.Form.{Laid}
 use Rattle.graph.specs.Layout.{state_of}
-use Prim.Native.Nat.{◌+◌, ◌*◌}
-use lib.Dec.{T}
-use mathlib.Core.Path.{◌≡◌, sym, subst}
 use native.Mathlib.Omega.{arith}
 use borrow.Author.Rules.{rules}
 use Rattle.graph_tests.proofs.edges.walk_edge.Goals as goal
@@ -37,11 +34,3 @@ walk_side-requires-then-walk_side c = let f = edge-facts (state_of c.args.b.now)
   search rules,
   c.walk_side.ensures.0 c.if-walk_side.true,
 )
-
-pub returns-then-walk_side : goal.returns-then-walk_side
-returns-then-walk_side c = let w = c.walk_side-then-walk_side in
-    let z : 2 * (c.args.i + 1) ≡ 2 * c.args.i + 1 + 1 = omega arith in
-    (λ e. rw z (w.ensures.0 e), λ e. w.ensures.1 e)
-
-pub returns-else-walk_side : goal.returns-else-walk_side
-returns-else-walk_side c = (λ e. absurd (subst T (sym e) tt), λ e. c.walk_side.ensures.1 c.if-walk_side.false)

@@ -26,17 +26,9 @@ pub bounds-next-v : goal.bounds-next-v
 unfolding state_of state_from
 bounds-next-v c = omega (arith, c.number-v.ensures ∙ c.requires.4.words c.args.s c.requires.2, c.requires.3, c.requires.6)
 
-pub overflow_add-p : goal.overflow_add-p
-unfolding Laid placed_at
-overflow_add-p c = let p = c.wide-p.result in
-    let b = c.args.b.now in
-    let h = ltb-true p (side_count (state_of b))
-    (and_left (ltb p (side_count (state_of b))) (eqb (get_or (row (rows_of b) at_row) p 0) c.args.s) (sym c.placed_at.ensures ∙ c.if-placed_at.true)) in
-    omega (arith, h)
-
 pub place-requires : goal.place-requires
 unfolding Laid placed_at
-place-requires c = let p = c.wide-p.result in
+place-requires c = let p = c.from-p.result in
     let b = c.args.b.now in
     let h = ltb-true p (side_count (state_of b))
     (and_left (ltb p (side_count (state_of b))) (eqb (get_or (row (rows_of b) at_row) p 0) c.args.s) (sym c.placed_at.ensures ∙ c.if-placed_at.true)) in
@@ -57,7 +49,7 @@ returns-then-placed_at c = let b = c.args.b.now in
     let l = c.args.next.now in
     let ev : c.number-v.result ≡ end_at (state_of b) k =
     c.number-v.ensures ∙ c.requires.4.words k c.requires.2 in
-    let ep : c.wide-p.result ≡ get_or l (end_at (state_of b) k) 0 = c.wide-p.ensures.0 ∙ ap (λ v. get_or l v 0) ev in
+    let ep : c.from-p.result ≡ get_or l (end_at (state_of b) k) 0 = c.from-p.ensures ∙ ap (λ v. get_or l v 0) ev in
     let e : placed_at b (get_or l (end_at (state_of b) k) 0) k ≡ true = rw (← ep) (sym c.placed_at.ensures ∙ c.if-placed_at.true) in
     let z : c.place.result ≡ get_or l (end_at (state_of b) k) 0 + 1 = c.place.ensures ∙ ap (λ p. p + 1) ep in (
       λ i. rw (ev, z) (walking-more b k l c.requires.7 c.requires.3 (omega (arith, c.requires.3, c.requires.6)) e),
@@ -71,6 +63,6 @@ returns-else-placed_at c = let b = c.args.b.now in
     let l = c.args.next.now in
     let ev : c.number-v.result ≡ end_at (state_of b) k =
     c.number-v.ensures ∙ c.requires.4.words k c.requires.2 in
-    let ep : c.wide-p.result ≡ get_or l (end_at (state_of b) k) 0 = c.wide-p.ensures.0 ∙ ap (λ v. get_or l v 0) ev in
+    let ep : c.from-p.result ≡ get_or l (end_at (state_of b) k) 0 = c.from-p.ensures ∙ ap (λ v. get_or l v 0) ev in
     let e : placed_at b (get_or l (end_at (state_of b) k) 0) k ≡ false = rw (← ep) (sym c.placed_at.ensures ∙ c.if-placed_at.false) in
     (λ i. absurd (subst T (sym i) tt), λ i. walking-fails b k l c.requires.7 c.requires.3 c.requires.0 c.requires.1 c.requires.2 e)

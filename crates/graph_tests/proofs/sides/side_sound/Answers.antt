@@ -1,24 +1,11 @@
-use Rattle.graph.specs.laws.State.{and_right}
 use Rattle.graph.specs.Layout.{state_of, state_from}
 use Rattle.graph.specs.Sound.{side_sound, node_or_none, stored_defect}
 use Rattle.graph.specs.Open.{growth_limit}
 use Rattle.graph.specs.State.{node_count, growth_at, holder_at, grandson_at}
-use Rattle.graph.specs.Word.{word_at}
 use Rattle.graph_tests.specs.laws.Range.{side-free, side-held, side-out}
-use borrow.Author.Tests.{leb-true}
 use lib.Dec.{leb, eqb}
 use mathlib.Core.Path.{◌≡◌, sym, ap, ◌∙◌}
-use native.Mathlib.Omega.{arith}
 use Rattle.graph_tests.proofs.sides.side_sound.Goals as goal
-
-pub number-requires : goal.number-requires
-number-requires c = let k = c.node_count-c in
-    let a = c.at_most-g in
-    let x = c.at_most-x in
-    let m =
-    leb-true (word_at c.args.grandson.now c.args.s) k.result
-    (sym x.ensures ∙ and_right a.result x.result c.if-g-x.true) in
-    (omega (arith, c.requires.2.grandsons.size), omega (arith, m, k.ensures))
 
 pub returns-then-holds : goal.returns-then-holds
 unfolding side_sound node_or_none state_of state_from

@@ -14,14 +14,9 @@ unfolding all_below
 loop-s-init c = search rules
 
 pub loop-s-preserved : goal.loop-s-preserved
-loop-s-preserved c = (search rules, all_more _ _ c.loop-s.invariant.1 (cc))
+loop-s-preserved c = (all_more _ _ c.loop-s.invariant (cc))
 
-pub returns-else-side_sound : goal.returns-else-side_sound
-returns-else-side_sound c = let b = c.args.b.now in
+pub returns-then-not-side_sound : goal.returns-then-not-side_sound
+returns-then-not-side_sound c = let b = c.args.b.now in
     let q : side_sound (state_of b) c.loop-s.s ≡ false = cc in
     sym (all-fails (side_sound (state_of b)) (side_count (state_of b)) c.loop-s.s (omega arith) q)
-
-pub returns : goal.returns
-returns c = let b = c.args.b.now in
-    let z : c.loop-s.s ≡ side_count (state_of b) = omega arith in
-    rw (← z) (sym c.loop-s.invariant.1)

@@ -1,13 +1,9 @@
 use Rattle.graph.specs.Sound.{side_sound}
 use Rattle.graph.specs.Layout.{state_of}
 use Rattle.graph.specs.Basic.{all_below}
-use Prim.Native.Nat.{◌-◌, ◌≤◌}
 use mathlib.Core.Bool.{true}
 use mathlib.Core.Path.{◌≡◌}
 use Rattle.graph_tests.proofs.sides.sides_in.Given as goal
 
 abbrev pub invariant-loop-s : goal.invariant-loop-s
-invariant-loop-s l = (l.s ≤ l.n) × (all_below (side_sound (state_of l.b)) l.s ≡ true)
-
-abbrev pub decreases-loop-s : goal.decreases-loop-s
-decreases-loop-s l = l.n - l.s
+invariant-loop-s l = (all_below (side_sound (state_of l.b)) l.s ≡ true)

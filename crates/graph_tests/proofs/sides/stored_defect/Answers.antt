@@ -7,14 +7,7 @@ use Rattle.graph.specs.State.{node_count}
 use Rattle.graph.specs.Sound.{stored_defect}
 use Rattle.graph.specs.Layout.{state_of}
 use Rattle.graph.specs.laws.Scan.{both-le, defect-node}
-use borrow.Author.Rules.{rules}
 use Rattle.graph_tests.proofs.sides.stored_defect.Goals as goal
-
-pub overflow_sub-x : goal.overflow_sub-x
-overflow_sub-x c = let q = both-le c.args.x c.node_count-c.result c.if-x-c.true in omega arith
-
-pub node_word-requires : goal.node_word-requires
-node_word-requires c = let q = both-le c.args.x c.node_count-c.result c.if-x-c.true in search rules
 
 pub returns-then-x-c : goal.returns-then-x-c
 unfolding stored_defect

@@ -1,11 +1,7 @@
 use Rattle.graph_tests.specs.laws.Begin.{Begun}
 use lib.ListN.{length}
-use Prim.Native.Nat.{◌-◌, ◌≤◌}
 use mathlib.Core.Path.{◌≡◌}
 use Rattle.graph_tests.proofs.vertices.vertices_in.Given as goal
 
 abbrev pub invariant-loop-v : goal.invariant-loop-v
-invariant-loop-v l = (l.v ≤ l.n) × Begun l.b l.v l.a l.next × (length l.next ≡ length l.initial.next)
-
-abbrev pub decreases-loop-v : goal.decreases-loop-v
-decreases-loop-v l = l.n - l.v
+invariant-loop-v l = Begun l.b l.v l.a l.next × (length l.next ≡ length l.initial.next)

@@ -8,7 +8,7 @@ use Rattle.graph.specs.Layout.{state_of}
 use Rattle.pass.specs.inner.Once.{grow_step_once}
 use Rattle.graph.specs.laws.State.{kept-boundary}
 use Rattle.grow_pass.specs.laws.Growing.{loop-none, loop-more, loop-all}
-use Rattle.grow_pass.specs.laws.Grow.{start-working, scan-length, scan-sides, scan-all, start_fits, step_count, step_fits, keeping-grow-step}
+use Rattle.grow_pass.specs.laws.Grow.{start-working, scan-sides, scan-all, start_fits, step_count, step_fits, keeping-grow-step}
 use Rattle.grow_pass.proofs.grow.grow_scan.Goals as goal
 
 pub loop-i-init : goal.loop-i-init
@@ -21,12 +21,14 @@ loop-i-init c = (
 
 pub boundary_side-s-requires : goal.boundary_side-s-requires
 boundary_side-s-requires c = let q = c.loop-i.invariant.0 in
-    let f = q.worked.working.formed in
-    (f.laid, f.listed, q.worked.working.node, scan-sides q c.requires.4, rw (kept-boundary q.kept c.args.n) (omega arith))
-
-pub grow_step-q-requires : goal.grow_step-q-requires
-grow_step-q-requires c = let q = c.loop-i.invariant in
-    (q.0.worked.working, omega arith, omega arith, q.2)
+    let f = q.worked.working.formed in (
+      f.laid,
+      f.listed,
+      q.worked.working.node,
+      scan-sides q c.requires.4,
+      rw (kept-boundary q.kept c.args.n)
+          (omega arith),
+    )
 
 pub loop-i-preserved : goal.loop-i-preserved
 loop-i-preserved c = let q = c.loop-i.invariant in
@@ -42,10 +44,6 @@ loop-i-preserved c = let q = c.loop-i.invariant in
       omega (arith, step_count q.0.worked.working v.result x, q.1),
       step_fits q.0.worked.working v.result (omega arith) x q.2,
     )
-
-pub shape_of-t : goal.shape_of-t
-shape_of-t c =
-    scan-length (start-working c.requires.0 c.requires.1 c.requires.2 c.requires.3) c.loop-i.invariant.0
 
 pub returns : goal.returns
 returns c = scan-all c.args.t.now (loop-all c.loop-i.invariant.0 (omega arith))

@@ -7,7 +7,7 @@ use mathlib.Core.Path.{ap, ◌∙◌}
 use Rattle.graph.specs.State.{sides_at}
 use Rattle.graph.specs.Layout.{state_of}
 use Rattle.pass.specs.Grow.{take_side}
-use Rattle.grow_pass.specs.laws.Growing.{loop-none, loop-more, loop-all}
+use Rattle.grow_pass.specs.laws.Growing.{loop-none, loop-more}
 use Rattle.grow_pass.specs.laws.Take.{keeping-take-side, own-taken}
 use Rattle.grow_pass.proofs.take.take_sides.Goals as goal
 
@@ -16,11 +16,6 @@ loop-i-init c = (
   loop-none (take_side c.args.n c.args.g) (sides_at (state_of c.args.b.now) c.args.v) c.requires.0,
   c.requires.1,
 )
-
-pub vertex_side-s-requires : goal.vertex_side-s-requires
-vertex_side-s-requires c = let q = c.loop-i.invariant.0 in
-    let e = kept-sides q.kept c.args.v in
-    (q.worked.working.formed, omega arith, rw e (omega arith))
 
 pub loop-i-preserved : goal.loop-i-preserved
 loop-i-preserved c = let a = c.args in
@@ -31,6 +26,3 @@ loop-i-preserved c = let a = c.args in
           (v.ensures.0 ∙ ap (λ (l : List ℕ). get_or l c.loop-i.i 0) (kept-sides q.0.kept a.v)) x,
       own-taken q.0.worked.working a.g v.result q.1 (omega arith) x,
     )
-
-pub returns : goal.returns
-returns c = loop-all c.loop-i.invariant.0 (omega arith)

@@ -1,4 +1,3 @@
-use Prim.Native.Nat.{◌-◌}
 use Rattle.graph.specs.State.{sides_at}
 use Rattle.graph.specs.Layout.{state_of}
 use Rattle.pass.specs.Grow.{take_side}
@@ -7,7 +6,5 @@ use Rattle.grow_pass.specs.laws.Growing.{Looped}
 use Rattle.grow_pass.proofs.take.take_sides.Given as goal
 
 abbrev pub invariant-loop-i : goal.invariant-loop-i
-invariant-loop-i l = Looped (take_side l.n l.g) l.initial.b l.initial.t l.b l.t l.n l.m l.initial.q l.q (sides_at (state_of l.initial.b) l.v) l.i × OwnKept l.b l.t l.n l.m l.q
-
-abbrev pub decreases-loop-i : goal.decreases-loop-i
-decreases-loop-i l = l.l - l.i
+invariant-loop-i l = Looped (take_side l.n l.g) l.initial.b l.initial.t l.b l.t l.n l.m l.initial.q l.q
+    (sides_at (state_of l.initial.b) l.v) l.i × OwnKept l.b l.t l.n l.m l.q

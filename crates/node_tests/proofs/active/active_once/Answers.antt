@@ -1,12 +1,10 @@
 use native.Mathlib.Omega.{arith}
-use mathlib.Core.Path.{◌≡◌, refl}
-use Prim.Native.Nat.{◌-◌}
+use mathlib.Core.Path.{refl}
 use lib.Dec.{ltb}
-use lib.ListN.{length, length-set}
+use lib.ListN.{length-set}
 use Rattle.graph.specs.State.{node_count}
 use Rattle.graph.specs.Layout.{state_of}
 use Rattle.graph.specs.Form.{Laid}
-use Rattle.graph.specs.inner.Scans.{Stamped}
 use Rattle.graph.specs.laws.Stamp.{stamped-all}
 use Rattle.node_tests.specs.laws.Active.{none-met, met-more, met-again, met-outside}
 use borrow.Author.Rules.{rules}
@@ -41,9 +39,9 @@ returns-else-marks-n-ne1 c = let x = state_of c.args.b.now in
     met-again (node_count x) x.active c.loop-i.i c.loop-i.marks c.loop-i.invariant.0 y.result (omega arith)
     y.ensures.0 (omega arith) (omega arith) c.if-marks-n-ne1.false
 
-pub returns-else-n-m : goal.returns-else-n-m
+pub returns-then-m-n : goal.returns-then-m-n
 unfolding Laid
-returns-else-n-m c = let x = state_of c.args.b.now in
+returns-then-m-n c = let x = state_of c.args.b.now in
     let y = c.active_node-n in
     let h = c.loop-i-test.true in
     met-outside (node_count x) x.active c.loop-i.i c.loop-i.marks c.loop-i.invariant.0 y.result (omega arith) y.ensures.0 (omega arith) (omega arith)

@@ -1,7 +1,6 @@
 use Rattle.node_tests.specs.laws.Active.{once-active}
 use Rattle.graph.specs.Layout.{state_of}
 use mathlib.Core.Path.{◌∙◌}
-use borrow.Author.Rules.{rules}
 use Rattle.node_tests.proofs.active.active_sound.Goals as goal
 
 pub returns : goal.returns

@@ -2,7 +2,6 @@ use native.Mathlib.Omega.{arith}
 use mathlib.Core.Path.{◌≡◌}
 use Rattle.graph.specs.laws.List.{lists_of, overgrown-entry}
 use Rattle.graph.specs.inner.Lists.{olen_word, blen_word}
-use borrow.Author.Rules.{rules}
 use Rattle.node_tests.proofs.node_lists.entry_place.Goals as goal
 
 pub returns : goal.returns

@@ -8,7 +8,6 @@ use mathlib.Core.Bool.{true, false}
 use lib.ListN.{get_or}
 use mathlib.Core.Path.{◌≡◌, sym, ◌∙◌}
 use native.Mathlib.Omega.{arith}
-use borrow.Author.Rules.{rules}
 use Rattle.node_tests.proofs.node_lists.entry_sound.Goals as goal
 
 pub at_most-requires : goal.at_most-requires

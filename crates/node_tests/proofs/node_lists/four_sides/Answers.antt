@@ -1,5 +1,4 @@
 use Rattle.node_tests.specs.inner.Four.{four}
-use borrow.Author.Rules.{rules}
 use Rattle.node_tests.proofs.node_lists.four_sides.Goals as goal
 
 pub returns : goal.returns

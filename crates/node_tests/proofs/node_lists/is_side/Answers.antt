@@ -1,6 +1,5 @@
 use mathlib.Core.Path.{◌∙◌}
 use native.Mathlib.Omega.{arith}
-use borrow.Author.Rules.{rules}
 use Rattle.node_tests.proofs.node_lists.is_side.Goals as goal
 
 pub below-requires : goal.below-requires

@@ -1,5 +1,4 @@
 use mathlib.Core.Path.{sym, ◌∙◌}
-use borrow.Author.Rules.{rules}
 use Rattle.node_tests.proofs.node_lists.lists_sound.Goals as goal
 
 pub returns-then-boundary_sound : goal.returns-then-boundary_sound

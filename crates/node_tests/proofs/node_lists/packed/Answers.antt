@@ -1,9 +1,7 @@
-use borrow.Author.Rules.{rules}
-use Prim.Native.Nat.{◌-◌}
 use native.Mathlib.Omega.{arith}
 use mathlib.Core.Path.{◌≡◌, sym, ◌∙◌}
 use mathlib.Core.Bool.{true, false}
-use Rattle.node_tests.specs.laws.Pack.{fits-of, Packing, node_fits, packing-none, packing-more, packing-fails, packing-all}
+use Rattle.node_tests.specs.laws.Pack.{fits-of, node_fits, packing-none, packing-more, packing-fails, packing-all}
 use Rattle.node_tests.proofs.node_lists.packed.Goals as goal
 
 pub loop-n-init : goal.loop-n-init
@@ -15,16 +13,16 @@ overflow_add-a c =
     fits-of c.loop-n.a
     c.store_limit-l.result
     c.node_word-s.result c.node_word-k.result
-    c.node_word-o.result (sym c.fits_at.ensures ∙ c.if-fits_at.true) in
+    c.node_word-o.result (sym c.fits_at.ensures ∙ c.if-not-fits_at.false) in
     omega arith
 
-pub overflow_add-a-then-fits_at : goal.overflow_add-a-then-fits_at
-overflow_add-a-then-fits_at c =
+pub overflow_add-a-in-loop-n : goal.overflow_add-a-in-loop-n
+overflow_add-a-in-loop-n c =
     let f =
     fits-of c.loop-n.a
     c.store_limit-l.result
     c.node_word-s.result c.node_word-k.result
-    c.node_word-o.result (sym c.fits_at.ensures ∙ c.if-fits_at.true) in
+    c.node_word-o.result (sym c.fits_at.ensures ∙ c.if-not-fits_at.false) in
     omega arith
 
 pub loop-n-preserved : goal.loop-n-preserved
@@ -36,8 +34,8 @@ loop-n-preserved c =
     rw (c.node_word-k.ensures.0, c.node_word-o.ensures.0)
     (packing-more b c.requires n a c.loop-n.invariant (omega arith) e)
 
-pub returns-else-fits_at : goal.returns-else-fits_at
-returns-else-fits_at c =
+pub returns-then-not-fits_at : goal.returns-then-not-fits_at
+returns-then-not-fits_at c =
     let b = c.args.b.now in
     let n = c.loop-n.n in
     let a = c.loop-n.a in

@@ -1,7 +1,6 @@
 use Rattle.graph.specs.Sound.{parent_sound, node_or_none}
 use Rattle.graph.specs.Layout.{state_of, state_from}
 use Rattle.graph.specs.laws.Scan.{node-get}
-use borrow.Author.Rules.{rules}
 use Rattle.node_tests.proofs.nodes.parent_sound.Goals as goal
 
 pub returns : goal.returns

@@ -5,7 +5,6 @@ use borrow.Author.Tests.{ltb-true}
 use lib.ListN.{get_or}
 use mathlib.Core.Path.{◌∙◌}
 use native.Mathlib.Omega.{arith}
-use borrow.Author.Rules.{rules}
 use Rattle.node_tests.proofs.own_lists.side_at.Goals as goal
 
 pub number-requires : goal.number-requires

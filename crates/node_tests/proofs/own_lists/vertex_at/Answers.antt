@@ -7,7 +7,6 @@ use lib.ListN.{get_or}
 use mathlib.Core.Bool.{true}
 use mathlib.Core.Path.{◌≡◌, ◌∙◌}
 use native.Mathlib.Omega.{arith}
-use borrow.Author.Rules.{rules}
 use Rattle.node_tests.proofs.own_lists.vertex_at.Goals as goal
 
 pub number-requires : goal.number-requires

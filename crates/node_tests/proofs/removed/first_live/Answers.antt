@@ -1,7 +1,6 @@
 use Rattle.graph.specs.Layout.{state_of}
 use native.Mathlib.Omega.{arith}
 use Rattle.node_tests.specs.laws.Removed.{first-node, first-vertex-live, first-member-live}
-use borrow.Author.Rules.{rules}
 use Rattle.node_tests.proofs.removed.first_live.Goals as goal
 
 pub is_removed-requires : goal.is_removed-requires

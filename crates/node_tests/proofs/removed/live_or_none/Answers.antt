@@ -1,6 +1,5 @@
 use borrow.Author.Tests.{ne_eqb, eq-eqb}
 use Rattle.graph.specs.Sound.{live_or_none}
-use borrow.Author.Rules.{rules}
 use Rattle.node_tests.proofs.removed.live_or_none.Goals as goal
 
 pub returns-then-x-eq0 : goal.returns-then-x-eq0

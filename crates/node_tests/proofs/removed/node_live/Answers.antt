@@ -2,7 +2,6 @@ use mathlib.Core.Path.{sym, ◌∙◌}
 use Rattle.graph.specs.Layout.{state_of}
 use Rattle.node_tests.specs.laws.Removed.{parent-node}
 use Rattle.graph.specs.Sound.{node_live}
-use borrow.Author.Rules.{rules}
 use Rattle.node_tests.proofs.removed.node_live.Goals as goal
 
 pub live_or_none-requires : goal.live_or_none-requires

@@ -3,8 +3,7 @@ use Rattle.graph.specs.State.{node_count}
 use Rattle.graph.specs.laws.Scan.{all_more, all-fails}
 use Rattle.graph.specs.Layout.{state_of}
 use Rattle.graph.specs.Basic.{all_below}
-use Prim.Native.Nat.{◌-◌, ◌≤◌}
-use mathlib.Core.Bool.{true, false}
+use mathlib.Core.Bool.{false}
 use mathlib.Core.Path.{◌≡◌, sym}
 use native.Mathlib.Omega.{arith}
 use borrow.Author.Rules.{rules}
@@ -15,10 +14,10 @@ unfolding all_below
 loop-n-init c = search rules
 
 pub loop-n-preserved : goal.loop-n-preserved
-loop-n-preserved c = (search rules, all_more _ _ c.loop-n.invariant.1 (cc))
+loop-n-preserved c = (all_more _ _ c.loop-n.invariant (cc))
 
-pub returns-else-node_live : goal.returns-else-node_live
-returns-else-node_live c =
+pub returns-then-not-node_live : goal.returns-then-not-node_live
+returns-then-not-node_live c =
     let b = c.args.b.now in
     let q : node_live (state_of b) c.loop-n.n ≡ false = cc in
     sym (all-fails (node_live (state_of b)) (node_count (state_of b)) c.loop-n.n (omega arith) q)
@@ -27,4 +26,4 @@ pub returns : goal.returns
 returns c =
     let b = c.args.b.now in
     let z : c.loop-n.n ≡ node_count (state_of b) = omega arith in
-    rw (← z) (sym c.loop-n.invariant.1)
+    rw (← z) (sym c.loop-n.invariant)

@@ -3,8 +3,7 @@ use Rattle.graph.specs.State.{node_count}
 use Rattle.graph.specs.laws.Scan.{all_more, all-fails}
 use Rattle.graph.specs.Layout.{state_of}
 use Rattle.graph.specs.Basic.{all_below}
-use Prim.Native.Nat.{◌-◌, ◌≤◌}
-use mathlib.Core.Bool.{true, false}
+use mathlib.Core.Bool.{false}
 use mathlib.Core.Path.{◌≡◌, sym}
 use native.Mathlib.Omega.{arith}
 use borrow.Author.Rules.{rules}
@@ -24,10 +23,10 @@ returns-then-is_removed c =
 
 pub loop-n-preserved : goal.loop-n-preserved
 unfolding live
-loop-n-preserved c = (search rules, all_more _ _ c.loop-n.invariant.1 (rw (← c.is_removed.ensures, c.if-is_removed.false)))
+loop-n-preserved c = (all_more _ _ c.loop-n.invariant (rw (← c.is_removed.ensures, c.if-is_removed.false)))
 
 pub returns : goal.returns
 returns c =
     let b = c.args.b.now in
     let z : c.loop-n.n ≡ node_count (state_of b) = omega arith in
-    rw (← z) (sym c.loop-n.invariant.1)
+    rw (← z) (sym c.loop-n.invariant)

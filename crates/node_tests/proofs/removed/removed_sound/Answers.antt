@@ -3,7 +3,6 @@ use Rattle.graph.specs.laws.Removed.{none-removed}
 use Rattle.graph.specs.Sound.{sound_removed}
 use Rattle.graph.specs.Layout.{state_of}
 use mathlib.Core.Path.{sym, ◌∙◌}
-use borrow.Author.Rules.{rules}
 use Rattle.node_tests.proofs.removed.removed_sound.Goals as goal
 
 pub returns-then-none_removed : goal.returns-then-none_removed

@@ -4,8 +4,7 @@ use Rattle.graph.specs.State.{side_count, holder_at}
 use Rattle.graph.specs.laws.Scan.{all_more, all-fails}
 use Rattle.graph.specs.Layout.{state_of}
 use Rattle.graph.specs.Basic.{all_below}
-use Prim.Native.Nat.{◌-◌, ◌≤◌}
-use mathlib.Core.Bool.{true, false}
+use mathlib.Core.Bool.{false}
 use mathlib.Core.Path.{◌≡◌, sym}
 use native.Mathlib.Omega.{arith}
 use borrow.Author.Rules.{rules}
@@ -22,10 +21,10 @@ live_or_none-requires c =
     (c.requires.0, rw c.holder.ensures.0 (side-facts d i (sound-side d c.requires.1 i (omega arith))).holder)
 
 pub loop-s-preserved : goal.loop-s-preserved
-loop-s-preserved c = (search rules, all_more _ _ c.loop-s.invariant.1 (cc))
+loop-s-preserved c = (all_more _ _ c.loop-s.invariant (cc))
 
-pub returns-else-live_or_none : goal.returns-else-live_or_none
-returns-else-live_or_none c =
+pub returns-then-not-live_or_none : goal.returns-then-not-live_or_none
+returns-then-not-live_or_none c =
     let b = c.args.b.now in
     let q : live_or_none (state_of b) (holder_at (state_of b) c.loop-s.s) ≡ false = cc in
     sym
@@ -36,4 +35,4 @@ pub returns : goal.returns
 returns c =
     let b = c.args.b.now in
     let z : c.loop-s.s ≡ side_count (state_of b) = omega arith in
-    rw (← z) (sym c.loop-s.invariant.1)
+    rw (← z) (sym c.loop-s.invariant)

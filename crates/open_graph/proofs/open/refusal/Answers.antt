@@ -3,14 +3,8 @@ use mathlib.Core.Bool.{true, false, ◌&&◌}
 use lib.Dec.{eqb}
 use Rattle.graph.specs.Open.{sizes_ok}
 use Rattle.graph.specs.Opening.{edges_in}
-use Rattle.open_graph.specs.laws.Open.{first-passed, first-refusal}
+use Rattle.open_graph.specs.laws.Open.{first-refusal}
 use Rattle.open_graph.proofs.open.refusal.Goals as goal
-
-pub lengths_refusal-requires : goal.lengths_refusal-requires
-lengths_refusal-requires c =
-    let a = c.args in
-    let z : sizes_ok a.v a.e a.n a.l && eqb (edges_in a.edges.now) a.e ≡ true = cc in
-    first-passed a.v a.e a.n a.l a.edges.now z
 
 pub returns-then-sizes_ok-edges_in : goal.returns-then-sizes_ok-edges_in
 returns-then-sizes_ok-edges_in c =

@@ -1,4 +1,3 @@
-use borrow.Author.Rules.{rules}
 use Rattle.pass.specs.KeepsSound.{holds_lists}
 use Rattle.prepare_tested.specs.laws.Cases.{and_same}
 use Rattle.prepare_tested.proofs.held.holds_lists.Goals as goal

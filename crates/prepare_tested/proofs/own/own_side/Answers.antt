@@ -1,4 +1,3 @@
-use borrow.Author.Rules.{rules}
 use Rattle.graph.specs.Layout.{state_of}
 use Rattle.prepare_tested.specs.laws.Cases.{own-side-is}
 use Rattle.prepare_tested.proofs.own.own_side.Goals as goal

@@ -1,4 +1,3 @@
-use borrow.Author.Rules.{rules}
 use Rattle.pass.specs.KeepsSound.{pass_own}
 use Rattle.prepare_tested.specs.laws.Cases.{and_same}
 use Rattle.prepare_tested.proofs.own.pass_own.Goals as goal

@@ -1,4 +1,3 @@
-use borrow.Author.Rules.{rules}
 use mathlib.Core.Path.{sym, ◌∙◌}
 use Rattle.graph.specs.Layout.{state_of}
 use Rattle.prepare_tested.specs.laws.Cases.{side-goes, side-stays}

@@ -1,38 +1,33 @@
-use borrow.Author.Rules.{rules}
-use native.Mathlib.Omega.{arith}
-use Prim.Native.Nat.{◌-◌, ◌≤◌}
-use mathlib.Core.Path.{◌≡◌, refl, sym, ◌∙◌}
-use mathlib.Core.Bool.{true}
-use lib.ListN.{take}
+use Rattle.std.proofs.Common.{rules, tests, ap, ◌∙◌, ◌≡◌, refl, true, List, [], ◌∷◌, Bool, ◌<◌, ltb-true}
+use Rattle.std.specs.Prelude.{map, ltb, ◌&&◌}
+use Rattle.std.specs.List.{list_all}
+use Rattle.std.proofs.lemmas.Iterator.{YieldsList-from_slice}
+use Rattle.std.proofs.lemmas.Iterator.Adapters.{serves_from_places}
+use Rattle.std.proofs.lemmas.Iterator.Search.{all_from_yields_List}
 use Rattle.graph.specs.Basic.{all}
-use Rattle.graph.specs.State.{boundary_of}
-use Rattle.pass.specs.KeepsSound.{side_may_go}
+use Rattle.graph.specs.State.{side_count}
+use Rattle.graph.specs.Word.{to_nat}
 use Rattle.graph.specs.Layout.{state_of}
-use Rattle.graph.specs.laws.Scan.{list-more, list-fails, list_done}
+use Rattle.graph.specs.inner.Form.{sides_ok}
+use Rattle.graph.specs.laws.Members.{all-unmap}
+use Rattle.graph.specs.laws.Scan.{list_at}
+use Rattle.graph.specs.laws.Chains.{all_mapped}
+use Rattle.pass.specs.KeepsSound.{side_may_go}
 use Rattle.prepare_tested.proofs.own.sides_may_go.Goals as goal
 
-pub loop-i-init : goal.loop-i-init
-unfolding all
-loop-i-init c = (omega arith, refl)
-
-pub loop-i-preserved : goal.loop-i-preserved
-loop-i-preserved c = let d = c.loop-i in
-    let a = c.args in (
-      omega arith,
-      list-more (side_may_go a.n (state_of a.b.now)) (boundary_of (state_of a.b.now) a.n) d.i 0 (omega arith)
-          d.invariant.1
-          (rw c.boundary_side-s.ensures.0 at (sym c.side_may_go.ensures ∙ c.if-side_may_go.true)),
-    )
-
-pub returns-else-side_may_go : goal.returns-else-side_may_go
-returns-else-side_may_go c = let d = c.loop-i in
-    let a = c.args in
-    sym
-    (list-fails (side_may_go a.n (state_of a.b.now)) (boundary_of (state_of a.b.now) a.n) d.i 0
-    (omega arith)
-    (rw c.boundary_side-s.ensures.0 at (sym c.side_may_go.ensures ∙ c.if-side_may_go.false)))
+pub all-requires-clause-callable : goal.all-requires-clause-callable
+all-requires-clause-callable c =
+    let xs = c.boundary.result.now in
+    let m = side_count (state_of c.args.b.now) in
+    let within : all (λ x. ltb (to_nat x) m) xs ≡ true =
+    all-unmap (λ s. ltb s m) to_nat xs (unfold sides_ok in rw (← c.boundary.ensures) at c.requires.2.sides) in
+    serves_from_places (YieldsList-from_slice xs (search rules)) (λ x q r. search rules)
+    (λ x k h e. let z : to_nat x.now < m =
+    rw e (ltb-true _ _ (list_at (λ y. ltb (to_nat y) m) xs k x.now within h)) in search rules)
 
 pub returns : goal.returns
-returns c = let d = c.loop-i in
-    let a = c.args in
-    list_done (side_may_go a.n (state_of a.b.now)) (boundary_of (state_of a.b.now) a.n) d.i (omega arith) d.invariant.1
+returns c =
+    let test = side_may_go c.args.n (state_of c.args.b.now) in
+    all_from_yields_List (λ x. test (to_nat x)) _ _ _ c.all.ensures.ran
+    (YieldsList-from_slice c.boundary.result.now (search rules)) (λ x b q k. search (rules, tests))
+    ∙ all_mapped test to_nat c.boundary.result.now ∙ ap (all test) c.boundary.ensures

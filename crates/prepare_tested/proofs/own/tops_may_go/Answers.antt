@@ -1,9 +1,5 @@
-use borrow.Author.Rules.{rules}
 use native.Mathlib.Omega.{arith}
-use Prim.Native.Nat.{◌-◌, ◌≤◌}
-use mathlib.Core.Path.{◌≡◌, refl, sym, ◌∙◌}
-use mathlib.Core.Bool.{true}
-use lib.ListN.{take}
+use mathlib.Core.Path.{refl, sym, ◌∙◌}
 use Rattle.graph.specs.Basic.{all}
 use Rattle.graph.specs.State.{vertex_count, overgrown_of}
 use Rattle.pass.specs.Shrink.{empty_tops}
@@ -15,7 +11,7 @@ use Rattle.prepare_tested.proofs.own.tops_may_go.Goals as goal
 
 pub loop-i-init : goal.loop-i-init
 unfolding all
-loop-i-init c = (omega arith, refl)
+loop-i-init c = refl
 
 pub overgrown_vertex-v-requires : goal.overgrown_vertex-v-requires
 overgrown_vertex-v-requires c = let a = c.args in
@@ -36,18 +32,17 @@ may_go-requires c = let a = c.args in
 pub loop-i-preserved : goal.loop-i-preserved
 loop-i-preserved c = let d = c.loop-i in
     let a = c.args in (
-      omega arith,
-      list-more (may_go a.n (state_of a.b.now)) (empty_tops (overgrown_of (state_of a.b.now) a.n)) d.i 0
-          (omega arith) d.invariant.1
-          (rw (
-            c.overgrown_vertex-v.ensures.0,
-            top-at (overgrown_of (state_of a.b.now) a.n) d.i (overgrown_from 0) (omega arith),
-          )
-          at (sym c.may_go.ensures ∙ c.if-may_go.true)),
+    list-more (may_go a.n (state_of a.b.now)) (empty_tops (overgrown_of (state_of a.b.now) a.n)) d.i 0
+    (omega arith) d.invariant
+    (rw (
+      c.overgrown_vertex-v.ensures.0,
+      top-at (overgrown_of (state_of a.b.now) a.n) d.i (overgrown_from 0) (omega arith),
+    )
+    at (sym c.may_go.ensures ∙ c.if-not-may_go.false))
     )
 
-pub returns-else-may_go : goal.returns-else-may_go
-returns-else-may_go c = let d = c.loop-i in
+pub returns-then-not-may_go : goal.returns-then-not-may_go
+returns-then-not-may_go c = let d = c.loop-i in
     let a = c.args in
     sym
     (list-fails (may_go a.n (state_of a.b.now)) (empty_tops (overgrown_of (state_of a.b.now) a.n)) d.i 0
@@ -56,9 +51,10 @@ returns-else-may_go c = let d = c.loop-i in
       c.overgrown_vertex-v.ensures.0,
       top-at (overgrown_of (state_of a.b.now) a.n) d.i (overgrown_from 0) (omega arith),
     )
-    at (sym c.may_go.ensures ∙ c.if-may_go.false)))
+    at (sym c.may_go.ensures ∙ c.if-not-may_go.true)))
 
 pub returns : goal.returns
 returns c = let d = c.loop-i in
     let a = c.args in
-    list_done (may_go a.n (state_of a.b.now)) (empty_tops (overgrown_of (state_of a.b.now) a.n)) d.i (omega arith) d.invariant.1
+    list_done (may_go a.n (state_of a.b.now)) (empty_tops (overgrown_of (state_of a.b.now) a.n)) d.i
+    (omega arith) d.invariant

@@ -1,13 +1,10 @@
-use Rattle.std.specs.Prelude.{◌≡◌, ◌+◌, ◌-◌, ◌≤◌, false, if◌then◌else◌}
+use Rattle.std.specs.Prelude.{if◌then◌else◌}
 use native.Mathlib.Omega.{arith}
 use mathlib.Core.Path.{sym, ap, ◌∙◌}
 use Rattle.graph.specs.Layout.{state_of}
 use Rattle.calls.proofs.laws.Refuse.{good-inside}
-use Rattle.records.specs.Record.{fields}
-use Rattle.record_call.specs.inner.Long.{rest_refusal}
 use Rattle.record_call.specs.laws.Asking.{circle-length}
-use Rattle.record_call.specs.laws.Long.{rest-none, rest-bad, rest-next, rest-done}
-use borrow.Author.Rules.{rules}
+use Rattle.record_call.specs.laws.Long.{rest-bad, rest-next, rest-done}
 use Rattle.record_call.proofs.long_circle.entries_refusal.Goals as goal
 
 pub overflow_sub-k : goal.overflow_sub-k
@@ -16,19 +13,13 @@ overflow_sub-k c = omega (arith, circle-length c.requires.1)
 pub overflow_sub-k-2 : goal.overflow_sub-k-2
 overflow_sub-k-2 c = omega (arith, circle-length c.requires.1)
 
-pub loop-i-init : goal.loop-i-init
-loop-i-init c = (omega arith, rest-none (state_of c.args.b.now) c.args.body.now _)
-
-pub field-m-requires : goal.field-m-requires
-field-m-requires c = omega (arith, circle-length c.requires.1)
-
 pub returns-then-bad_node : goal.returns-then-bad_node
 returns-then-bad_node c =
     let s = c.args in
     let l = c.loop-i in
     sym (rest-bad (state_of s.b.now) s.body.now _ l.inner c.loop-i-test.true c.field-m.ensures.0
     (sym c.bad_node.ensures ∙ c.if-bad_node.true))
-    ∙ l.invariant.1
+    ∙ l.invariant
 
 pub in_blossom-inner-requires : goal.in_blossom-inner-requires
 in_blossom-inner-requires c =
@@ -37,24 +28,22 @@ in_blossom-inner-requires c =
 pub loop-i-preserved : goal.loop-i-preserved
 loop-i-preserved c =
     let s = c.args in
-    let l = c.loop-i in (
-      omega (arith, c.loop-i-test.true),
-      rw c.in_blossom-inner.ensures
-          (sym (rest-next (state_of s.b.now) s.body.now _ l.inner c.loop-i-test.true c.field-m.ensures.0
-          (sym c.bad_node.ensures ∙ c.if-bad_node.false))
-          ∙ l.invariant.1),
-    )
+    let l = c.loop-i in
+    rw c.in_blossom-inner.ensures
+    (sym (rest-next (state_of s.b.now) s.body.now _ l.inner c.loop-i-test.true c.field-m.ensures.0
+    (sym c.bad_node.ensures ∙ c.if-bad_node.false))
+    ∙ l.invariant)
 
 pub returns-then-inner : goal.returns-then-inner
 returns-then-inner c =
     let s = c.args in
     let l = c.loop-i in
     ap (λ t. if t then 6 else 7) (sym c.if-inner.true)
-    ∙ sym (rest-done (state_of s.b.now) s.body.now _ l.inner l.i c.loop-i-test.false) ∙ l.invariant.1
+    ∙ sym (rest-done (state_of s.b.now) s.body.now _ l.inner l.i (omega arith)) ∙ l.invariant
 
 pub returns-else-inner : goal.returns-else-inner
 returns-else-inner c =
     let s = c.args in
     let l = c.loop-i in
     ap (λ t. if t then 6 else 7) (sym c.if-inner.false)
-    ∙ sym (rest-done (state_of s.b.now) s.body.now _ l.inner l.i c.loop-i-test.false) ∙ l.invariant.1
+    ∙ sym (rest-done (state_of s.b.now) s.body.now _ l.inner l.i (omega arith)) ∙ l.invariant

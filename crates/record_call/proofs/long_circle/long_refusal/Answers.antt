@@ -5,7 +5,6 @@ use Rattle.graph.specs.Layout.{state_of}
 use Rattle.records.specs.Record.{field}
 use Rattle.record_call.specs.laws.Asking.{circle-length}
 use Rattle.record_call.specs.laws.Long.{long-state, long-circle, long-refused}
-use borrow.Author.Rules.{rules}
 use Rattle.record_call.proofs.long_circle.long_refusal.Goals as goal
 
 pub returns-then-field-gt-SHRINK : goal.returns-then-field-gt-SHRINK

@@ -1,7 +1,6 @@
 use mathlib.Core.Path.{refl}
 use Rattle.blossom.specs.laws.Blossom.{blossom-refused}
 use Rattle.record_call.specs.laws.Asking.{opened-usable, answers-blossom}
-use borrow.Author.Rules.{rules}
 use Rattle.record_call.proofs.one_call.blossom.Goals as goal
 
 pub returns : goal.returns

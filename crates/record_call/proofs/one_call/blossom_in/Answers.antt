@@ -1,7 +1,6 @@
 use native.Mathlib.Omega.{arith}
 use mathlib.Core.Path.{refl}
 use Rattle.record_call.specs.laws.Asking.{circle-length, circle-part, opened-usable, answers-blossom}
-use borrow.Author.Rules.{rules}
 use Rattle.record_call.proofs.one_call.blossom_in.Goals as goal
 
 pub field-x-requires : goal.field-x-requires

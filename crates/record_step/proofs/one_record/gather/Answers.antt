@@ -7,16 +7,16 @@ use Rattle.record_step.specs.laws.Standing.{turned-stop, late-sizes, out-of-plac
 use borrow.Author.Rules.{rules}
 use Rattle.record_step.proofs.one_record.gather.Goals as goal
 
-pub sizes-s-requires : goal.sizes-s-requires
+pub sizes-setup-requires : goal.sizes-setup-requires
 unfolding field_counts
-sizes-s-requires c =
+sizes-setup-requires c =
     let l : length c.args.body.now ≡ 18 = fields-of 1 c.requires.3 c.if-kind-eq1.true (λ q. omega arith) in
     omega arith
 
 pub returns-then-r-eq0 : goal.returns-then-r-eq0
 returns-then-r-eq0 c = (
   (λ block. turned-sizes c.requires.3 _ _ _ _ block _ _ c.requires.0 c.if-kind-eq1.true
-      c.if-r-eq0.true c.sizes-s.ensures),
+      c.if-r-eq0.true c.sizes-setup.ensures),
   refl,
 )
 
@@ -30,22 +30,22 @@ returns-then-kind-eq1 c =
       e.2,
     )
 
-pub add_edge-p-requires : goal.add_edge-p-requires
+pub add_edge-setup-requires : goal.add_edge-setup-requires
 unfolding field_counts
-add_edge-p-requires c =
+add_edge-setup-requires c =
     let l : length c.args.body.now ≡ 14 = fields-of 2 c.requires.3 c.if-kind-eq2.true (λ q. omega arith) in
     (c.requires.5, omega arith)
 
 pub returns-then-kind-eq2 : goal.returns-then-kind-eq2
 returns-then-kind-eq2 c = (
   (λ block. turned-edge c.requires.3 _ _ _ _ block _ _ c.requires.0 c.if-kind-eq2.true
-      c.if-r-eq1.true c.requires.5 c.add_edge-p.ensures),
+      c.if-r-eq1.true c.requires.5 c.add_edge-setup.ensures),
   refl,
 )
 
-pub add_virtual-p-requires : goal.add_virtual-p-requires
+pub add_virtual-setup-requires : goal.add_virtual-setup-requires
 unfolding field_counts
-add_virtual-p-requires c =
+add_virtual-setup-requires c =
     let k : c.args.kind ≡ 3 = omega (arith, kind-some c.requires.3) in
     let l : length c.args.body.now ≡ 6 = fields-of 3 c.requires.3 k (λ q. omega arith) in
     (omega (arith, c.requires.2 c.if-r-eq1.true), omega arith)
@@ -54,7 +54,7 @@ pub returns-then-r-eq1 : goal.returns-then-r-eq1
 returns-then-r-eq1 c =
     let k : c.args.kind ≡ 3 = omega (arith, kind-some c.requires.3) in (
       (λ block. turned-virtual c.requires.3 _ _ _ _ block _ _ c.requires.0 k
-          c.if-r-eq1.true c.requires.6 c.add_virtual-p.ensures),
+          c.if-r-eq1.true c.requires.6 c.add_virtual-setup.ensures),
       refl,
     )
 

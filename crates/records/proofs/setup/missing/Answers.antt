@@ -1,31 +1,27 @@
 use borrow.Author.Rules.{rules}
-use Prim.Native.Nat.{◌-◌, ◌≤◌}
-use mathlib.Core.Path.{◌≡◌, sym, ◌∙◌, ap}
-use mathlib.Core.Bool.{not}
-use lib.ListN.{length, drop}
-use Rattle.graph.specs.Basic.{member}
+use borrow.Author.Tests.{tests}
+use mathlib.Core.Path.{◌≡◌, refl, ◌∙◌, ap}
+use mathlib.Core.Bool.{Bool, not}
+use mathlib.Core.List.{List, [], ◌∷◌}
+use Prim.Native.Nat.{ℕ}
+use lib.Dec.{eqb}
+use lib.IntN.{ℤ}
+use Rattle.graph.specs.Basic.{any, member}
+use Rattle.graph.specs.Word.{to_nat}
 use Rattle.graph.specs.Opening.{virtuals_from}
-use Rattle.records.specs.laws.Setup.{member-found, member-later, member-none}
+use Rattle.std.specs.List.{list_any}
+use Rattle.std.proofs.lemmas.Iterator.{YieldsList-from_slice}
+use Rattle.std.proofs.lemmas.Iterator.Search.{any_from_yields_List}
 use Rattle.records.proofs.setup.missing.Goals as goal
 
-pub returns-then-word-x : goal.returns-then-word-x
-returns-then-word-x c =
-    ap not
-    (sym
-    (sym c.loop-i.invariant.1
-    ∙ member-found c.args.words.now c.args.x c.loop-i.i (search rules)
-    (sym c.word.ensures.0 ∙ c.if-word-x.true)))
-
-pub loop-i-preserved : goal.loop-i-preserved
-loop-i-preserved c =
-    let ne : c.word.result ≡ c.args.x → ⊥ = c.if-word-x.false in (
-      search rules,
-      sym
-          (member-later c.args.words.now c.args.x c.loop-i.i (search rules)
-          (λ q. ne (c.word.ensures.0 ∙ q)))
-          ∙ c.loop-i.invariant.1,
-    )
+any_member : (x : ℕ) (l : List ℤ) → list_any (λ w. eqb x (to_nat w)) l ≡ member x (virtuals_from l)
+unfolding any member virtuals_from
+any_member x [] = refl
+any_member x (w ∷ l) = rw (any_member x l)
 
 pub returns : goal.returns
 returns c =
-    ap not (sym (sym c.loop-i.invariant.1 ∙ member-none c.args.words.now c.args.x c.loop-i.i (search rules)))
+    let a = c.args in
+    ap not
+    (any_from_yields_List (λ w. eqb a.x (to_nat w)) _ _ _ c.any.ensures.ran (YieldsList-from_slice a.words.now (cc))
+    (λ w b q k. search (rules, tests)) ∙ any_member a.x a.words.now)

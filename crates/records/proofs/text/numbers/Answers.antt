@@ -1,30 +1,23 @@
 use borrow.Author.Rules.{rules}
 use native.Mathlib.Omega.{arith}
-use Prim.Native.Nat.{◌-◌, ◌≤◌}
-use mathlib.Core.Path.{◌≡◌, ap}
-use lib.ListN.{length, take}
+use mathlib.Core.Path.{ap}
 use lib.Seq.{take_all}
 use Rattle.records.specs.Text.{spaced}
-use Rattle.records.specs.Write.{Written}
 use Rattle.records.specs.laws.Write.{written_none, numbers_more, number_fits, written_as}
 use Rattle.records.proofs.text.numbers.Goals as goal
 
-pub loop-i-init : goal.loop-i-init
+pub loop-x-init : goal.loop-x-init
 unfolding spaced
-loop-i-init c = (written_none _ _, search rules, search rules)
+loop-x-init c = written_none _ _
 
 pub number-m-requires : goal.number-m-requires
 number-m-requires c =
-    let room = number_fits c.args.ns.now c.loop-i.i (search rules) in
-    omega (arith, c.loop-i.invariant.0.place)
+    let room = number_fits c.args.ns.now c.loop-x.x-index (search rules) in
+    omega (arith, c.loop-x.invariant.place)
 
-pub loop-i-preserved : goal.loop-i-preserved
-loop-i-preserved c = (
-  numbers_more c.args.ns.now c.loop-i.i (search rules) c.loop-i.invariant.0
-      c.number-m.ensures,
-  search rules,
-  search rules,
-)
+pub loop-x-preserved : goal.loop-x-preserved
+loop-x-preserved c =
+    numbers_more c.args.ns.now c.loop-x.x-index (search rules) c.loop-x.invariant c.number-m.ensures
 
 pub returns : goal.returns
-returns c = written_as c.loop-i.invariant.0 (ap spaced (take_all c.loop-i.i c.args.ns.now (search rules)))
+returns c = written_as c.loop-x.invariant (ap spaced (take_all c.loop-x.x-index c.args.ns.now (search rules)))

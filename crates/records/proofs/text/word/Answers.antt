@@ -1,23 +1,19 @@
-use borrow.Author.Rules.{rules}
-use Prim.Native.Nat.{◌+◌, ◌-◌, ◌≤◌}
-use mathlib.Core.Path.{◌≡◌}
-use lib.ListN.{length, take}
-use lib.Seq.{take_all}
+use native.Mathlib.Omega.{arith}
+use mathlib.Core.Path.{◌≡◌, refl}
+use mathlib.Core.List.{List, ◌++◌}
+use Prim.Native.Nat.{ℕ, ◌+◌, ◌-◌, ◌≤◌}
+use lib.ListN.{length, take, drop}
+use lib.Seq.{sets, drop-drop}
+use Rattle.std.proofs.Common.{append_assoc}
+use Rattle.std.proofs.lemmas.List.Edits.{sets-eq}
 use Rattle.records.specs.Write.{Written}
-use Rattle.records.specs.laws.Write.{written_none, written-more, written_as}
 use Rattle.records.proofs.text.word.Goals as goal
 
-pub loop-i-init : goal.loop-i-init
-loop-i-init c = (written_none _ _, search rules, search rules, search rules)
-
-pub loop-i-preserved : goal.loop-i-preserved
-loop-i-preserved c = (
-  written-more c.args.w.now c.loop-i.i (search rules) c.loop-i.invariant.0
-      c.byte-m.ensures,
-  search rules,
-  search rules,
-  search rules,
-)
+part : (t w : List ℕ) (n : ℕ) → n + length w ≤ length t → take n t ++ (w ++ drop (length w) (drop n t)) ≡ sets t n w
+part t w n h = rw (sets-eq w t n h, append_assoc, drop-drop)
 
 pub returns : goal.returns
-returns c = written_as c.loop-i.invariant.0 (take_all c.loop-i.i c.args.w.now (search rules))
+returns c =
+    let a = c.args in
+    let z : a.n + length a.w.now - a.n ≡ length a.w.now = omega arith in
+    record { bytes = rw (z, c.copy_from_slice.ensures.after) (part a.t.now a.w.now a.n c.requires); place = refl }

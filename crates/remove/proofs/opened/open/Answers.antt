@@ -1,6 +1,5 @@
 use Rattle.remove.specs.laws.Opened.{sides-in, holders-lists, blossom-opened}
 use native.Mathlib.Omega.{arith}
-use borrow.Author.Rules.{rules}
 use Rattle.remove.proofs.opened.open.Goals as goal
 
 pub return_members-requires : goal.return_members-requires

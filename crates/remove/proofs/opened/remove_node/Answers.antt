@@ -1,6 +1,5 @@
 use Rattle.remove.specs.laws.Opened.{entries_fit, node-removed}
 use native.Mathlib.Omega.{arith}
-use borrow.Author.Rules.{rules}
 use Rattle.remove.proofs.opened.remove_node.Goals as goal
 
 pub replace_lists-requires : goal.replace_lists-requires

@@ -1,5 +1,4 @@
 use Rattle.remove.specs.laws.Opened.{member-returned}
-use borrow.Author.Rules.{rules}
 use Rattle.remove.proofs.opened.return_member.Goals as goal
 
 pub returns : goal.returns

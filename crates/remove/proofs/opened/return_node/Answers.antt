@@ -2,7 +2,6 @@ use mathlib.Core.Path.{sym, ◌∙◌}
 use borrow.Author.Tests.{eq-eqb, ne_eqb}
 use Rattle.remove.specs.inner.Stops.{is_member}
 use Rattle.remove.specs.laws.Opened.{node-returned, node-left}
-use borrow.Author.Rules.{rules}
 use Rattle.remove.proofs.opened.return_node.Goals as goal
 
 pub returns-then-parent-n : goal.returns-then-parent-n

@@ -1,7 +1,5 @@
-use Rattle.remove.specs.laws.Opened.{HoldersSet, sides-in, set-none, set-lists, set-list, set_more, set_all}
+use Rattle.remove.specs.laws.Opened.{sides-in, set-none, set-lists, set-list, set_more, set_all}
 use native.Mathlib.Omega.{arith}
-use Prim.Native.Nat.{◌-◌}
-use borrow.Author.Rules.{rules}
 use Rattle.remove.proofs.opened.set_holders.Goals as goal
 
 pub loop-i-init : goal.loop-i-init

@@ -1,5 +1,4 @@
 use Rattle.remove.specs.inner.Stops.{free_by}
-use borrow.Author.Rules.{rules}
 use Rattle.remove.proofs.stops.is_fresh.Goals as goal
 
 pub returns : goal.returns

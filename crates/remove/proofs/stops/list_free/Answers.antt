@@ -2,19 +2,18 @@ use Rattle.graph.specs.laws.Members.{clash}
 use mathlib.Core.Bool.{true, false}
 use mathlib.Core.Path.{refl, ◌≡◌, sym, ◌∙◌}
 use Rattle.remove.specs.laws.Stops.{met-list, met-more, met-fails}
-use Rattle.remove.specs.inner.Stops.{entries_before, Met}
+use Rattle.remove.specs.inner.Stops.{entries_before}
 use Rattle.graph.specs.Layout.{state_of}
-use lib.ListN.{length, length-set}
+use lib.ListN.{length-set}
 use native.Mathlib.Omega.{arith}
-use Prim.Native.Nat.{◌+◌, ◌-◌, ◌≤◌}
-use borrow.Author.Rules.{rules}
+use Prim.Native.Nat.{◌+◌}
 use Rattle.remove.proofs.stops.list_free.Goals as goal
 
 pub loop-i-init : goal.loop-i-init
 loop-i-init c =
     let d = state_of c.args.b.now in
     let z : entries_before d c.args.n c.args.m + 0 ≡ entries_before d c.args.n c.args.m = omega arith in
-    (rw z c.requires.6, omega arith, refl)
+    (rw z c.requires.6, refl)
 
 pub boundary_side-s-requires : goal.boundary_side-s-requires
 boundary_side-s-requires c =
@@ -35,15 +34,14 @@ loop-i-preserved c = (
       (omega (
         arith,
         c.requires.5,
-        c.loop-i.invariant.2,
+        c.loop-i.invariant.1,
       ))
-      (sym c.is_fresh.ensures ∙ c.if-is_fresh.true),
-  omega arith,
-  simp (length-set) c.loop-i.invariant.2,
+      (sym c.is_fresh.ensures ∙ c.if-not-is_fresh.false),
+  simp (length-set) c.loop-i.invariant.1,
 )
 
-pub returns-else-is_fresh : goal.returns-else-is_fresh
-returns-else-is_fresh c = (
+pub returns-then-not-is_fresh : goal.returns-then-not-is_fresh
+returns-then-not-is_fresh c = (
   λ e. clash false e refl,
   λ e. met-fails (state_of c.args.b.now)
       c.args.n
@@ -58,9 +56,9 @@ returns-else-is_fresh c = (
       (omega (
         arith,
         c.requires.5,
-        c.loop-i.invariant.2,
+        c.loop-i.invariant.1,
       ))
-      (sym c.is_fresh.ensures ∙ c.if-is_fresh.false),
+      (sym c.is_fresh.ensures ∙ c.if-not-is_fresh.true),
 )
 
 pub returns : goal.returns

@@ -1,16 +1,14 @@
 use Rattle.graph.specs.laws.Members.{clash}
 use mathlib.Core.Bool.{false}
-use mathlib.Core.Path.{refl, ◌≡◌, sym, ◌∙◌}
-use Rattle.remove.specs.laws.Stops.{HeldTo, held_none, held_more, held-not, held-all-sides, held-carries}
+use mathlib.Core.Path.{refl, sym, ◌∙◌}
+use Rattle.remove.specs.laws.Stops.{held_none, held_more, held-not, held-all-sides, held-carries}
 use Rattle.graph.specs.Layout.{state_of}
-use lib.ListN.{length, length-set}
+use lib.ListN.{length-set}
 use native.Mathlib.Omega.{arith}
-use Prim.Native.Nat.{◌-◌, ◌≤◌}
-use borrow.Author.Rules.{rules}
 use Rattle.remove.proofs.stops.mark_held.Goals as goal
 
 pub loop-i-init : goal.loop-i-init
-loop-i-init c = (held_none (state_of c.args.b.now) c.args.n c.args.own.now c.requires.4, omega arith, refl)
+loop-i-init c = (held_none (state_of c.args.b.now) c.args.n c.args.own.now c.requires.4, refl)
 
 pub boundary_side-s-requires : goal.boundary_side-s-requires
 boundary_side-s-requires c =
@@ -30,11 +28,10 @@ loop-i-preserved c = (
       (omega (
         arith,
         c.requires.3,
-        c.loop-i.invariant.2,
+        c.loop-i.invariant.1,
       ))
       (λ e. c.if-holder-eq0.false (c.holder.ensures.0 ∙ e)),
-  omega arith,
-  simp (length-set) c.loop-i.invariant.2,
+  simp (length-set) c.loop-i.invariant.1,
 )
 
 pub returns : goal.returns

@@ -5,7 +5,6 @@ use mathlib.Core.Path.{sym, ◌∙◌, refl}
 use Rattle.graph.specs.Layout.{state_of}
 use Rattle.graph.specs.laws.Members.{clash}
 use mathlib.Core.Bool.{true}
-use borrow.Author.Rules.{rules}
 use Rattle.remove.proofs.stops.member_free.Goals as goal
 
 pub list_free-requires : goal.list_free-requires

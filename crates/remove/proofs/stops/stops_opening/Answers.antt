@@ -4,7 +4,6 @@ use Rattle.graph.specs.State.{boundary_of}
 use Rattle.graph.specs.Layout.{state_of}
 use native.Mathlib.Omega.{arith}
 use mathlib.Core.Path.{sym, ◌∙◌}
-use borrow.Author.Rules.{rules}
 use Rattle.remove.proofs.stops.stops_opening.Goals as goal
 
 pub returns-then-overgrown_len-ne0 : goal.returns-then-overgrown_len-ne0

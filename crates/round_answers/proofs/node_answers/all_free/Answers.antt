@@ -1,12 +1,8 @@
 use Rattle.round_answers.specs.laws.Answers.{free_more, free-not, free_all}
-use mathlib.Core.Path.{ap, sym, ◌∙◌, ◌≡◌, refl}
-use Rattle.calls.specs.Round.{answers_of, is_free}
+use mathlib.Core.Path.{ap, sym, ◌∙◌, refl}
+use Rattle.calls.specs.Round.{is_free}
 use Rattle.graph.specs.Layout.{state_of}
-use Rattle.graph.specs.Basic.{all}
-use lib.ListN.{drop}
-use Prim.Native.Nat.{◌-◌}
 use native.Mathlib.Omega.{arith}
-use borrow.Author.Rules.{rules}
 use Rattle.round_answers.proofs.node_answers.all_free.Goals as goal
 
 pub loop-i-init : goal.loop-i-init
@@ -17,14 +13,14 @@ loop-i-preserved c =
     free_more (state_of c.args.b.now)
     (state_of c.args.b.now).active
     c.loop-i.i c.loop-i.invariant (omega arith)
-    (sym (ap is_free c.answer_at.ensures) ∙ sym c.is_free.ensures ∙ c.if-is_free.true)
+    (sym (ap is_free c.answer_at.ensures) ∙ sym c.is_free.ensures ∙ c.if-not-is_free.false)
 
-pub returns-else-is_free : goal.returns-else-is_free
-returns-else-is_free c =
+pub returns-then-not-is_free : goal.returns-then-not-is_free
+returns-then-not-is_free c =
     free-not (state_of c.args.b.now)
     (state_of c.args.b.now).active
     c.loop-i.i c.loop-i.invariant (omega arith)
-    (sym (ap is_free c.answer_at.ensures) ∙ sym c.is_free.ensures ∙ c.if-is_free.false)
+    (sym (ap is_free c.answer_at.ensures) ∙ sym c.is_free.ensures ∙ c.if-not-is_free.true)
 
 pub returns : goal.returns
 returns c =

@@ -1,6 +1,5 @@
 use Rattle.graph.specs.laws.Members.{member-at}
 use Rattle.graph.specs.Layout.{state_of}
-use borrow.Author.Rules.{rules}
 use Rattle.round_answers.proofs.node_answers.answer_at.Goals as goal
 
 pub answer_of-requires : goal.answer_of-requires

@@ -1,7 +1,6 @@
 use Rattle.round_answers.specs.inner.Asked.{answer_of}
 use Rattle.graph.specs.laws.Active.{active-below}
 use Rattle.graph.specs.Layout.{state_of}
-use borrow.Author.Rules.{rules}
 use Rattle.round_answers.proofs.node_answers.answer_of.Goals as goal
 
 pub grow_state-requires : goal.grow_state-requires

@@ -1,11 +1,8 @@
 use Rattle.round_answers.specs.laws.Answers.{refusal-here, refusal-more, refusal-none}
-use Rattle.calls.specs.Round.{refusal_of, answers_of, first_refusal}
-use mathlib.Core.Path.{ap, ◌∙◌, ◌≡◌, refl}
+use Rattle.calls.specs.Round.{refusal_of}
+use mathlib.Core.Path.{ap, ◌∙◌, refl}
 use Rattle.graph.specs.Layout.{state_of}
-use lib.ListN.{drop}
-use Prim.Native.Nat.{◌-◌}
 use native.Mathlib.Omega.{arith}
-use borrow.Author.Rules.{rules}
 use Rattle.round_answers.proofs.node_answers.first_refusal.Goals as goal
 
 pub loop-i-init : goal.loop-i-init

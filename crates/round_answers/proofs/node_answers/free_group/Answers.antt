@@ -1,14 +1,9 @@
 use Rattle.round_answers.specs.laws.Answers.{group-more, group-all}
-use Rattle.calls.specs.Round.{answers_of, join_free}
 use Rattle.calls.specs.declared.group.GroupMaxUpdateLength.TheVariants.{Unlimited as group_unlimited}
 use Rattle.graph.specs.Layout.{state_of}
-use Rattle.graph.specs.Basic.{fold}
-use lib.ListN.{drop}
-use Prim.Native.Nat.{◌-◌}
 use mathlib.Core.Bool.{false}
-use mathlib.Core.Path.{◌≡◌, refl}
+use mathlib.Core.Path.{refl}
 use native.Mathlib.Omega.{arith}
-use borrow.Author.Rules.{rules}
 use Rattle.round_answers.proofs.node_answers.free_group.Goals as goal
 
 pub loop-i-init : goal.loop-i-init

@@ -1,20 +1,13 @@
-use Rattle.round_answers.specs.laws.Answers.{group-more, group-all}
 use Rattle.calls.specs.Round.{answers_of, join_free}
 use Rattle.calls.specs.declared.group.GroupMaxUpdateLength.TheVariants.{Unlimited as group_unlimited}
 use Rattle.graph.specs.Layout.{state_of}
 use Rattle.graph.specs.Basic.{fold}
 use lib.ListN.{drop}
-use Prim.Native.Nat.{◌-◌}
 use mathlib.Core.Bool.{false}
-use mathlib.Core.Path.{◌≡◌, refl}
-use native.Mathlib.Omega.{arith}
-use borrow.Author.Rules.{rules}
+use mathlib.Core.Path.{◌≡◌}
 use Rattle.round_answers.proofs.node_answers.free_group.Given as goal
 
 abbrev pub invariant-loop-i : goal.invariant-loop-i
 invariant-loop-i l =
     fold join_free l.g (answers_of (state_of l.b) (drop l.i (state_of l.b).active))
     ≡ fold join_free (group_unlimited false) (answers_of (state_of l.b) (state_of l.b).active)
-
-abbrev pub decreases-loop-i : goal.decreases-loop-i
-decreases-loop-i l = l.k - l.i

@@ -1,7 +1,6 @@
 use mathlib.Core.Path.{sym, ap}
 use Rattle.answers.specs.declared.Answer.TheVariants.{Length}
 use Rattle.answers.specs.Answer.{is_free}
-use borrow.Author.Rules.{rules}
 use Rattle.round_answers.proofs.node_answers.is_free_length.Goals as goal
 
 pub returns-in-NonZeroGrow : goal.returns-in-NonZeroGrow

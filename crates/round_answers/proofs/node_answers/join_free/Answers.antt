@@ -1,6 +1,5 @@
 use mathlib.Core.Path.{sym, ap, ◌∙◌}
 use Rattle.calls.specs.Round.{join_free}
-use borrow.Author.Rules.{rules}
 use Rattle.round_answers.proofs.node_answers.join_free.Goals as goal
 
 pub returns-in-Length : goal.returns-in-Length

@@ -2,7 +2,7 @@ use mir.Facts.{to_z-of_z}
 use mathlib.Core.Path.{sym, ap, ◌∙◌}
 use Rattle.answers.specs.declared.Answer.TheVariants.{Length}
 use Rattle.calls.specs.Round.{join_free}
-use borrow.Author.Rules.{rules, sfits_of}
+use borrow.Author.Rules.{sfits_of}
 use Rattle.round_answers.proofs.node_answers.join_free_length.Goals as goal
 
 pub returns-in-NonZeroGrow : goal.returns-in-NonZeroGrow

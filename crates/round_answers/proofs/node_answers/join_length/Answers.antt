@@ -1,5 +1,5 @@
 use mir.Syntax.{w64}
-use borrow.Author.Rules.{sfits_of, rules}
+use borrow.Author.Rules.{sfits_of}
 use Rattle.calls.specs.Round.{join_length}
 use mir.Facts.{to_z-of_z}
 use mathlib.Core.Path.{sym, ap}

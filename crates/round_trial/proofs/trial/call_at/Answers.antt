@@ -3,7 +3,6 @@ use Rattle.round_trial.specs.laws.Step.{going-steady, turn-there, turn-passed}
 use Rattle.graph.specs.Layout.{state_of}
 use mathlib.Core.Path.{refl, sym, ◌∙◌}
 use native.Mathlib.Omega.{arith}
-use borrow.Author.Rules.{rules}
 use Rattle.round_trial.proofs.trial.call_at.Goals as goal
 
 pub grow_state-requires : goal.grow_state-requires

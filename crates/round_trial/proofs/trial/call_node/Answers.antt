@@ -1,5 +1,4 @@
 use Rattle.round_trial.specs.laws.Step.{turn-prepared, turn_moved}
-use borrow.Author.Rules.{rules}
 use Rattle.round_trial.proofs.trial.call_node.Goals as goal
 
 pub returns-then-l-eq0 : goal.returns-then-l-eq0

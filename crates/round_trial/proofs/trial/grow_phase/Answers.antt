@@ -1,6 +1,5 @@
 use Rattle.round_trial.specs.laws.InTurn.{grow-none, grow-stopped, grow-going, grow-ends}
 use mathlib.Core.Path.{refl, sym, ◌∙◌}
-use borrow.Author.Rules.{rules}
 use Rattle.round_trial.proofs.trial.grow_phase.Goals as goal
 
 pub returns-then-none_in : goal.returns-then-none_in

@@ -1,7 +1,6 @@
 use Rattle.round_trial.specs.laws.InTurn.{renewed-going, turn-stops, shrunk-part, turn-ends}
 use Rattle.graph.specs.laws.Shape.{sound-active}
 use mathlib.Core.Path.{◌∙◌}
-use borrow.Author.Rules.{rules}
 use Rattle.round_trial.proofs.trial.in_turn.Goals as goal
 
 pub renew-requires : goal.renew-requires

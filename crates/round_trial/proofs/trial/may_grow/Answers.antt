@@ -1,7 +1,6 @@
 use Rattle.round_trial.specs.laws.InTurn.{sound-is}
 use Rattle.memory_tests.specs.laws.Whole.{formed-sized}
 use mathlib.Core.Path.{refl, sym, ◌∙◌}
-use borrow.Author.Rules.{rules}
 use Rattle.round_trial.proofs.trial.may_grow.Goals as goal
 
 pub returns-then-none_in : goal.returns-then-none_in

@@ -1,13 +1,9 @@
-use Rattle.std.specs.Prelude.{◌≡◌, ◌-◌, eqb, drop}
 use mathlib.Core.Path.{sym, ap, ◌∙◌, refl}
 use Rattle.round_trial.specs.laws.Trying.{none-yes, none-no, none_more, entry-node}
-use Rattle.calls.specs.Round.{none_of}
 use Rattle.graph.specs.Layout.{state_of}
 use Rattle.graph.specs.Active.{active_in}
 use Rattle.graph.specs.State.{grow_state_of}
-use Rattle.graph.specs.Basic.{only}
 use native.Mathlib.Omega.{arith}
-use borrow.Author.Rules.{rules}
 use Rattle.round_trial.proofs.trial.none_in.Goals as goal
 
 pub loop-i-init : goal.loop-i-init

@@ -1,8 +1,7 @@
-use Rattle.std.specs.Prelude.{◌-◌, length}
+use Rattle.std.specs.Prelude.{length}
 use mathlib.Core.Path.{ap, ◌∙◌}
-use Rattle.round_trial.specs.laws.Trying.{Trying, trying-none, trying-more, trying-stop, trying-all}
+use Rattle.round_trial.specs.laws.Trying.{trying-none, trying-more, trying-stop, trying-all}
 use native.Mathlib.Omega.{arith}
-use borrow.Author.Rules.{rules}
 use Rattle.round_trial.proofs.trial.phase.Goals as goal
 
 pub loop-i-init : goal.loop-i-init

@@ -1,6 +1,5 @@
 use mathlib.Core.Path.{sym, ap}
 use Rattle.answers.specs.Answer.{refusal_of}
-use borrow.Author.Rules.{rules}
 use Rattle.round_trial.proofs.trial.refusal_of.Goals as goal
 
 pub returns-in-Length : goal.returns-in-Length

@@ -1,4 +1,3 @@
-use Prim.Native.Nat.{◌-◌, ◌≤◌}
 use mathlib.Core.Path.{◌≡◌}
 use mathlib.Core.Bool.{true}
 use lib.ListN.{take}
@@ -8,7 +7,4 @@ use Rattle.sheet.specs.Called.{ends_ok}
 use Rattle.sheet.proofs.open.ends_ok.Given as goal
 
 abbrev pub invariant-loop-i : goal.invariant-loop-i
-invariant-loop-i l = (l.i ≤ l.e) × (all (ends_ok l.v) (take l.i (edges_from l.edges)) ≡ true)
-
-abbrev pub decreases-loop-i : goal.decreases-loop-i
-decreases-loop-i l = l.e - l.i
+invariant-loop-i l = all (ends_ok l.v) (take l.i (edges_from l.edges)) ≡ true

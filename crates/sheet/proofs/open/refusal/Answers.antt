@@ -1,5 +1,4 @@
 use Prim.Native.Nat.{◌*◌, ◌≤◌}
-use native.Mathlib.Omega.{arith}
 use mathlib.Core.Path.{◌≡◌, sym, ◌∙◌}
 use mathlib.Core.Bool.{true, false, ◌&&◌}
 use lib.Dec.{ltb, eqb}
@@ -50,9 +49,6 @@ returns-then-not-sizes_ok-edges_in c =
     rw (← c.sizes_ok.ensures, ← c.edges_in.ensures) c.if-not-sizes_ok-edges_in.true in
     rw z
 
-pub lengths_fit-requires : goal.lengths_fit-requires
-lengths_fit-requires c = let a = c.args in (first-passed a.v a.e a.n a.l a.edges.now (sized c)).0
-
 pub returns-then-not-lengths_fit : goal.returns-then-not-lengths_fit
 unfolding sheet_refusal
 returns-then-not-lengths_fit c = rw (sized c.before.before, sym c.lengths_fit.ensures ∙ c.if-not-lengths_fit.true)
@@ -61,9 +57,6 @@ pub returns-then-not-virtuals_ok : goal.returns-then-not-virtuals_ok
 unfolding sheet_refusal
 returns-then-not-virtuals_ok c =
     rw (sized c.before.before.before.before, fitting c.before.before, sym c.virtuals_ok.ensures ∙ c.if-not-virtuals_ok.true)
-
-pub overflow_mul-e : goal.overflow_mul-e
-overflow_mul-e c = let s = small c in omega arith
 
 pub ends_ok-requires : goal.ends_ok-requires
 ends_ok-requires c = small c

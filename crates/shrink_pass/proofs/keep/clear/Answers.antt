@@ -1,6 +1,5 @@
 use native.Mathlib.Omega.{arith}
 use Rattle.shrink_pass.specs.laws.Finish.{kept-below, cleared-scratch}
-use borrow.Author.Rules.{rules}
 use Rattle.shrink_pass.proofs.keep.clear.Goals as goal
 
 pub unmark-requires : goal.unmark-requires

@@ -1,7 +1,6 @@
 use native.Mathlib.Omega.{arith}
 use mathlib.Core.Path.{sym, ◌∙◌}
 use Rattle.shrink_pass.specs.laws.Shrinking.{does-keep-new, does-keep-old}
-use borrow.Author.Rules.{rules}
 use Rattle.shrink_pass.proofs.keep.keep_once.Goals as goal
 
 pub returns-then-word-eq0 : goal.returns-then-word-eq0

@@ -1,6 +1,5 @@
 use native.Mathlib.Omega.{arith}
 use Rattle.shrink_pass.specs.laws.Shrinking.{does-note}
-use borrow.Author.Rules.{rules}
 use Rattle.shrink_pass.proofs.keep.note.Goals as goal
 
 pub returns : goal.returns

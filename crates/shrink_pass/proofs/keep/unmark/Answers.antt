@@ -1,14 +1,11 @@
-use borrow.Author.Rules.{rules}
 use native.Mathlib.Omega.{arith}
-use Prim.Native.Nat.{◌-◌, ◌<◌, ◌≤◌}
-use mathlib.Core.Path.{◌≡◌, refl}
-use lib.ListN.{length}
-use Rattle.shrink_pass.specs.inner.Shrinking.{unmarked}
+use Prim.Native.Nat.{◌<◌}
+use mathlib.Core.Path.{refl}
 use Rattle.shrink_pass.specs.laws.Finish.{unmark-none, unmark-word, unmark-more}
 use Rattle.shrink_pass.proofs.keep.unmark.Goals as goal
 
 pub loop-i-init : goal.loop-i-init
-loop-i-init c = (unmark-none _ _, omega arith, refl)
+loop-i-init c = (unmark-none _ _, refl)
 
 pub put-requires : goal.put-requires
 put-requires c =
@@ -34,8 +31,4 @@ loop-i-preserved c = (
       c.args.m
       c.loop-i.i (omega arith)),
   omega arith,
-  omega arith,
 )
-
-pub returns : goal.returns
-returns c = let z : c.loop-i.i ≡ c.args.k = omega arith in rw (← z) c.loop-i.invariant.0

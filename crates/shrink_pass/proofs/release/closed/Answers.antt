@@ -1,5 +1,4 @@
 use Rattle.pass.specs.Shrink.{closed}
-use borrow.Author.Rules.{rules}
 use Rattle.shrink_pass.proofs.release.closed.Goals as goal
 
 pub returns : goal.returns

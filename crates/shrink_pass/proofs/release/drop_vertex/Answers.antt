@@ -1,6 +1,5 @@
 use mathlib.Core.Path.{sym, ◌∙◌}
 use Rattle.shrink_pass.specs.laws.Release.{does-drop, does-no-drop}
-use borrow.Author.Rules.{rules}
 use Rattle.shrink_pass.proofs.release.drop_vertex.Goals as goal
 
 pub returns-then-holder-n : goal.returns-then-holder-n

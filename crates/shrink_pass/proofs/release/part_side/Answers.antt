@@ -1,5 +1,4 @@
 use Rattle.shrink_pass.specs.laws.Release.{does-part-drop, does-part-free, does-free-side}
-use borrow.Author.Rules.{rules}
 use Rattle.shrink_pass.proofs.release.part_side.Goals as goal
 
 pub returns-then-off-closed : goal.returns-then-off-closed

@@ -1,6 +1,5 @@
 use native.Mathlib.Omega.{arith}
 use Rattle.shrink_pass.specs.laws.Release.{does-free-vertex, does-part-vertex}
-use borrow.Author.Rules.{rules}
 use Rattle.shrink_pass.proofs.release.part_vertex.Goals as goal
 
 pub part_sides-requires : goal.part_sides-requires

@@ -1,5 +1,4 @@
 use Rattle.shrink_pass.specs.laws.Release.{does-release}
-use borrow.Author.Rules.{rules}
 use Rattle.shrink_pass.proofs.release.release_vertex.Goals as goal
 
 pub returns : goal.returns

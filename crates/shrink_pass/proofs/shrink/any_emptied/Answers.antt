@@ -1,34 +1,33 @@
-use borrow.Author.Rules.{rules}
-use native.Mathlib.Omega.{arith}
-use Prim.Native.Nat.{◌-◌, ◌≤◌}
-use mathlib.Core.Path.{◌≡◌, refl, sym, ◌∙◌}
-use lib.ListN.{drop}
-use Rattle.graph.specs.Basic.{any}
-use Rattle.graph.specs.State.{boundary_of}
+use Rattle.std.proofs.Common.{rules, tests, ap, ◌∙◌, ◌≡◌, refl, true, List, [], ◌∷◌, Bool, ◌<◌, ltb-true}
+use Rattle.std.specs.Prelude.{map, ltb, ◌||◌}
+use Rattle.std.specs.List.{list_any}
+use Rattle.std.proofs.lemmas.Iterator.{YieldsList-from_slice}
+use Rattle.std.proofs.lemmas.Iterator.Adapters.{serves_from_places}
+use Rattle.std.proofs.lemmas.Iterator.Search.{any_from_yields_List}
+use Rattle.graph.specs.Basic.{any, all}
+use Rattle.graph.specs.State.{side_count}
+use Rattle.graph.specs.Word.{to_nat}
 use Rattle.graph.specs.Layout.{state_of}
 use Rattle.shrink_pass.specs.inner.Shrinking.{vertex_left}
-use Rattle.graph.specs.laws.Members.{any_here, any-on, any-end}
+use Rattle.graph.specs.inner.Form.{sides_ok}
+use Rattle.graph.specs.laws.Chains.{any_mapped}
+use Rattle.graph.specs.laws.Members.{all-unmap}
+use Rattle.graph.specs.laws.Scan.{list_at}
 use Rattle.shrink_pass.proofs.shrink.any_emptied.Goals as goal
 
-pub loop-i-init : goal.loop-i-init
-loop-i-init c = (omega arith, refl)
-
-pub returns-then-emptied : goal.returns-then-emptied
-returns-then-emptied c = let d = c.loop-i in
-    let a = c.args in
-    any_here (vertex_left (state_of a.b.now)) (boundary_of (state_of a.b.now) a.n) d.i d.invariant.1
-    (omega arith)
-    (rw c.boundary_side-s.ensures.0 at (sym c.emptied.ensures ∙ c.if-emptied.true))
-
-pub loop-i-preserved : goal.loop-i-preserved
-loop-i-preserved c = let d = c.loop-i in
-    let a = c.args in (
-      omega arith,
-      any-on (vertex_left (state_of a.b.now)) (boundary_of (state_of a.b.now) a.n) d.i d.invariant.1 (omega arith)
-          (rw c.boundary_side-s.ensures.0 at (sym c.emptied.ensures ∙ c.if-emptied.false)),
-    )
+pub any-requires-clause-callable : goal.any-requires-clause-callable
+any-requires-clause-callable c =
+    let xs = c.boundary.result.now in
+    let m = side_count (state_of c.args.b.now) in
+    let within : all (λ x. ltb (to_nat x) m) xs ≡ true =
+    all-unmap (λ s. ltb s m) to_nat xs (unfold sides_ok in rw (← c.boundary.ensures) at c.requires.2) in
+    serves_from_places (YieldsList-from_slice xs (search rules)) (λ x q r. search rules)
+    (λ x k h e. let z : to_nat x.now < m =
+    rw e (ltb-true _ _ (list_at (λ y. ltb (to_nat y) m) xs k x.now within h)) in search rules)
 
 pub returns : goal.returns
-returns c = let d = c.loop-i in
-    let a = c.args in
-    any-end (vertex_left (state_of a.b.now)) (boundary_of (state_of a.b.now) a.n) d.i d.invariant.1 (omega arith)
+returns c =
+    let d = state_of c.args.b.now in
+    any_from_yields_List (λ x. vertex_left d (to_nat x)) _ _ _ c.any.ensures.ran
+    (YieldsList-from_slice c.boundary.result.now (search rules)) (λ x b q k. search (rules, tests))
+    ∙ any_mapped (vertex_left d) to_nat c.boundary.result.now ∙ ap (any (vertex_left d)) c.boundary.ensures

@@ -1,7 +1,6 @@
 use native.Mathlib.Omega.{arith}
 use mathlib.Core.Path.{sym, ◌∙◌}
 use Rattle.shrink_pass.specs.laws.Shrink.{does-end-free, does-end-note, end-room}
-use borrow.Author.Rules.{rules}
 use Rattle.shrink_pass.proofs.shrink.note_end.Goals as goal
 
 pub note-requires : goal.note-requires
@@ -13,7 +12,8 @@ note-requires c = let v = c.end-v in (
 )
 
 pub returns-then-holder-eq0 : goal.returns-then-holder-eq0
-returns-then-holder-eq0 c = does-end-free c.requires.0 c.args.s _ c.end-v.ensures.0 (sym c.holder.ensures.0 ∙ c.if-holder-eq0.true)
+returns-then-holder-eq0 c =
+    does-end-free c.requires.0 c.args.s _ c.end-v.ensures.0 (sym c.holder.ensures.0 ∙ c.if-holder-eq0.true)
 
 pub returns-else-holder-eq0 : goal.returns-else-holder-eq0
 returns-else-holder-eq0 c = let v = c.end-v in

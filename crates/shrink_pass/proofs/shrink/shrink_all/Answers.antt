@@ -1,10 +1,6 @@
 use native.Mathlib.Omega.{arith}
-use Rattle.shrink_pass.specs.laws.Finish.{marked-of, tops_fit, lists-fit, after-shrink}
-use borrow.Author.Rules.{rules}
+use Rattle.shrink_pass.specs.laws.Finish.{tops_fit, lists-fit, after-shrink}
 use Rattle.shrink_pass.proofs.shrink.shrink_all.Goals as goal
-
-pub overgrown_len-o-requires : goal.overgrown_len-o-requires
-overgrown_len-o-requires c = let f = c.shrink_work-p.ensures.0.formed in (f.laid, f.listed, omega arith)
 
 pub overflow_sub-o : goal.overflow_sub-o
 overflow_sub-o c =
@@ -28,9 +24,6 @@ replace_lists-requires c =
           c.side_count-m.ensures.0 s.2 q
           c.overgrown_len-o.result c.overgrown_len-o.ensures.0,
     )
-
-pub clear-requires : goal.clear-requires
-clear-requires c = (marked-of c.shrink_work-p.ensures.1, omega arith)
 
 pub returns : goal.returns
 returns c =

@@ -1,6 +1,5 @@
 use mathlib.Core.Path.{sym, ◌∙◌}
 use Rattle.shrink_pass.specs.laws.Idle.{idle-test, after-idle}
-use borrow.Author.Rules.{rules}
 use Rattle.shrink_pass.proofs.shrink.shrink_pass.Goals as goal
 
 pub returns-else-z-any_emptied : goal.returns-else-z-any_emptied

@@ -1,6 +1,5 @@
 use mathlib.Core.Path.{sym, ◌∙◌}
 use Rattle.shrink_pass.specs.laws.Shrink.{does-scan-note, does-scan-keep}
-use borrow.Author.Rules.{rules}
 use Rattle.shrink_pass.proofs.shrink.shrink_side.Goals as goal
 
 pub returns-then-emptied : goal.returns-then-emptied

@@ -1,7 +1,6 @@
 use native.Mathlib.Omega.{arith}
 use Rattle.graph.specs.laws.Row.{becomes-then}
 use Rattle.shrink_pass.specs.laws.Shrink.{start-busy, shrinkable-kept, none-noted, shrink-worked}
-use borrow.Author.Rules.{rules}
 use Rattle.shrink_pass.proofs.shrink.shrink_work.Goals as goal
 
 pub drop_tops-q-requires : goal.drop_tops-q-requires
@@ -17,11 +16,12 @@ shrink_scan-r-requires c =
           c.requires.2 d,
     )
 
-pub release_noted-requires : goal.release_noted-requires
-release_noted-requires c = (c.shrink_scan-r.ensures.working, omega arith)
-
 pub returns : goal.returns
 returns c =
     let e = c.release_noted.ensures in
-    let r = c.requires in
-    (becomes-then c.drop_tops-q.ensures.block (becomes-then c.shrink_scan-r.ensures.block e.block), shrink-worked _ r.0 r.2 c.drop_tops-q.ensures c.shrink_scan-r.ensures e)
+    let r = c.requires in (
+      becomes-then c.drop_tops-q.ensures.block
+          (becomes-then c.shrink_scan-r.ensures.block e.block),
+      shrink-worked _ r.0 r.2 c.drop_tops-q.ensures
+          c.shrink_scan-r.ensures e,
+    )

@@ -2,7 +2,6 @@ use native.Mathlib.Omega.{arith}
 use mathlib.Core.Path.{sym}
 use Rattle.small_patches.proofs.laws.Digits.{patch-by-digits, patch-past}
 use Rattle.small_patches.proofs.laws.Words.{put-none, put_then, put_as}
-use borrow.Author.Rules.{rules}
 use Rattle.small_patches.proofs.patch.patch.Goals as goal
 
 pub returns-then-k-gt728 : goal.returns-then-k-gt728

@@ -1,5 +1,4 @@
 use Rattle.small_patches.proofs.laws.Words.{put_one}
-use borrow.Author.Rules.{rules}
 use Rattle.small_patches.proofs.patch.put_edge.Goals as goal
 
 pub returns : goal.returns

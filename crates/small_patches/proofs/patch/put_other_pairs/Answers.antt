@@ -1,7 +1,6 @@
 use native.Mathlib.Omega.{arith}
 use Rattle.small_patches.proofs.laws.Words.{put_then}
 use Rattle.small_patches.specs.Words.{other_edges}
-use borrow.Author.Rules.{rules}
 use Rattle.small_patches.proofs.patch.put_other_pairs.Goals as goal
 
 pub returns : goal.returns

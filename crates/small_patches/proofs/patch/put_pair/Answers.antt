@@ -3,7 +3,6 @@ use Rattle.small_patches.specs.SmallPatch.{pair}
 use Rattle.small_patches.proofs.laws.Digits.{absent-pair, present-pair}
 use Rattle.small_patches.proofs.laws.Words.{put-none, put_as}
 use native.Mathlib.Omega.{arith}
-use borrow.Author.Rules.{rules}
 use Rattle.small_patches.proofs.patch.put_pair.Goals as goal
 
 pub returns-then-digit-eq0 : goal.returns-then-digit-eq0

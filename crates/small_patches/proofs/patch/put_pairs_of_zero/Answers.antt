@@ -1,7 +1,6 @@
 use Rattle.small_patches.proofs.laws.Words.{put_then}
 use Rattle.small_patches.specs.Words.{edges_of_zero}
 use native.Mathlib.Omega.{arith}
-use borrow.Author.Rules.{rules}
 use Rattle.small_patches.proofs.patch.put_pairs_of_zero.Goals as goal
 
 pub returns : goal.returns

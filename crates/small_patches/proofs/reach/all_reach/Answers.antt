@@ -1,5 +1,4 @@
 use Rattle.small_patches.specs.Reach.{marks_of, all_reach}
-use borrow.Author.Rules.{rules}
 use Rattle.small_patches.proofs.reach.all_reach.Goals as goal
 
 pub returns : goal.returns

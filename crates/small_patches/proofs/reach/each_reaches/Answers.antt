@@ -3,7 +3,6 @@ use Rattle.small_patches.specs.Reach.{all_reach}
 use mathlib.Core.Path.{◌≡◌, ◌∙◌, ap}
 use Prim.Native.Nat.{◌*◌, ◌-◌}
 use native.Mathlib.Omega.{arith}
-use borrow.Author.Rules.{rules}
 use Rattle.small_patches.proofs.reach.each_reaches.Goals as goal
 
 pub slice_bounds-all_reach-end : goal.slice_bounds-all_reach-end

@@ -1,7 +1,6 @@
 use native.Mathlib.Omega.{arith}
 use lib.ListN.{get_or-eq_default}
 use mathlib.Core.Path.{sym}
-use borrow.Author.Rules.{rules}
 use Rattle.small_patches.proofs.reach.mark.Goals as goal
 
 pub returns-else-a-m : goal.returns-else-a-m

@@ -1,7 +1,6 @@
 use native.Mathlib.Omega.{arith}
 use lib.Seq.{set_out}
 use mathlib.Core.Path.{sym}
-use borrow.Author.Rules.{rules}
 use Rattle.small_patches.proofs.reach.put_mark.Goals as goal
 
 pub returns-else-b-m : goal.returns-else-b-m

@@ -1,6 +1,5 @@
 use Rattle.small_patches.specs.Reach.{spread_along}
 use Rattle.graph.specs.Opening.{edge_at}
-use borrow.Author.Rules.{rules}
 use Rattle.small_patches.proofs.reach.spread_along.Goals as goal
 
 pub returns : goal.returns

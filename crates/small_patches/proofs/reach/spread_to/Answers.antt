@@ -1,6 +1,5 @@
 use Rattle.small_patches.specs.Reach.{spread_to}
 use borrow.Author.Tests.{lt-ltb, le-ltb}
-use borrow.Author.Rules.{rules}
 use Rattle.small_patches.proofs.reach.spread_to.Goals as goal
 
 pub returns-then-mark-gt0 : goal.returns-then-mark-gt0

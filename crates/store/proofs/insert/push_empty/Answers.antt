@@ -6,11 +6,6 @@ use Rattle.graph.specs.laws.Used.{entries-total}
 use Rattle.store.specs.laws.Insert.{rewritten-then, pushed-empty, head-limit, tail-limit}
 use Rattle.store.proofs.insert.push_empty.Goals as goal
 
-pub put_head-requires : goal.put_head-requires
-put_head-requires c =
-    rw c.new_node-d.ensures
-    (c.requires.0.laid, omega (arith, c.requires.1, c.node_count-n.ensures.0), c.requires.2, c.requires.3, omega arith, omega arith)
-
 pub put_tail-requires : goal.put_tail-requires
 unfolding Laid
 put_tail-requires c =

@@ -1,10 +1,7 @@
-use Prim.Native.Nat.{◌-◌, ◌≤◌}
+use Prim.Native.Nat.{◌≤◌}
 use Rattle.graph.specs.Layout.{state_of}
 use Rattle.store.specs.inner.Wrote.{Shifted}
 use Rattle.store.proofs.replace.shift_each.Given as goal
 
 abbrev pub invariant-loop-i : goal.invariant-loop-i
-invariant-loop-i l = (l.lo ≤ l.i) × (l.i ≤ l.hi) × Shifted l.initial.b l.b l.lo l.i l.add l.sub × ((state_of l.initial.b).node_limit ≤ 1024)
-
-abbrev pub decreases-loop-i : goal.decreases-loop-i
-decreases-loop-i l = l.hi - l.i
+invariant-loop-i l = Shifted l.initial.b l.b l.lo l.i l.add l.sub × ((state_of l.initial.b).node_limit ≤ 1024)

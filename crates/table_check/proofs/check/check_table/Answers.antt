@@ -4,15 +4,7 @@ use Rattle.table_refuse.specs.Refuse.{table_refusal}
 use borrow.Author.Tests.{ne_eqb}
 use Rattle.table_check.specs.laws.Accepted.{accepted-of, defects-few}
 use Rattle.table_check.specs.laws.Right.{tested-right}
-use borrow.Author.Rules.{rules}
-use Rattle.table_check.proofs.check.check_table.Goals.{Else-k-ne0}
 use Rattle.table_check.proofs.check.check_table.Goals as goal
-
--- where the call goes on, nothing refuses it
-
-none : (c : Else-k-ne0) → let a = c.args in table_refusal a.v a.e a.edges.now a.virtuals.now a.defects.now
-    a.duals.now a.growths.now a.distances.now ≡ 0
-none c = sym c.refusal-k.ensures ∙ c.if-k-ne0.false
 
 pub returns-then-k-ne0 : goal.returns-then-k-ne0
 unfolding table_verdict verdict_by
@@ -22,7 +14,8 @@ pub tested-requires : goal.tested-requires
 tested-requires c =
     let a = c.args in
     let z =
-    accepted-of a.v a.e a.edges.now a.virtuals.now a.defects.now a.duals.now a.growths.now a.distances.now (none c) in (
+    accepted-of a.v a.e a.edges.now a.virtuals.now a.defects.now a.duals.now a.growths.now a.distances.now
+    (sym c.refusal-k.ensures ∙ c.if-k-ne0.false) in (
       z.v-max,
       z.e-max,
       defects-few a.v a.e a.edges.now a.virtuals.now a.defects.now a.duals.now a.growths.now
@@ -35,9 +28,10 @@ unfolding table_verdict verdict_by
 returns-then-tested c =
     let a = c.args in
     let z =
-    accepted-of a.v a.e a.edges.now a.virtuals.now a.defects.now a.duals.now a.growths.now a.distances.now (none c.before.before) in
+    accepted-of a.v a.e a.edges.now a.virtuals.now a.defects.now a.duals.now a.growths.now a.distances.now
+    (sym c.refusal-k.ensures ∙ c.if-k-ne0.false) in
     rw (
-      none c.before.before,
+      sym c.refusal-k.ensures ∙ c.if-k-ne0.false,
       ← tested-right a.v a.e a.edges.now a.virtuals.now a.defects.now a.duals.now a.growths.now
           a.distances.now z,
       ← c.tested.ensures,
@@ -49,9 +43,10 @@ unfolding table_verdict verdict_by
 returns-else-tested c =
     let a = c.args in
     let z =
-    accepted-of a.v a.e a.edges.now a.virtuals.now a.defects.now a.duals.now a.growths.now a.distances.now (none c.before.before) in
+    accepted-of a.v a.e a.edges.now a.virtuals.now a.defects.now a.duals.now a.growths.now a.distances.now
+    (sym c.refusal-k.ensures ∙ c.if-k-ne0.false) in
     rw (
-      none c.before.before,
+      sym c.refusal-k.ensures ∙ c.if-k-ne0.false,
       ← tested-right a.v a.e a.edges.now a.virtuals.now a.defects.now a.duals.now a.growths.now
           a.distances.now z,
       ← c.tested.ensures,

@@ -1,6 +1,5 @@
 use Rattle.table_check.specs.Tests.{tested}
 use Rattle.table_check.specs.laws.Choice.{both-then, not-both}
-use borrow.Author.Rules.{rules}
 use Rattle.table_check.proofs.check.tested.Goals as goal
 
 pub returns-then-positive-in_reach : goal.returns-then-positive-in_reach

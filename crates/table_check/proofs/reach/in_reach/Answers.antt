@@ -4,7 +4,6 @@ use native.Mathlib.Omega.{arith}
 use Prim.Native.Nat.{◌-◌, ℕ}
 use mathlib.Core.List.{List}
 use Rattle.table_check.specs.laws.Marks.{zeros-part}
-use borrow.Author.Rules.{rules}
 use Rattle.table_check.proofs.reach.in_reach.Goals as goal
 
 pub returns : goal.returns

@@ -1,5 +1,4 @@
 use Rattle.table_check.specs.Tests.{all_marked}
-use borrow.Author.Rules.{rules}
 use Rattle.table_check.proofs.reach.reach_by.Goals as goal
 
 pub returns : goal.returns

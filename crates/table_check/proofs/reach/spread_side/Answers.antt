@@ -1,5 +1,4 @@
 use Rattle.table_check.specs.Tests.{spread_side}
-use borrow.Author.Rules.{rules}
 use Rattle.table_check.proofs.reach.spread_side.Goals as goal
 
 pub returns : goal.returns

@@ -1,5 +1,4 @@
 use Rattle.table_check.specs.Tests.{spreads_at}
-use borrow.Author.Rules.{rules}
 use Rattle.table_check.proofs.reach.spreads_at.Goals as goal
 
 pub returns : goal.returns

@@ -1,5 +1,4 @@
 use Rattle.table_check.specs.Streamed.{ended}
-use borrow.Author.Rules.{rules}
 use Rattle.table_check.proofs.stream.end.Goals as goal
 
 pub returns-then-k-free : goal.returns-then-k-free

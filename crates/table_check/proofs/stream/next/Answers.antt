@@ -1,5 +1,4 @@
 use Rattle.table_check.specs.Streamed.{advanced}
-use borrow.Author.Rules.{rules}
 use Rattle.table_check.proofs.stream.next.Goals as goal
 
 pub returns : goal.returns

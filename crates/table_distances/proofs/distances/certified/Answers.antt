@@ -1,4 +1,3 @@
-use borrow.Author.Rules.{rules}
 use Rattle.table_distances.specs.Certificate.{certified, preceded_marks}
 use Rattle.table_distances.proofs.distances.certified.Goals as goal
 

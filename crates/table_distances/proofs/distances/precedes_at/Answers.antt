@@ -1,5 +1,4 @@
 use Rattle.table_distances.specs.Certificate.{precedes_at}
-use borrow.Author.Rules.{rules}
 use Rattle.table_distances.proofs.distances.precedes_at.Goals as goal
 
 pub returns : goal.returns

@@ -1,31 +1,12 @@
 use borrow.Author.Rules.{rules}
 use Rattle.table_distances.specs.Certificate.{relaxed_at}
 use Rattle.table_words.specs.Handed.{distance_in}
-use mathlib.Core.Path.{◌≡◌, refl, sym, ◌∙◌}
-use native.Mathlib.Omega.{arith}
-use Prim.Native.Nat.{◌-◌, ◌*◌, ◌≤◌}
-use Rattle.graph.specs.Basic.{all_below}
-use Rattle.graph.specs.laws.Scan.{all_more, all-fails}
-use mathlib.Core.Bool.{true}
+use Rattle.graph.specs.laws.Chains.{all_of_range}
+use Prim.Native.Nat.{◌*◌}
 use Rattle.table_distances.proofs.distances.relaxed.Goals as goal
 
-pub loop-s-init : goal.loop-s-init
-unfolding all_below
-loop-s-init c = (omega arith, refl)
-
-pub loop-s-preserved : goal.loop-s-preserved
-loop-s-preserved c =
-    let a = c.args in (
-      search rules,
-      all_more (relaxed_at a.edges.now (distance_in a.row.now)) c.loop-s.s c.loop-s.invariant.1
-          (sym c.relaxed_at.ensures ∙ c.if-relaxed_at.true),
-    )
-
-pub returns-else-relaxed_at : goal.returns-else-relaxed_at
-returns-else-relaxed_at c =
-    let a = c.args in
-    sym (all-fails (relaxed_at a.edges.now (distance_in a.row.now)) (2 * a.e) c.loop-s.s (search rules)
-    (sym c.relaxed_at.ensures ∙ c.if-relaxed_at.false))
-
 pub returns : goal.returns
-returns c = let a = c.args in let e : c.loop-s.s ≡ 2 * a.e = omega arith in sym (rw e at c.loop-s.invariant.1)
+returns c =
+    let a = c.args in
+    all_of_range (relaxed_at a.edges.now (distance_in a.row.now)) (2 * a.e) _ _ _ c.all.ensures.ran
+    (λ x b q k. search rules)

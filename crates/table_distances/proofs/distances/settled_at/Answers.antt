@@ -1,6 +1,5 @@
 use Rattle.table_distances.specs.Certificate.{settled_at}
 use Rattle.distance.specs.Distance.{unreachable}
-use borrow.Author.Rules.{rules}
 use Rattle.table_distances.proofs.distances.settled_at.Goals as goal
 
 pub returns : goal.returns

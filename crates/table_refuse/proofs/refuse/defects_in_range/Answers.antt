@@ -2,7 +2,6 @@ use mathlib.Core.Path.{sym, ◌∙◌}
 use Rattle.graph.specs.Opening.{virtuals_from}
 use Rattle.table_refuse.specs.Refuse.{defects_in_range}
 use Rattle.table_words.specs.laws.Words.{below_more}
-use borrow.Author.Rules.{rules}
 use Rattle.table_refuse.proofs.refuse.defects_in_range.Goals as goal
 
 pub all_distinct-requires : goal.all_distinct-requires

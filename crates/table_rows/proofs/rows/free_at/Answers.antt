@@ -1,5 +1,4 @@
 use Rattle.table_rows.specs.Row.{free_at}
-use borrow.Author.Rules.{rules}
 use Rattle.table_rows.proofs.rows.free_at.Goals as goal
 
 pub returns : goal.returns

@@ -1,4 +1,3 @@
-use borrow.Author.Rules.{rules}
 use Rattle.table_rows.specs.Row.{row_right}
 use Rattle.table_rows.proofs.rows.row_right.Goals as goal
 

@@ -1,6 +1,5 @@
 use Rattle.table_rows.specs.laws.Side.{side-not-covered, side-covered}
 use Rattle.table_words.specs.Handed.{distance_in}
-use borrow.Author.Rules.{rules}
 use Rattle.table_rows.proofs.rows.side_at.Goals as goal
 
 pub returns-then-y-n : goal.returns-then-y-n

@@ -1,5 +1,4 @@
 use Rattle.table_rows.specs.Row.{virtual_pair_at}
-use borrow.Author.Rules.{rules}
 use Rattle.table_rows.proofs.rows.virtual_at.Goals as goal
 
 pub returns : goal.returns

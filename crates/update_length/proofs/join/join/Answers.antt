@@ -1,5 +1,4 @@
 use Rattle.update_length.specs.laws.Length.{over-stays, open-skip, open-room, open-meets, within-skip, within-room, within-meets}
-use borrow.Author.Rules.{rules}
 use Rattle.update_length.proofs.join.join.Goals as goal
 
 pub returns-in-Over : goal.returns-in-Over
@@ -20,7 +19,7 @@ returns-in-Skip-l c = within-skip c.in-Within.is c.in-Skip-l.is c.requires.0
 pub returns-in-Room-l : goal.returns-in-Room-l
 returns-in-Room-l c =
     within-room c.in-Within.is c.in-Room-l.is
-    c.requires.0 c.lesser.ensures
+    c.requires.0 c.min.ensures
 
 pub returns-in-Meets-l : goal.returns-in-Meets-l
 returns-in-Meets-l c = within-meets c.in-Within.is c.in-Meets-l.is

@@ -1,5 +1,5 @@
 use mir.Syntax.{w64}
-use borrow.Author.Rules.{sfits_of, rules}
+use borrow.Author.Rules.{sfits_of}
 use mathlib.Core.Path.{◌∙◌}
 use mir.Facts.{to_z-of_z}
 use Rattle.update_length.specs.laws.Length.{answer-open, answer-within, answer-over, within-is}

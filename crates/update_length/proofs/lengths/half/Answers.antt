@@ -1,6 +1,5 @@
 use native.Mathlib.Omega.{arith}
 use Rattle.update_length.specs.laws.Length.{half_up, half_down}
-use borrow.Author.Rules.{rules}
 use Rattle.update_length.proofs.lengths.half.Goals as goal
 
 pub returns-then-x-ge-ZERO : goal.returns-then-x-ge-ZERO

@@ -7,7 +7,6 @@ use mir.Val.{SFits, to_z}
 use mir.Facts.{to_z_pos, to_z-of_z}
 use Rattle.update_length.specs.inner.Length.{zero_length}
 use Rattle.update_length.specs.laws.Length.{length_up, length-down}
-use borrow.Author.Rules.{rules}
 use Rattle.update_length.proofs.lengths.signed.Goals as goal
 
 -- −1 − k

@@ -6,7 +6,6 @@ use Rattle.graph.specs.State.{opposite, grown_over, weight_over}
 use Rattle.graph.specs.Layout.{state_of}
 use Rattle.update_length.specs.Scan.{gap_of}
 use Rattle.update_length.specs.laws.Length.{length-left}
-use borrow.Author.Rules.{rules}
 use Rattle.update_length.proofs.look.difference.Goals.{After-growth-h}
 use Rattle.update_length.proofs.look.difference.Goals as goal
 

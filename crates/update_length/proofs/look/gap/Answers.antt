@@ -6,7 +6,6 @@ use Rattle.graph.specs.State.{opposite, grown_over, weight_over}
 use mathlib.Core.Path.{◌≡◌, sym, ◌∙◌}
 use Prim.Native.Nat.{◌+◌, ◌-◌}
 use native.Mathlib.Omega.{arith}
-use borrow.Author.Rules.{rules}
 use Rattle.update_length.proofs.look.gap.Goals as goal
 
 pub overflow_sub-result : goal.overflow_sub-result
@@ -40,5 +39,8 @@ returns-in-Left c =
     let e = left-side d c.args.s c.in-Left.x (sym c.in-Left.is ∙ c.edge_gap.ensures) in
     let w = weight_over d c.args.s in
     let h = grown_over d c.args.s in
-    let z : 4398046511104 + c.in-Left.x ≡ 4398046511104 + w - h = omega (arith, e) in
-    (rw z (length-left w h (omega (arith, e))), omega (arith, e, weight-small c.args.b.now c.args.s c.requires.0 c.requires.2))
+    let z : 4398046511104 + c.in-Left.x ≡ 4398046511104 + w - h = omega (arith, e) in (
+      rw z (length-left w h (omega (arith, e))),
+      omega
+          (arith, e, weight-small c.args.b.now c.args.s c.requires.0 c.requires.2),
+    )

@@ -6,7 +6,6 @@ use Rattle.graph.specs.Layout.{state_of}
 use Rattle.update_length.specs.Scan.{look_free}
 use Rattle.update_length.specs.inner.Length.{look_of, room_in}
 use Rattle.update_length.specs.laws.Length.{length-zero, length-nonzero}
-use borrow.Author.Rules.{rules}
 use Rattle.update_length.proofs.look.look_free.Goals as goal
 
 pub returns-then-virtual_flag-eq0 : goal.returns-then-virtual_flag-eq0

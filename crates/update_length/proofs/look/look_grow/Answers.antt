@@ -5,13 +5,17 @@ use Rattle.graph.specs.State.{holder_at, opposite}
 use Rattle.graph.specs.Layout.{state_of}
 use Rattle.update_length.specs.Scan.{look_grow}
 use Rattle.update_length.specs.inner.Length.{look_of, room_in}
-use borrow.Author.Rules.{rules}
 use Rattle.update_length.proofs.look.look_grow.Goals as goal
 
 pub look_held-requires : goal.look_held-requires
 look_held-requires c =
-    let q : c.holder-h.result ≡ holder_at (state_of c.args.b.now) (opposite c.args.s) = cc in
-    (c.requires.0, c.requires.1, c.requires.2, omega (arith, q, c.if-h-eq0.false, c.requires.1.holders (opposite c.args.s)))
+    let q : c.holder-h.result ≡ holder_at (state_of c.args.b.now) (opposite c.args.s) = cc in (
+      c.requires.0,
+      c.requires.1,
+      c.requires.2,
+      omega
+          (arith, q, c.if-h-eq0.false, c.requires.1.holders (opposite c.args.s)),
+    )
 
 pub returns-then-h-n : goal.returns-then-h-n
 unfolding look_grow look_of room_in

@@ -3,7 +3,6 @@ use mathlib.Core.Path.{refl}
 use Rattle.update_length.specs.Scan.{look_peer}
 use Rattle.update_length.specs.inner.Length.{look_of, room_in}
 use Rattle.update_length.specs.laws.Length.{length-zero, length-nonzero}
-use borrow.Author.Rules.{rules}
 use Rattle.update_length.proofs.look.look_peer.Goals as goal
 
 pub returns-then-l-eq-ZERO : goal.returns-then-l-eq-ZERO

@@ -4,12 +4,12 @@ use borrow.Author.Tests.{eq-eqb, ne_eqb}
 use Rattle.update_length.specs.Scan.{look_shrink, room}
 use Rattle.update_length.specs.inner.Length.{look_of, room_in}
 use Rattle.update_length.specs.laws.Length.{length_above}
-use borrow.Author.Rules.{rules}
 use Rattle.update_length.proofs.look.look_shrink.Goals as goal
 
 pub returns-then-g-eq0 : goal.returns-then-g-eq0
 unfolding look_shrink look_of room_in
-returns-then-g-eq0 c = rw (eq-eqb _ _ (sym c.growth-g.ensures.0 ∙ c.if-g-eq0.true)) (record { what = refl; fits = omega arith })
+returns-then-g-eq0 c =
+    rw (eq-eqb _ _ (sym c.growth-g.ensures.0 ∙ c.if-g-eq0.true)) (record { what = refl; fits = omega arith })
 
 pub returns-else-g-eq0 : goal.returns-else-g-eq0
 unfolding look_shrink look_of room_in

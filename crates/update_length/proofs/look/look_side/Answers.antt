@@ -1,6 +1,5 @@
 use borrow.Author.Tests.{eq-eqb, ne_eqb}
 use Rattle.update_length.specs.Scan.{look}
-use borrow.Author.Rules.{rules}
 use Rattle.update_length.proofs.look.look_side.Goals as goal
 
 pub returns-then-d-eq-UP : goal.returns-then-d-eq-UP

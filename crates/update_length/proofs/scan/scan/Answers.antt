@@ -5,7 +5,6 @@ use Rattle.answers.specs.declared.Answer.TheVariants.{Length}
 use Rattle.update_length.specs.Scan.{scan}
 use Rattle.update_length.specs.inner.Length.{scan_of, within_in}
 use Rattle.update_length.specs.laws.Length.{length_above}
-use borrow.Author.Rules.{rules}
 use Rattle.update_length.proofs.scan.scan.Goals as goal
 
 pub scan_boundary-requires : goal.scan_boundary-requires

@@ -1,7 +1,6 @@
 use Rattle.graph.specs.Layout.{state_of}
 use Rattle.graph.specs.inner.Form.{sides_ok}
 use Rattle.update_length.specs.laws.Scanning.{scan-answer}
-use borrow.Author.Rules.{rules}
 use Rattle.update_length.proofs.scan.scan_boundary.Goals as goal
 
 pub scan_sides-r-requires : goal.scan_sides-r-requires

@@ -3,7 +3,6 @@ use mathlib.Core.Path.{sym, ◌∙◌}
 use Rattle.graph.specs.State.{overgrown_of}
 use Rattle.graph.specs.Layout.{state_of}
 use Rattle.update_length.specs.laws.Scanning.{limit-none, limit-top}
-use borrow.Author.Rules.{rules}
 use Rattle.update_length.proofs.scan.shrink_limit.Goals as goal
 
 pub returns-then-overgrown_len-eq0 : goal.returns-then-overgrown_len-eq0
@@ -18,7 +17,7 @@ returns-else-overgrown_len-eq0 c =
     let r = c.requires.1.duals c.args.n in
     let l = c.overgrown_len.ensures.0 in
     let o = overgrown_of (state_of c.args.b.now) c.args.n in (
-      c.lesser.ensures
+      c.min.ensures
           ∙ rw (← d, c.overgrown_amount-a.ensures.0) (limit-top _ o (λ e. c.if-overgrown_len-eq0.false (l ∙ e))),
-      omega (arith, d, r, c.lesser.ensures),
+      omega (arith, d, r, c.min.ensures),
     )

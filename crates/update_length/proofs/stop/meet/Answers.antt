@@ -1,5 +1,4 @@
 use Rattle.update_length.specs.laws.Length.{meet-first, meet-again, meet-second, meet-more}
-use borrow.Author.Rules.{rules}
 use Rattle.update_length.proofs.stop.meet.Goals as goal
 
 pub returns-in-NoPeer : goal.returns-in-NoPeer

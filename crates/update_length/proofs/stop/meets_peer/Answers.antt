@@ -7,7 +7,6 @@ use borrow.Author.Tests.{eq-eqb, ne_eqb}
 use Rattle.graph.specs.State.{holder_at, opposite, grown_over, weight_over}
 use Rattle.graph.specs.Layout.{state_of}
 use Rattle.update_length.specs.Scan.{meets_peer}
-use borrow.Author.Rules.{rules}
 use Rattle.update_length.proofs.stop.meets_peer.Goals as goal
 
 pub grow_state-requires : goal.grow_state-requires

@@ -1,7 +1,6 @@
 use native.Mathlib.Omega.{arith}
 use Rattle.graph.specs.Layout.{state_of}
 use Rattle.update_length.specs.laws.Scanning.{stop-defect, stop-blossom}
-use borrow.Author.Rules.{rules}
 use Rattle.update_length.proofs.stop.stop_answer.Goals as goal
 
 pub returns-then-x-vertex_count : goal.returns-then-x-vertex_count

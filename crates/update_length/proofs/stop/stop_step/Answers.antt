@@ -1,7 +1,5 @@
 use mathlib.Core.Path.{sym, ◌∙◌}
-use Prim.Native.Nat.{◌-◌}
 use Rattle.update_length.specs.Scan.{stop_step}
-use borrow.Author.Rules.{rules}
 use Rattle.update_length.proofs.stop.stop_step.Goals as goal
 
 pub returns-then-meets_peer : goal.returns-then-meets_peer

@@ -1,5 +1,4 @@
 use Rattle.update_length.specs.laws.Length.{stop-no-peer, stop-peer, stop-two-peers}
-use borrow.Author.Rules.{rules}
 use Rattle.update_length.proofs.stop.stop_with.Goals as goal
 
 pub returns-in-NoPeer : goal.returns-in-NoPeer

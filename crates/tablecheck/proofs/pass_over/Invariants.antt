@@ -1,4 +1,0 @@
-use Rattle.tablecheck.proofs.pass_over.Given as goal
-
-abbrev pub decreases-loop-left : goal.decreases-loop-left
-decreases-loop-left g l = l.left
