@@ -11,7 +11,7 @@ trap 'rm -rf "$work"' EXIT
 git init -q "$work"
 cp -r "$here/cores" "$work/crates/cores"
 find "$work/crates/cores" -name '*.txt' | while read -r f; do mv "$f" "${f%.txt}"; done
-echo "cores staticlib: graph open_graph pass answers update_length growth calls blossom reachable records record_call record_step" >> "$work/crates.txt"
+echo "cores staticlib: refusal graph open_graph pass answers update_length growth calls blossom reachable records record_call record_step" >> "$work/crates.txt"
 (cd "$work/crates/cores" && rt lib > "$work/build.log" 2>&1) || { tail "$work/build.log" >&2; exit 1; }
 mkdir -p "$root/target/staticlib"
 cp "$work/crates/cores/out/libcores.a" "$root/target/staticlib/libcores.a"

@@ -212,16 +212,16 @@ use Rattle.graph.specs.Basic.{{below}}
 use Rattle.graph.specs.State.{{State, Overgrown, NodeClass, defect_vertex, blossom, removed}}
 use Rattle.graph.specs.Open.{{opened}}
 use Rattle.graph.specs.Sound.{{state_sound}}
-use Rattle.answers.specs.declared.Answer.TheVariants.{{Length, Done, Node, Prepared, Vertex, Refused}}
+use Rattle.answers.specs.Outcome.{{Length, Done, Node, Prepared, Vertex, Refused}}
 use Rattle.answers.specs.declared.MaxUpdateLength.TheVariants.{{NonZeroGrow, Unlimited, Conflicting, TouchingVirtual, BlossomNeedExpand, VertexShrinkStop, VertexShrinkStopPeer}}
 use Rattle.calls.specs.Calls.{{InsertDefect, InsertBlossom, SetGrowState, Prepare, UpdateLength, Grow, ReadTable, Advance, Contacts, RepresentativeVertex, Clear, RenewActiveList, PrepareAll, GroupLength, Round, RemoveBlossom, LoadEdgeModifier, answered, growths, touching, grouped, respond}}
-use Rattle.calls.specs.declared.group.GroupMaxUpdateLength.TheVariants.{{NonZeroGrow as group_free, Unlimited as group_unlimited, Conflicts as group_conflicts, Refused as group_refused}}
+use Rattle.calls.specs.Group.{{NonZeroGrow as group_free, Unlimited as group_unlimited, Conflicts as group_conflicts, Refused as group_refused}}
 use Rattle.calls.specs.Insert.{{occupied}}
 use Rattle.calls.specs.Occupied.{{sides_read}}
 use Rattle.calls.specs.Examples.{{Line, ◌gives◌, edge, given, wanted}}
 use Rattle.calls.specs.ErasureExamples.{{takes}}
 use Rattle.calls.specs.Opens.{{everything}}
-use Rattle.dual_module_node.specs.declared.NodeRead.TheVariants.{{Defect as read_defect, Blossom as read_blossom, Refused as read_refused}}
+use Rattle.dual_module_node.specs.Outcome.{{Defect as read_defect, Blossom as read_blossom, Refused as read_refused}}
 use Rattle.dual_module_node.specs.ReadNode.{{node_told, read_node}}
 
 abbrev over : ℕ → ℕ → Overgrown

@@ -1,8 +1,8 @@
 -- What a call answers: the enums of src/lib.rt, what is asked of an answer, and the state that a call leaves.
 use Rattle.std.specs.Prelude.{ℕ, Bool, true, false, ℤ}
 use Rattle.graph.specs.State.{State}
-use Rattle.answers.specs.declared.Answer.{Answer}
-use Rattle.answers.specs.declared.Answer.TheVariants.{Length, Done, Node, Prepared, Vertex, Refused}
+use Rattle.answers.specs.Outcome.{Answer}
+use Rattle.answers.specs.Outcome.{Length, Done, Node, Prepared, Vertex, Refused}
 use Rattle.answers.specs.declared.MaxUpdateLength.{MaxUpdateLength}
 use Rattle.answers.specs.declared.MaxUpdateLength.TheVariants.{NonZeroGrow, Unlimited, Conflicting, TouchingVirtual, BlossomNeedExpand, VertexShrinkStop, VertexShrinkStopPeer}
 

@@ -1,4 +1,5 @@
 -- What a call answers, an answer as numbers, and laws about them.
+pub mod Outcome
 pub mod Answer
 pub mod Numbers
 pub mod Opens

@@ -1,8 +1,8 @@
 -- An answer on paper (SPECIFICATION 9): numbers without sign, which a host of another language finds at the front of a list that it lends.
 use Rattle.std.specs.Prelude.{ℕ, ◌≡◌, not, List, [], ◌∷◌, ◌++◌, nat_abs, length, drop}
 use Rattle.std.specs.Int.Signed.{non_neg}
-use Rattle.answers.specs.declared.Answer.{Answer}
-use Rattle.answers.specs.declared.Answer.TheVariants.{Length, Done, Node, Prepared, Vertex, Refused}
+use Rattle.answers.specs.Outcome.{Answer}
+use Rattle.answers.specs.Outcome.{Length, Done, Node, Prepared, Vertex, Refused}
 use Rattle.answers.specs.declared.MaxUpdateLength.{MaxUpdateLength}
 use Rattle.answers.specs.declared.MaxUpdateLength.TheVariants.{NonZeroGrow, Unlimited, Conflicting, TouchingVirtual, BlossomNeedExpand, VertexShrinkStop, VertexShrinkStopPeer}
 use Rattle.answers.specs.Answer.{flag}

@@ -1,6 +1,6 @@
 -- The numbers of an answer tell it.
 use Rattle.std.specs.Prelude.{◌≡◌}
-use Rattle.answers.specs.declared.Answer.{Answer}
+use Rattle.answers.specs.Outcome.{Answer}
 use Rattle.answers.specs.Numbers.{OnPaper}
 use Rattle.answers.specs.laws.Decoded.{decoded-same}
 

@@ -6,9 +6,12 @@ ghost use Rattle.std.specs.Prelude.{◌≡◌, not, ◌≤◌, length};
 ghost use Rattle.std.specs.Int.Signed.{non_neg};
 ghost use Rattle.answers.specs.Answer.{flag};
 ghost use Rattle.answers.specs.declared.MaxUpdateLength.TheVariants.{NonZeroGrow};
+ghost use Rattle.answers.specs.Outcome.{Refused, accepted_as, told};
+ghost use Rattle.refusal.specs.Refusal.{number};
 ghost use Rattle.answers.specs.Numbers.{length_numbers, answer_numbers, Tells};
 
 use graph::words;
+use refusal::Refusal;
 
 // How far a node may grow, or what stands in its way: the Rust's MaxUpdateLength. Nodes and vertices are plain numbers.
 #[derive(Clone, Copy)]
@@ -22,7 +25,7 @@ pub enum MaxUpdateLength {
     VertexShrinkStopPeer(usize, usize, usize), // the same, with a Grow peer and its grandson
 }
 
-// What a call answers. A later call whose answer is none of these has an enum of its own.
+// What a call answers that is not refused. A later call whose answer is none of these has an enum of its own.
 #[derive(Clone, Copy)]
 pub enum Answer {
     Length(MaxUpdateLength),
@@ -30,7 +33,6 @@ pub enum Answer {
     Node(usize), // the number of the new node
     Prepared(usize), // how many passes
     Vertex(usize), // the representative vertex
-    Refused(usize), // the number of the refusal
 }
 
 // The numbers are written over the front of the list; how many they are.
@@ -81,10 +83,10 @@ pub fn tell_length(list: &mut [usize], m: MaxUpdateLength) -> usize
     }
 }
 
-// The numbers of an answer.
-pub fn tell(list: &mut [usize], a: Answer) -> usize
+// The numbers of an answer that is no refusal.
+fn tell_accepted(list: &mut [usize], a: Answer) -> usize
     requires { 5 ≤ length list.old }
-    ensures { Tells (answer_numbers a) list.old list.new result }
+    ensures { Tells (answer_numbers (accepted_as a)) list.old list.new result }
 {
     match a {
         Answer::Length(m) => tell_length(list, m),
@@ -92,6 +94,24 @@ pub fn tell(list: &mut [usize], a: Answer) -> usize
         Answer::Node(n) => front(list, &[8, n]),
         Answer::Prepared(n) => front(list, &[9, n]),
         Answer::Vertex(v) => front(list, &[10, v]),
-        Answer::Refused(n) => front(list, &[11, n]),
+    }
+}
+
+// The numbers of a refusal.
+pub fn tell_refusal(list: &mut [usize], refusal: Refusal) -> usize
+    requires { 5 ≤ length list.old }
+    ensures { Tells (answer_numbers (Refused (number refusal))) list.old list.new result }
+{
+    front(list, &[11, refusal.number()])
+}
+
+// The numbers of what a call hands back.
+pub fn tell(list: &mut [usize], a: Result<Answer, Refusal>) -> usize
+    requires { 5 ≤ length list.old }
+    ensures { Tells (answer_numbers (told a)) list.old list.new result }
+{
+    match a {
+        Ok(answer) => tell_accepted(list, answer),
+        Err(refusal) => tell_refusal(list, refusal),
     }
 }

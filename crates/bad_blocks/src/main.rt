@@ -5,6 +5,7 @@
 
 ghost use Rattle.std.specs.Prelude.{◌≡◌, ◌<◌, ◌≤◌, length};
 
+use refusal::Refusal;
 use std::io;
 
 // The sound block (crates/graph/specs/Example.antt has the state that it holds).
@@ -26,6 +27,14 @@ fn tell(rt: &impl Print, name: &[u8], k: usize) -> io::Result<()> {
     println!(rt; ": {k}")
 }
 
+// The number of what refuses a block, 0 for nothing.
+fn tell_refusal(rt: &impl Print, name: &[u8], refused: Result<(), Refusal>) -> io::Result<()> {
+    match refused {
+        Ok(()) => tell(rt, name, 0),
+        Err(refusal) => tell(rt, name, refusal.number()),
+    }
+}
+
 // The block with word i set to x.
 fn with(rt: &impl Print, name: &[u8], i: usize, x: i64) -> io::Result<()>
     requires { i < 56 }
@@ -33,33 +42,33 @@ fn with(rt: &impl Print, name: &[u8], i: usize, x: i64) -> io::Result<()>
     let mut b = sample();
     b[i] = x;
     let t = [0i64; 6];
-    tell(rt, name, memory_tests::refuse::refusal(&b, &t))
+    tell_refusal(rt, name, memory_tests::refuse::refusal(&b, &t))
 }
 
 fn lengths(rt: &impl Print) -> io::Result<()> {
     let b = sample();
     let t = [0i64; 7];
-    tell(
+    tell_refusal(
         rt,
         b"a sound block",
         memory_tests::refuse::refusal(&b, &t[0..6]),
     )?;
-    tell(
+    tell_refusal(
         rt,
         b"the block a word short",
         memory_tests::refuse::refusal(&b[0..55], &t[0..6]),
     )?;
-    tell(
+    tell_refusal(
         rt,
         b"the scratch a word short",
         memory_tests::refuse::refusal(&b, &t[0..5]),
     )?;
-    tell(
+    tell_refusal(
         rt,
         b"the scratch a word long",
         memory_tests::refuse::refusal(&b, &t),
     )?;
-    tell(
+    tell_refusal(
         rt,
         b"no block at all",
         memory_tests::refuse::refusal(&b[0..0], &t[0..6]),
@@ -74,7 +83,7 @@ fn longer(rt: &impl Print) -> io::Result<()> {
     b[2] = 2;
     b[3] = 4;
     let t = [0i64; 6];
-    tell(
+    tell_refusal(
         rt,
         b"the block a word long",
         memory_tests::refuse::refusal(&b, &t),
@@ -175,7 +184,7 @@ fn pair(rt: &impl Print, name: &[u8], x: i64, y: i64) -> io::Result<()> {
     b[49] = x;
     b[50] = y;
     let t = [0i64; 6];
-    tell(rt, name, memory_tests::refuse::refusal(&b, &t))
+    tell_refusal(rt, name, memory_tests::refuse::refusal(&b, &t))
 }
 
 // The block with k active nodes, and x, y in the active list.
@@ -185,7 +194,7 @@ fn active(rt: &impl Print, name: &[u8], k: i64, x: i64, y: i64) -> io::Result<()
     b[53] = x;
     b[54] = y;
     let t = [0i64; 6];
-    tell(rt, name, memory_tests::refuse::refusal(&b, &t))
+    tell_refusal(rt, name, memory_tests::refuse::refusal(&b, &t))
 }
 
 fn actives(rt: &impl Print) -> io::Result<()> {
@@ -209,7 +218,7 @@ fn removed(rt: &impl Print, name: &[u8], i: usize, x: i64, j: usize, y: i64) -> 
     b[i] = x;
     b[j] = y;
     let t = [0i64; 6];
-    tell(rt, name, memory_tests::refuse::refusal(&b, &t))
+    tell_refusal(rt, name, memory_tests::refuse::refusal(&b, &t))
 }
 
 fn removals(rt: &impl Print) -> io::Result<()> {
@@ -240,7 +249,7 @@ fn first_member(rt: &impl Print, name: &[u8], x: i64) -> io::Result<()> {
     b[35] = x;
     b[36] = 2;
     let t = [0i64; 6];
-    tell(rt, name, memory_tests::refuse::refusal(&b, &t))
+    tell_refusal(rt, name, memory_tests::refuse::refusal(&b, &t))
 }
 
 // How many words of b are not those of the sound block.
@@ -276,7 +285,7 @@ fn opening(
     let mut b = sample();
     let t = [0i64; 6];
     let edge = [left, 1, weight];
-    tell(
+    tell_refusal(
         rt,
         name,
         open_graph::open::open(&mut b, &t, v, e, 2, 4, &edge, virtuals),

@@ -11,6 +11,8 @@ ghost use Rattle.graph.specs.Layout.{state_of};
 ghost use Rattle.graph.specs.Form.{Formed};
 ghost use Rattle.graph.specs.inner.Form.{Becomes, sides_ok};
 ghost use Rattle.pass.specs.Scratch.{scratch_of};
+ghost use Rattle.refusal.specs.Refusal.{refusal_number};
+ghost use Rattle.answers.specs.Outcome.{told};
 ghost use Rattle.calls.specs.Refuse.{bad_node, in_blossom, entries_but, store_short};
 ghost use Rattle.calls.specs.Insert.{no_circle, blossom_refusal, prepare_step, join_side, join_step, join_circle, insert_blossom};
 ghost use Rattle.blossom.specs.inner.Circle.{Joinable, JoinedIn, joined_in};
@@ -21,6 +23,7 @@ use answers::Answer;
 use calls::refuse;
 use graph::dual_node::DOWN;
 use graph::{lists, node, rows, side, words};
+use refusal::Refusal;
 
 pub mod tested; // the insertion, and whether it keeps the block sound
 
@@ -97,24 +100,27 @@ fn store_short_circle(b: &[i64], circle: &[i64]) -> bool
     refuse::over_store(b, used - own, circle.len() + 1)
 }
 
-// What refuses a blossom of the circle in grow state x: 0 or the number.
-pub fn blossom_refusal(b: &[i64], x: usize, circle: &[i64]) -> usize
+// What refuses a blossom of the circle in grow state x.
+pub fn blossom_refusal(b: &[i64], x: usize, circle: &[i64]) -> Result<(), Refusal>
     requires { Formed b.now }
-    ensures { result ≡ blossom_refusal (state_of b.now) x (map to_nat circle.now) }
+    ensures { refusal_number result ≡ blossom_refusal (state_of b.now) x (map to_nat circle.now) }
 {
     if (node::SHRINK < x) | any_bad(b, circle) {
-        return 3;
+        return Err(Refusal::NoSuch);
     }
     if any_inner(b, circle) {
-        return 6;
+        return Err(Refusal::InBlossom);
     }
     if no_circle(circle) {
-        return 7;
+        return Err(Refusal::NoCircle);
     }
     if rows::node_limit(b) <= rows::node_count(b) {
-        return 8;
+        return Err(Refusal::NoNodeLeft);
     }
-    if store_short_circle(b, circle) { 9 } else { 0 }
+    if store_short_circle(b, circle) {
+        return Err(Refusal::StoreShort);
+    }
+    Ok(())
 }
 
 // ---- the members
@@ -208,9 +214,14 @@ pub fn join_circle(b: &mut [i64], t: &mut [i64], circle: &[i64], n: usize, ask: 
 // ---- the blossom
 
 // The next node is a blossom of the circle, in grow state x.
-pub fn insert_blossom(b: &mut [i64], t: &mut [i64], x: usize, circle: &[i64]) -> Answer
+pub fn insert_blossom(
+    b: &mut [i64],
+    t: &mut [i64],
+    x: usize,
+    circle: &[i64],
+) -> Result<Answer, Refusal>
     requires { Usable b.old t.old }
-    ensures { RepliesInsert b.old b.new result
+    ensures { RepliesInsert b.old b.new (told result)
         (insert_blossom (state_of b.old) x (map to_nat circle.now))
         × (t.new ≡ t.old) }
 {

@@ -4,6 +4,7 @@
 ghost use Rattle.std.specs.Prelude.{◌≡◌, ◌&&◌, map};
 ghost use Rattle.graph.specs.Word.{to_nat};
 ghost use Rattle.graph.specs.Layout.{state_of};
+ghost use Rattle.answers.specs.Outcome.{told};
 ghost use Rattle.calls.specs.Insert.{insert_blossom};
 ghost use Rattle.calls.specs.Keeps.{blossom_keeps};
 ghost use Rattle.calls.specs.inner.Reply.{RepliesInsert, Usable};
@@ -17,15 +18,14 @@ use store::insert;
 // The next node is a blossom of the circle, in grow state x.
 pub fn insert_blossom(b: &mut [i64], t: &mut [i64], x: usize, circle: &[i64], ask: bool) -> Tested
     requires { Usable b.old t.old }
-    ensures { RepliesInsert b.old b.new result.answer
+    ensures { RepliesInsert b.old b.new (told result.answer)
         (insert_blossom (state_of b.old) x (map to_nat circle.now))
         × (t.new ≡ t.old)
         × (result.kept ≡ (ask && blossom_keeps (state_of b.old) x (map to_nat circle.now))) }
 {
-    let k = crate::blossom_refusal(b, x, circle);
-    if k != 0 {
+    if let Err(refusal) = crate::blossom_refusal(b, x, circle) {
         return Tested {
-            answer: Answer::Refused(k),
+            answer: Err(refusal),
             kept: ask,
         };
     }
@@ -37,7 +37,7 @@ pub fn insert_blossom(b: &mut [i64], t: &mut [i64], x: usize, circle: &[i64], as
     active_list::join(b, n);
     scratch::wipe(t, 0, l);
     Tested {
-        answer: Answer::Node(n),
+        answer: Ok(Answer::Node(n)),
         kept: joined.kept,
     }
 }

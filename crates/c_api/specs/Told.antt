@@ -1,9 +1,10 @@
 -- What each exported call promises.
 use Rattle.std.specs.Prelude.{ℕ, ◌≡◌, Bool, List, ℤ}
 use Rattle.graph.specs.Opening.{OpenCalled}
-use Rattle.dual_module_read.specs.declared.Counted.{Counted}
+use Rattle.std.specs.Prelude.{Result}
+use Rattle.refusal.specs.declared.Refusal.{Refusal}
 use Rattle.dual_module.specs.Called.{DefectCalled, BlossomCalled, StateCalled, PrepareCalled, LengthCalled, GrowCalled, AdvanceCalled, ClearCalled}
-use Rattle.dual_module_read.specs.Read.{VertexRead, TableRead, ContactsRead, ContactsCounted}
+use Rattle.dual_module_read.specs.Read.{VertexRead, TableRead, ContactsRead, ContactsCounted, count_told, count_in}
 use Rattle.c_api.specs.Words.{answer_numbers, open_numbers, counted_numbers, Told, Kept}
 
 -- b and t are block and scratch before, b' and t' after; `list` is lent for the answer and is list' after, with k numbers of it in front
@@ -46,4 +47,4 @@ TableTold b t words words' list list' k = Told answer_numbers list list' k (word
 abbrev pub ContactsTold : (b t words words' : List ℤ) (list list' : List ℕ) → ℕ → Type 0
 ContactsTold b t words words' list list' k =
     Told counted_numbers list list' k (words' ≡ words)
-    (λ (c : Counted). ContactsRead b t words words' c.answer × ContactsCounted b t words c.count)
+    (λ (c : Result ℕ Refusal). ContactsRead b t words words' (count_told c) × ContactsCounted b t words (count_in c))

@@ -1,11 +1,12 @@
 -- What an exported call tells a host: an answer as numbers at the front of a list that it lends.
-use Rattle.std.specs.Prelude.{ℕ, ◌≤◌, ◌<◌, ◌≡◌, List, [], ◌∷◌, ◌++◌, ℤ, eqb, leb, length, drop, if◌then◌else◌}
-use Rattle.answers.specs.declared.Answer.{Answer}
-use Rattle.answers.specs.declared.Answer.TheVariants.{Done, Refused}
+use Rattle.std.specs.Prelude.{ℕ, ◌≤◌, ◌<◌, ◌≡◌, List, [], ◌∷◌, ◌++◌, ℤ, eqb, leb, length, drop, if◌then◌else◌, Result}
+use Rattle.answers.specs.Outcome.{Answer}
+use Rattle.answers.specs.Outcome.{Done, Refused}
 use Rattle.answers.specs.Answer.{is_done}
 unfoldable pub use Rattle.answers.specs.Numbers.{answer_numbers}
 pub use Rattle.answers.specs.Numbers.{Tells}
-use Rattle.dual_module_read.specs.declared.Counted.{Counted}
+use Rattle.refusal.specs.declared.Refusal.{Refusal}
+use Rattle.dual_module_read.specs.Read.{count_told, count_in}
 
 -- an opening: done, or its refusal
 unfoldable pub open_answer : ℕ → Answer
@@ -20,8 +21,8 @@ unfoldable pub count_numbers : Answer → ℕ → List ℕ
 count_numbers a n = if is_done a then 7 ∷ n ∷ [] else answer_numbers a
 
 -- the same of what such a reading gives back
-abbrev pub counted_numbers : Counted → List ℕ
-counted_numbers c = count_numbers c.answer c.count
+abbrev pub counted_numbers : Result ℕ Refusal → List ℕ
+counted_numbers c = count_numbers (count_told c) (count_in c)
 
 -- an answer of which Says holds stands at the front of the list, in k numbers
 pub record Saying {A : Type 0} (numbers : A → List ℕ) (list list' : List ℕ) (k : ℕ) (Says : A → Type 0) : Type 0 where

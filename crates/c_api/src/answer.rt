@@ -2,10 +2,11 @@
 
 ghost use Rattle.std.specs.Prelude.{◌≡◌, ◌≤◌, length};
 ghost use Rattle.answers.specs.Numbers.{Tells};
-ghost use Rattle.c_api.specs.Words.{open_answer, open_numbers, counted_numbers, short_list, short_count};
+ghost use Rattle.refusal.specs.Refusal.{refusal_number};
+ghost use Rattle.c_api.specs.Words.{open_numbers, counted_numbers, short_list, short_count};
 
-use answers::{Answer, front, tell};
-use dual_module_read::Counted;
+use answers::{Answer, front, tell, tell_refusal};
+use refusal::Refusal;
 
 // A list that is too short for an answer: refused 1, if it has room for that; how many numbers are told.
 pub fn refuse_short(list: &mut [usize]) -> usize
@@ -17,34 +18,24 @@ pub fn refuse_short(list: &mut [usize]) -> usize
     front(list, &[11, 1])
 }
 
-// What an opening answers: k is the number of its refusal, 0 where it is done.
-fn opened(k: usize) -> Answer
-    ensures { result ≡ open_answer k }
+// What an opening answers is told at the front of the list; how many numbers.
+pub fn tell_opened(list: &mut [usize], opened: Result<(), Refusal>) -> usize
+    requires { 5 ≤ length list.old }
+    ensures { Tells (open_numbers (refusal_number opened)) list.old list.new result }
 {
-    if k == 0 {
-        Answer::Done
-    } else {
-        Answer::Refused(k)
+    match opened {
+        Ok(()) => tell(list, Ok(Answer::Done)),
+        Err(refusal) => tell(list, Err(refusal)),
     }
 }
 
-// The same for an opening.
-pub fn tell_opened(list: &mut [usize], k: usize) -> usize
-    requires { 5 ≤ length list.old }
-    ensures { Tells (open_numbers k) list.old list.new result }
-{
-    let a = opened(k);
-    tell(list, a)
-}
-
 // The same for a reading that counts.
-pub fn tell_counted(list: &mut [usize], c: Counted) -> usize
+pub fn tell_counted(list: &mut [usize], c: Result<usize, Refusal>) -> usize
     requires { 5 ≤ length list.old }
     ensures { Tells (counted_numbers c) list.old list.new result }
 {
-    let a = c.answer;
-    match a {
-        Answer::Done => front(list, &[7, c.count]),
-        _ => tell(list, a),
+    match c {
+        Ok(n) => front(list, &[7, n]),
+        Err(refusal) => tell_refusal(list, refusal),
     }
 }

@@ -27,8 +27,8 @@ pub extern "C" fn fb_open(
     if answer.len() < 5 {
         return answer::refuse_short(answer);
     }
-    let k = open_graph::open::open(block, scratch, v, e, n, l, edges, virtuals);
-    answer::tell_opened(answer, k)
+    let opened = open_graph::open::open(block, scratch, v, e, n, l, edges, virtuals);
+    answer::tell_opened(answer, opened)
 }
 
 // The next node is a defect at a vertex.

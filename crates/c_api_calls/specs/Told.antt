@@ -1,14 +1,14 @@
 -- What `fb_calls` promises: what the exported calls would, one after another, each with five numbers of the list for its answer.
 use Rattle.std.specs.Prelude.{ℕ, ◌/◌, ◌%◌, min, ◌≡◌, ◌≢◌, List, [], ◌∷◌, ◌++◌, ℤ, eqb, length, if◌then◌else◌}
 use Rattle.graph.specs.Layout.{memory_refusal}
-use Rattle.answers.specs.declared.Answer.TheVariants.{Refused as RefusedCall}
+use Rattle.answers.specs.Outcome.{Refused as RefusedCall}
 use Rattle.answers.specs.Numbers.{OnPaper}
 use Rattle.c_api.specs.Words.{answer_numbers, Told, Kept}
 use Rattle.c_api.specs.Told.{DefectTold, BlossomTold, StateTold, PrepareTold, LengthTold, GrowTold, AdvanceTold, ClearTold, VertexTold}
 use Rattle.c_api_node.specs.Told.{ReadNodeTold}
 use Rattle.c_api_gap.specs.Told.{GapTold}
-use Rattle.c_api_calls.specs.declared.CallsAnswer.{CallsAnswer}
-use Rattle.c_api_calls.specs.declared.CallsAnswer.TheVariants.{Made, Refused}
+use Rattle.c_api_calls.specs.Outcome.{CallsAnswer}
+use Rattle.c_api_calls.specs.Outcome.{Made, Refused}
 use Rattle.c_api_calls.specs.ListCall.{ListCall, list_defect, list_blossom, list_state, list_prepare, list_length, list_grow, list_advance, list_clear, list_vertex, list_node, list_gap, list_other, list_calls}
 use Rattle.c_api_calls.specs.Tests.{tests_in}
 

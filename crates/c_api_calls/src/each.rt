@@ -2,7 +2,7 @@
 
 ghost use Rattle.std.specs.Prelude.{◌≡◌, true, pos, length, get_or};
 ghost use Rattle.graph.specs.Word.{word_at};
-ghost use Rattle.answers.specs.declared.Answer.TheVariants.{Refused};
+ghost use Rattle.answers.specs.Outcome.{Refused, told};
 ghost use Rattle.answers.specs.Numbers.{answer_numbers, Tells};
 ghost use Rattle.c_api_calls.specs.ListCall.{list_defect, circle_call, list_state, list_prepare, length_call, list_grow, list_advance, list_clear, list_vertex, list_node, list_gap};
 ghost use Rattle.c_api_calls.specs.inner.Running.{Passed, CallDone};
@@ -11,6 +11,7 @@ use answers::Answer;
 use dual_module::sound;
 use dual_module::sound::Known;
 use graph::words;
+use refusal::Refusal;
 
 // What is known after a call: whether the block is certainly sound, and whether the scratch is all zero.
 #[derive(Clone, Copy)]
@@ -22,7 +23,7 @@ pub struct After {
 // The answer is told, and what is known handed on.
 fn tell_known(part: &mut [usize], k: Known) -> After
     requires { length part.old ≡ 5 }
-    ensures { Tells (answer_numbers k.answer) part.old part.new (length (answer_numbers k.answer))
+    ensures { Tells (answer_numbers (told k.answer)) part.old part.new (length (answer_numbers (told k.answer)))
         × (result.kept ≡ k.kept) × (result.zero ≡ k.zero) }
 {
     let a = k.answer;
@@ -34,9 +35,9 @@ fn tell_known(part: &mut [usize], k: Known) -> After
 }
 
 // The same of a call that keeps the block sound and leaves the scratch.
-fn tell_plain(part: &mut [usize], a: Answer, zero: bool) -> After
+fn tell_plain(part: &mut [usize], a: Result<Answer, Refusal>, zero: bool) -> After
     requires { length part.old ≡ 5 }
-    ensures { Tells (answer_numbers a) part.old part.new (length (answer_numbers a))
+    ensures { Tells (answer_numbers (told a)) part.old part.new (length (answer_numbers (told a)))
         × (result.kept ≡ true) × (result.zero ≡ zero) }
 {
     answers::tell(part, a);
@@ -48,7 +49,7 @@ pub fn other(part: &mut [usize], zero: bool) -> After
     requires { length part.old ≡ 5 }
     ensures { Tells (answer_numbers (Refused 3)) part.old part.new 2 × (result.kept ≡ true) × (result.zero ≡ zero) }
 {
-    tell_plain(part, Answer::Refused(3), zero)
+    tell_plain(part, Err(Refusal::NoSuch), zero)
 }
 
 // ---- insertion, state

@@ -7,19 +7,20 @@ ghost use Rattle.std.specs.Prelude.{◌≡◌, ◌+◌, ◌*◌, ◌≤◌, ◌<
 ghost use Rattle.graph.specs.Word.{word_limit};
 ghost use Rattle.answers.specs.Numbers.{Tells};
 ghost use Rattle.c_api_calls.specs.ListCall.{list_call_of, list_call_at, list_calls};
+ghost use Rattle.c_api_calls.specs.Outcome.{calls_told, standing_refusal};
 ghost use Rattle.c_api_calls.specs.Told.{call_count, calls_numbers, CallsMade, CallsTold};
 ghost use Rattle.c_api_calls.specs.inner.Running.{Between, Tested, CallStepped, CallSteppedAt, Ran};
 
-use answers::Answer;
+use refusal::Refusal;
 
 pub mod each; // a call of a list, kind by kind
 pub mod kinds; // the call that four words are
 
-// What a list of calls answers.
+// How many calls were made, and how often memory was tested.
 #[derive(Clone, Copy)]
-pub enum CallsAnswer {
-    Made(usize, usize), // how many calls were made, and how often memory was tested
-    Refused(usize), // the number of the refusal
+pub struct Made {
+    pub calls: usize,
+    pub tests: usize,
 }
 
 // Where a list of calls stands: how many were made, how often memory was tested, what refuses it, and what is known of it.
@@ -27,25 +28,32 @@ pub enum CallsAnswer {
 pub struct Standing {
     pub made: usize,
     pub tests: usize,
-    pub refusal: usize, // 0, or the refusal of every call from here on
+    pub refusal: Option<Refusal>, // what refuses every call from here on
     pub known: bool, // the block is sound
     pub zero: bool, // the scratch is all zero
 }
 
 // Memory is tested, where it is not known to be sound or refused.
 fn test(b: &[i64], t: &[i64], s: Standing) -> Standing
-    requires { Between b.now t.now s.refusal s.known s.zero × (s.tests ≤ s.made) × (s.made < word_limit) }
-    ensures { Tested b.now t.now s.tests s.refusal s.known result.tests result.refusal result.known × (result.made ≡ s.made) × (result.zero ≡ s.zero) }
+    requires { Between b.now t.now (standing_refusal s.refusal) s.known s.zero × (s.tests ≤ s.made) × (s.made < word_limit) }
+    ensures { Tested b.now t.now s.tests (standing_refusal s.refusal) s.known result.tests (standing_refusal result.refusal) result.known × (result.made ≡ s.made) × (result.zero ≡ s.zero) }
 {
-    if s.known | (s.refusal != 0) {
+    if s.known | s.refusal.is_some() {
         return s;
     }
-    let k = memory_tests::refuse::refusal(b, t);
-    Standing {
-        tests: s.tests + 1,
-        refusal: k,
-        known: k == 0,
-        ..s
+    match memory_tests::refuse::refusal(b, t) {
+        Ok(()) => Standing {
+            tests: s.tests + 1,
+            refusal: None,
+            known: true,
+            ..s
+        },
+        Err(refusal) => Standing {
+            tests: s.tests + 1,
+            refusal: Some(refusal),
+            known: false,
+            ..s
+        },
     }
 }
 
@@ -58,15 +66,15 @@ fn step(
     part: &mut [usize],
     s: Standing,
 ) -> Standing
-    requires { Between b.old t.old s.refusal s.known s.zero × (s.tests ≤ s.made) × (s.made < word_limit)
+    requires { Between b.old t.old (standing_refusal s.refusal) s.known s.zero × (s.tests ≤ s.made) × (s.made < word_limit)
         × (length w.now ≡ 4) × (length part.old ≡ 5) }
     ensures { CallStepped b.old t.old (list_call_of circles.now w.now) b.new t.new
-        part.old part.new s.tests s.refusal s.known result.tests result.refusal result.known result.zero
+        part.old part.new s.tests (standing_refusal s.refusal) s.known result.tests (standing_refusal result.refusal) result.known result.zero
         × (result.made ≡ s.made + 1) × (result.tests ≤ result.made) }
 {
     let s = test(b, t, s);
-    if s.refusal != 0 {
-        answers::tell(part, Answer::Refused(s.refusal));
+    if let Some(refusal) = s.refusal {
+        answers::tell_refusal(part, refusal);
         return Standing {
             made: s.made + 1,
             ..s
@@ -76,7 +84,7 @@ fn step(
     Standing {
         made: s.made + 1,
         tests: s.tests,
-        refusal: 0,
+        refusal: None,
         known: a.kept,
         zero: a.zero,
     }
@@ -91,10 +99,10 @@ fn step_at(
     answers: &mut [usize],
     s: Standing,
 ) -> Standing
-    requires { Between b.old t.old s.refusal s.known s.zero × (s.tests ≤ s.made) × (s.made < word_limit)
+    requires { Between b.old t.old (standing_refusal s.refusal) s.known s.zero × (s.tests ≤ s.made) × (s.made < word_limit)
         × (4 * s.made + 4 ≤ length words.now) × (5 * s.made + 5 ≤ length answers.old) }
     ensures { CallSteppedAt b.old t.old (list_call_at circles.now words.now s.made) b.new t.new
-        s.made answers.old answers.new s.tests s.refusal s.known result.tests result.refusal result.known result.zero
+        s.made answers.old answers.new s.tests (standing_refusal s.refusal) s.known result.tests (standing_refusal result.refusal) result.known result.zero
         × (result.made ≡ s.made + 1) × (result.tests ≤ result.made) }
 {
     let i = s.made;
@@ -123,7 +131,7 @@ fn make_all(
     let mut s = Standing {
         made: 0,
         tests: 0,
-        refusal: 0,
+        refusal: None,
         known: false,
         zero: false,
     };
@@ -140,25 +148,26 @@ fn make_calls(
     words: &[i64],
     circles: &[i64],
     answers: &mut [usize],
-) -> CallsAnswer
+) -> Result<Made, Refusal>
     ensures { CallsMade b.old t.old words.now circles.now answers.old
-        b.new t.new answers.new result }
+        b.new t.new answers.new (calls_told result) }
 {
     if words.len() % 4 != 0 {
-        return CallsAnswer::Refused(1);
+        return Err(Refusal::WrongLength);
     }
     let s = make_all(b, t, words, circles, answers);
-    CallsAnswer::Made(s.made, s.tests)
+    let (calls, tests) = (s.made, s.tests);
+    Ok(Made { calls, tests })
 }
 
 // The numbers of its answer are written over the front of the list; how many they are.
-fn tell_calls(list: &mut [usize], a: CallsAnswer) -> usize
+fn tell_calls(list: &mut [usize], a: Result<Made, Refusal>) -> usize
     requires { 5 ≤ length list.old }
-    ensures { Tells (calls_numbers a) list.old list.new result }
+    ensures { Tells (calls_numbers (calls_told a)) list.old list.new result }
 {
     match a {
-        CallsAnswer::Made(m, k) => answers::front(list, &[20, m, k]),
-        CallsAnswer::Refused(k) => answers::front(list, &[11, k]),
+        Ok(made) => answers::front(list, &[20, made.calls, made.tests]),
+        Err(refusal) => answers::tell_refusal(list, refusal),
     }
 }
 

@@ -1,9 +1,8 @@
 -- What the exported check of a table promises: its answer as numbers, as those of crate `c_api`.
 use Rattle.std.specs.Prelude.{ℕ, ◌≡◌, List, [], ◌∷◌, ℤ}
-use Rattle.answers.specs.declared.Answer.TheVariants.{Refused as RefusedCall}
+use Rattle.answers.specs.Outcome.{Refused as RefusedCall}
 use Rattle.c_api.specs.Words.{answer_numbers, Told}
-use Rattle.table_check.specs.declared.Verdict.{Verdict}
-use Rattle.table_check.specs.declared.Verdict.TheVariants.{Yes, No, Refused}
+use Rattle.table_check.specs.Outcome.{Verdict, Yes, No, Refused}
 use Rattle.table_check.specs.Verdict.{table_verdict}
 
 -- case 13 and 1 for yes, 0 for no; a refusal as that of every call

@@ -4,19 +4,19 @@
 
 ghost use Rattle.std.specs.Prelude.{◌≤◌, length};
 ghost use Rattle.answers.specs.Numbers.{Tells};
+ghost use Rattle.table_check.specs.Outcome.{verdict_told};
 ghost use Rattle.c_api_check.specs.Told.{verdict_numbers, CheckTold};
 
-use table_check::Verdict;
+use refusal::Refusal;
 
 // The numbers of a verdict are written over the front of the list; how many they are.
-fn tell_verdict(list: &mut [usize], a: Verdict) -> usize
+fn tell_verdict(list: &mut [usize], verdict: Result<bool, Refusal>) -> usize
     requires { 5 ≤ length list.old }
-    ensures { Tells (verdict_numbers a) list.old list.new result }
+    ensures { Tells (verdict_numbers (verdict_told verdict)) list.old list.new result }
 {
-    match a {
-        Verdict::Yes => answers::front(list, &[13, 1]),
-        Verdict::No => answers::front(list, &[13, 0]),
-        Verdict::Refused(k) => answers::front(list, &[11, k]),
+    match verdict {
+        Ok(right) => answers::front(list, &[13, answers::flag(right)]),
+        Err(refusal) => answers::front(list, &[11, refusal.number()]),
     }
 }
 
@@ -39,8 +39,8 @@ pub extern "C" fn fb_check_table(
     if answer.len() < 5 {
         return c_api::answer::refuse_short(answer);
     }
-    let a = table_check::check::check_table(
+    let verdict = table_check::check::check_table(
         v, e, edges, virtuals, defects, duals, growths, distances,
     );
-    tell_verdict(answer, a)
+    tell_verdict(answer, verdict)
 }

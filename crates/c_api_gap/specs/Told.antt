@@ -1,12 +1,12 @@
 -- What the exported gap promises: its answer as numbers, as those of crate `c_api`.
 use Rattle.std.specs.Prelude.{ℕ, List, [], ◌∷◌, ℤ}
-use Rattle.answers.specs.declared.Answer.TheVariants.{Refused as RefusedCall}
+use Rattle.answers.specs.Outcome.{Refused as RefusedCall}
 use Rattle.answers.specs.Numbers.{answer_numbers}
 use Rattle.c_api.specs.Words.{Told}
 use Rattle.gap.specs.declared.Gap.{Gap}
 use Rattle.gap.specs.declared.Gap.TheVariants.{Inner, Over, Left}
-use Rattle.dual_module_gap.specs.declared.GapAnswer.{GapAnswer}
-use Rattle.dual_module_gap.specs.declared.GapAnswer.TheVariants.{Found, Refused}
+use Rattle.dual_module_gap.specs.Outcome.{GapAnswer}
+use Rattle.dual_module_gap.specs.Outcome.{Found, Refused}
 use Rattle.dual_module_gap.specs.GapRead.{GapRead}
 
 -- cases 17 inner, 18 over with the excess, 19 with what is left

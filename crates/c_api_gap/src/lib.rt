@@ -5,10 +5,11 @@
 
 ghost use Rattle.std.specs.Prelude.{◌≤◌, length};
 ghost use Rattle.answers.specs.Numbers.{Tells};
+ghost use Rattle.dual_module_gap.specs.Outcome.{gap_answer};
 ghost use Rattle.c_api_gap.specs.Told.{found_numbers, gap_numbers, GapTold};
 
-use dual_module_gap::GapAnswer;
 use gap::Gap;
+use refusal::Refusal;
 
 // The numbers of a gap are written over the front of the list; how many they are.
 fn tell_found(list: &mut [usize], g: Gap) -> usize
@@ -23,13 +24,13 @@ fn tell_found(list: &mut [usize], g: Gap) -> usize
 }
 
 // The same of an answer.
-pub fn tell_gap(list: &mut [usize], a: GapAnswer) -> usize
+pub fn tell_gap(list: &mut [usize], a: Result<Gap, Refusal>) -> usize
     requires { 5 ≤ length list.old }
-    ensures { Tells (gap_numbers a) list.old list.new result }
+    ensures { Tells (gap_numbers (gap_answer a)) list.old list.new result }
 {
     match a {
-        GapAnswer::Found(g) => tell_found(list, g),
-        GapAnswer::Refused(k) => answers::front(list, &[11, k]),
+        Ok(g) => tell_found(list, g),
+        Err(refusal) => answers::tell_refusal(list, refusal),
     }
 }
 

@@ -1,9 +1,9 @@
 -- What the exported reading of a node promises: its answer as numbers, as those of crate `c_api`.
 use Rattle.std.specs.Prelude.{ℕ, List, [], ◌∷◌, ℤ}
-use Rattle.answers.specs.declared.Answer.TheVariants.{Refused as RefusedCall}
+use Rattle.answers.specs.Outcome.{Refused as RefusedCall}
 use Rattle.c_api.specs.Words.{answer_numbers, Told}
-use Rattle.dual_module_node.specs.declared.NodeRead.{NodeRead}
-use Rattle.dual_module_node.specs.declared.NodeRead.TheVariants.{Defect, Blossom, Refused}
+use Rattle.dual_module_node.specs.Outcome.{NodeRead}
+use Rattle.dual_module_node.specs.Outcome.{Defect, Blossom, Refused}
 use Rattle.dual_module_node.specs.ReadNode.{ReadNodeCalled}
 
 -- Case 15 for a defect and 16 for a blossom. Behind it: the vertex or the first member; the grow state; the parent, 0

@@ -5,19 +5,31 @@
 
 ghost use Rattle.std.specs.Prelude.{◌≤◌, length};
 ghost use Rattle.answers.specs.Numbers.{Tells};
+ghost use Rattle.dual_module_node.specs.Outcome.{node_as, node_answer};
 ghost use Rattle.c_api_node.specs.Told.{read_node_numbers, ReadNodeTold};
 
 use dual_module_node::NodeRead;
+use refusal::Refusal;
 
-// The numbers of a node are written over the front of the list; how many they are.
-pub fn tell_node(list: &mut [usize], a: NodeRead) -> usize
+// The numbers of a node.
+fn tell_read(list: &mut [usize], r: NodeRead) -> usize
     requires { 5 ≤ length list.old }
-    ensures { Tells (read_node_numbers a) list.old list.new result }
+    ensures { Tells (read_node_numbers (node_as r)) list.old list.new result }
 {
-    match a {
+    match r {
         NodeRead::Defect(v, x, p, y) => answers::front(list, &[15, v, x, p, y]),
         NodeRead::Blossom(m, x, p, y) => answers::front(list, &[16, m, x, p, y]),
-        NodeRead::Refused(k) => answers::front(list, &[11, k]),
+    }
+}
+
+// The same of an answer; how many they are.
+pub fn tell_node(list: &mut [usize], a: Result<NodeRead, Refusal>) -> usize
+    requires { 5 ≤ length list.old }
+    ensures { Tells (read_node_numbers (node_answer a)) list.old list.new result }
+{
+    match a {
+        Ok(r) => tell_read(list, r),
+        Err(refusal) => answers::tell_refusal(list, refusal),
     }
 }
 

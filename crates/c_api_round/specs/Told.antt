@@ -1,10 +1,10 @@
 -- What the exported calls on all clusters promise: their answers as numbers, as those of crate `c_api`.
 use Rattle.std.specs.Prelude.{ℕ, ◌≡◌, List, [], ◌∷◌, ℤ}
-use Rattle.answers.specs.declared.Answer.TheVariants.{Refused as RefusedCall}
+use Rattle.answers.specs.Outcome.{Refused as RefusedCall}
 use Rattle.answers.specs.declared.MaxUpdateLength.TheVariants.{NonZeroGrow as NodeFree, Unlimited as NodeUnlimited}
 use Rattle.answers.specs.Numbers.{length_numbers, answer_numbers}
-use Rattle.calls.specs.declared.group.GroupMaxUpdateLength.{GroupMaxUpdateLength as Group}
-use Rattle.calls.specs.declared.group.GroupMaxUpdateLength.TheVariants.{NonZeroGrow, Unlimited, Conflicts, Refused}
+use Rattle.calls.specs.Group.{GroupMaxUpdateLength as Group}
+use Rattle.calls.specs.Group.{NonZeroGrow, Unlimited, Conflicts, Refused}
 use Rattle.c_api.specs.Words.{Told}
 use Rattle.dual_module_round.specs.Called.{RenewCalled, PrepareAllCalled, RoundCalled, GroupCalled}
 

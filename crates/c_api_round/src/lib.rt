@@ -4,15 +4,17 @@
 
 ghost use Rattle.std.specs.Prelude.{◌≤◌, length};
 ghost use Rattle.answers.specs.Numbers.{Tells};
+ghost use Rattle.calls.specs.Group.{found_as, group_told};
 ghost use Rattle.c_api_round.specs.Told.{group_numbers, RenewTold, PrepareAllTold, RoundTold, GroupTold};
 
 use answers::MaxUpdateLength;
 use calls::group::GroupMaxUpdateLength;
+use refusal::Refusal;
 
-// The numbers of the group's answer are written over the front of the list; how many they are.
-fn tell_group(list: &mut [usize], g: GroupMaxUpdateLength) -> usize
+// The numbers of a group's answer that is no refusal.
+fn tell_found(list: &mut [usize], g: GroupMaxUpdateLength) -> usize
     requires { 5 ≤ length list.old }
-    ensures { Tells (group_numbers g) list.old list.new result }
+    ensures { Tells (group_numbers (found_as g)) list.old list.new result }
 {
     match g {
         GroupMaxUpdateLength::NonZeroGrow(l, e) => answers::tell_length(
@@ -24,7 +26,17 @@ fn tell_group(list: &mut [usize], g: GroupMaxUpdateLength) -> usize
             MaxUpdateLength::Unlimited(e),
         ),
         GroupMaxUpdateLength::Conflicts(c, s) => answers::front(list, &[14, c, s]),
-        GroupMaxUpdateLength::Refused(k) => answers::front(list, &[11, k]),
+    }
+}
+
+// The numbers of the group's answer are written over the front of the list; how many they are.
+fn tell_group(list: &mut [usize], g: Result<GroupMaxUpdateLength, Refusal>) -> usize
+    requires { 5 ≤ length list.old }
+    ensures { Tells (group_numbers (group_told g)) list.old list.new result }
+{
+    match g {
+        Ok(found) => tell_found(list, found),
+        Err(refusal) => answers::tell_refusal(list, refusal),
     }
 }
 

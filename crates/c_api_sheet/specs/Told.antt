@@ -1,9 +1,8 @@
 -- What the exported opening from a sheet promises: its answer as numbers, as those of crate `c_api`.
 use Rattle.std.specs.Prelude.{ℕ, ◌≡◌, List, [], ◌∷◌, ℤ}
-use Rattle.answers.specs.declared.Answer.TheVariants.{Refused as RefusedCall}
+use Rattle.answers.specs.Outcome.{Refused as RefusedCall}
 use Rattle.c_api.specs.Words.{answer_numbers, Told}
-use Rattle.sheet.specs.declared.SheetOpened.{SheetOpened}
-use Rattle.sheet.specs.declared.SheetOpened.TheVariants.{Opened, Refused}
+use Rattle.sheet.specs.Outcome.{SheetOpened, Opened, Refused}
 use Rattle.sheet.specs.Called.{SheetCalled}
 
 -- case 12 and how many positive values became 0; a refusal as that of every call

@@ -4,18 +4,19 @@
 
 ghost use Rattle.std.specs.Prelude.{◌≤◌, length};
 ghost use Rattle.answers.specs.Numbers.{Tells};
+ghost use Rattle.sheet.specs.Outcome.{opened_told};
 ghost use Rattle.c_api_sheet.specs.Told.{sheet_numbers, SheetTold};
 
-use sheet::SheetOpened;
+use refusal::Refusal;
 
 // The numbers of such an opening are written over the front of the list; how many they are.
-fn tell_sheet(list: &mut [usize], a: SheetOpened) -> usize
+fn tell_sheet(list: &mut [usize], opened: Result<usize, Refusal>) -> usize
     requires { 5 ≤ length list.old }
-    ensures { Tells (sheet_numbers a) list.old list.new result }
+    ensures { Tells (sheet_numbers (opened_told opened)) list.old list.new result }
 {
-    match a {
-        SheetOpened::Opened(k) => answers::front(list, &[12, k]),
-        SheetOpened::Refused(k) => answers::front(list, &[11, k]),
+    match opened {
+        Ok(vanished) => answers::front(list, &[12, vanished]),
+        Err(refusal) => answers::front(list, &[11, refusal.number()]),
     }
 }
 
@@ -41,6 +42,6 @@ pub extern "C" fn fb_open_sheet(
     if answer.len() < 5 {
         return c_api::answer::refuse_short(answer);
     }
-    let a = sheet::open::open_sheet(block, scratch, v, e, n, l, edges, sheet, virtuals);
-    tell_sheet(answer, a)
+    let opened = sheet::open::open_sheet(block, scratch, v, e, n, l, edges, sheet, virtuals);
+    tell_sheet(answer, opened)
 }

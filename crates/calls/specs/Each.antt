@@ -3,8 +3,8 @@ use Rattle.std.specs.Prelude.{ℕ, zero, suc, Bool, true, false, ◌&&◌, List,
 use Rattle.graph.specs.State.{State, defect_vertex, blossom, removed, class_of, grow_state_of, with_grow_state, stay, growing, shrinking, down, up}
 use Rattle.graph.specs.Open.{cleared}
 use Rattle.graph.specs.Active.{activated}
-use Rattle.answers.specs.declared.Answer.{Answer}
-use Rattle.answers.specs.declared.Answer.TheVariants.{Done, Prepared, Refused, Vertex}
+use Rattle.answers.specs.Outcome.{Answer}
+use Rattle.answers.specs.Outcome.{Done, Prepared, Refused, Vertex}
 use Rattle.answers.specs.Answer.{Reply, says, free_or}
 use Rattle.calls.specs.Refuse.{bad_node, node_refusal, store_short, unless}
 use Rattle.pass.specs.Prepare.{prepare_node}

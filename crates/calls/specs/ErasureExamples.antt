@@ -1,7 +1,7 @@
 -- Worked examples of a change of weights, as one theorem over a list of cases.
 use Rattle.std.specs.Prelude.{◌≡◌, ℕ, false, List, [], ◌∷◌, map, pos}
 use Rattle.std.specs.Prelude.{refl}
-use Rattle.answers.specs.declared.Answer.TheVariants.{Length, Done, Node, Refused}
+use Rattle.answers.specs.Outcome.{Length, Done, Node, Refused}
 use Rattle.answers.specs.declared.MaxUpdateLength.TheVariants.{Conflicting, NonZeroGrow}
 use Rattle.calls.specs.Calls.{InsertDefect, Clear, LoadEdgeModifier, answered}
 use Rattle.calls.specs.Erasures.{EdgeWeight}

@@ -4,7 +4,7 @@ use Rattle.graph.specs.Basic.{fold, all, below}
 use Rattle.graph.specs.State.{State, edge_count, node_count, with_edge_weight, with_reweighted}
 use Rattle.graph.specs.Open.{weight_limit}
 use Rattle.graph.specs.Opening.{given_at}
-use Rattle.answers.specs.declared.Answer.TheVariants.{Done}
+use Rattle.answers.specs.Outcome.{Done}
 use Rattle.answers.specs.Answer.{Reply}
 use Rattle.calls.specs.Refuse.{unless}
 

@@ -4,7 +4,7 @@ use Rattle.std.specs.Prelude.{◌≡◌, ℕ, true, false, List, [], ◌∷◌, 
 use Rattle.std.specs.Prelude.{refl}
 use Rattle.graph.specs.State.{State}
 use Rattle.graph.specs.Open.{Edge, opened}
-use Rattle.answers.specs.declared.Answer.TheVariants.{Length, Done, Node, Refused}
+use Rattle.answers.specs.Outcome.{Length, Done, Node, Refused}
 use Rattle.answers.specs.declared.MaxUpdateLength.TheVariants.{NonZeroGrow, Conflicting, TouchingVirtual, VertexShrinkStop}
 use Rattle.calls.specs.Calls.{Call, InsertDefect, UpdateLength, Grow, ReadTable, Outcome, answered, growths, respond}
 use Rattle.calls.specs.Opens.{everything}

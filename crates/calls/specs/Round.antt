@@ -5,18 +5,18 @@ use Rattle.graph.specs.Basic.{fold, all, only}
 use Rattle.graph.specs.State.{State, grow_state_of, growing, shrinking, down, up}
 use Rattle.graph.specs.Sound.{state_sound}
 use Rattle.graph.specs.Active.{renewed, active_in}
-use Rattle.answers.specs.declared.Answer.{Answer}
-use Rattle.answers.specs.declared.Answer.TheVariants.{Length, Done, Node, Prepared, Refused, Vertex}
+use Rattle.answers.specs.Outcome.{Answer}
+use Rattle.answers.specs.Outcome.{Length, Done, Node, Prepared, Refused, Vertex}
 use Rattle.answers.specs.declared.MaxUpdateLength.TheVariants.{NonZeroGrow, Unlimited, Conflicting, TouchingVirtual, BlossomNeedExpand, VertexShrinkStop, VertexShrinkStopPeer}
 use Rattle.answers.specs.Answer.{Reply, says, free_or}
 unfoldable pub use Rattle.answers.specs.Answer.{is_free, refusal_of}
 use Rattle.answers.specs.declared.MaxUpdateLength.{MaxUpdateLength}
 -- what the group answers: the least length that is left, no limit, how many conflicts and how many stops it has listed, or a refusal
-pub use Rattle.calls.specs.declared.group.GroupMaxUpdateLength.{GroupMaxUpdateLength as Group}
-pub use Rattle.calls.specs.declared.group.GroupMaxUpdateLength.TheVariants.{NonZeroGrow as group_free}
-pub use Rattle.calls.specs.declared.group.GroupMaxUpdateLength.TheVariants.{Unlimited as group_unlimited}
-pub use Rattle.calls.specs.declared.group.GroupMaxUpdateLength.TheVariants.{Conflicts as group_conflicts}
-pub use Rattle.calls.specs.declared.group.GroupMaxUpdateLength.TheVariants.{Refused as group_refused}
+pub use Rattle.calls.specs.Group.{GroupMaxUpdateLength as Group}
+pub use Rattle.calls.specs.Group.{NonZeroGrow as group_free}
+pub use Rattle.calls.specs.Group.{Unlimited as group_unlimited}
+pub use Rattle.calls.specs.Group.{Conflicts as group_conflicts}
+pub use Rattle.calls.specs.Group.{Refused as group_refused}
 use Rattle.update_length.specs.Scan.{lesser, scan}
 use Rattle.calls.specs.Refuse.{unless}
 use Rattle.calls.specs.Each.{prepare_dual_node_growth, grow_toward, toward}

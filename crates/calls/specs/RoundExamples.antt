@@ -4,7 +4,7 @@ use Rattle.std.specs.Prelude.{refl}
 use Rattle.graph.specs.State.{State, defect_vertex}
 use Rattle.graph.specs.Open.{opened}
 use Rattle.graph.specs.Sound.{sound}
-use Rattle.answers.specs.declared.Answer.TheVariants.{Length, Done, Node, Refused}
+use Rattle.answers.specs.Outcome.{Length, Done, Node, Refused}
 use Rattle.answers.specs.declared.MaxUpdateLength.TheVariants.{Conflicting, TouchingVirtual, VertexShrinkStop}
 use Rattle.calls.specs.Calls.{InsertDefect, SetGrowState, ReadTable, RenewActiveList, GroupLength, Round, answered, growths, grouped}
 use Rattle.calls.specs.Round.{group_free, group_unlimited, group_conflicts, prepare_all}

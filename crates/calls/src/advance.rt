@@ -4,6 +4,7 @@ ghost use Rattle.std.specs.Prelude.{◌≡◌, ◌≤◌, not, ◌==◌};
 ghost use Rattle.graph.specs.State.{stay, grow_state_of};
 ghost use Rattle.graph.specs.Layout.{state_of};
 ghost use Rattle.graph.specs.Form.{Formed};
+ghost use Rattle.answers.specs.Outcome.{told};
 ghost use Rattle.calls.specs.inner.Reply.{Replies, Usable};
 ghost use Rattle.calls.specs.Calls.{toward, advance};
 
@@ -11,6 +12,7 @@ use crate::{refuse, tested};
 use answers::Answer;
 use graph::dual_node::{DOWN, UP};
 use graph::{node, rows};
+use refusal::Refusal;
 
 // The direction of a node in grow state x.
 pub fn direction(x: usize) -> usize
@@ -20,15 +22,12 @@ pub fn direction(x: usize) -> usize
 }
 
 // Node n does not grow: it is no outermost node, or Stay.
-pub fn advance_none(b: &[i64], n: usize) -> Answer
+pub fn advance_none(b: &[i64], n: usize) -> Result<Answer, Refusal>
     requires { Formed b.now × (grow_state_of (state_of b.now) n ≡ 0) }
-    ensures { Replies b.now b.now result (advance (state_of b.now) n) }
+    ensures { Replies b.now b.now (told result) (advance (state_of b.now) n) }
 {
-    let k = refuse::node_refusal(b, n, false, false);
-    if k != 0 {
-        return Answer::Refused(k);
-    }
-    Answer::Done
+    refuse::node_refusal(b, n, false, false)?;
+    Ok(Answer::Done)
 }
 
 // Whether node n is there and not Stay.
@@ -44,9 +43,9 @@ pub fn moves(b: &[i64], n: usize) -> bool
 }
 
 // Node n grows by its own length answer, in the direction of its grow state.
-pub fn advance(b: &mut [i64], t: &mut [i64], n: usize) -> Answer
+pub fn advance(b: &mut [i64], t: &mut [i64], n: usize) -> Result<Answer, Refusal>
     requires { Usable b.old t.old }
-    ensures { Replies b.old b.new result (advance (state_of b.old) n) × (t.new ≡ t.old) }
+    ensures { Replies b.old b.new (told result) (advance (state_of b.old) n) × (t.new ≡ t.old) }
 {
     tested::advance(b, t, n, false).answer
 }

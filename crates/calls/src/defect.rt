@@ -7,6 +7,8 @@ ghost use Rattle.graph.specs.Layout.{state_of};
 ghost use Rattle.graph.specs.Form.{Formed};
 ghost use Rattle.graph.specs.inner.Form.{Becomes};
 ghost use Rattle.pass.specs.Scratch.{scratch_of};
+ghost use Rattle.refusal.specs.Refusal.{refusal_number};
+ghost use Rattle.answers.specs.Outcome.{told};
 ghost use Rattle.calls.specs.inner.Front.{FrontHolds};
 ghost use Rattle.calls.specs.Insert.{defect_refusal, hold_step, insert_defect};
 ghost use Rattle.calls.specs.inner.Reply.{RepliesInsert, Usable};
@@ -15,24 +17,28 @@ use crate::{occupied, refuse};
 use answers::Answer;
 use graph::{node, rows, side, sides, vertex, words};
 use pass::scratch;
+use refusal::Refusal;
 use store::insert;
 
-// What refuses a defect at vertex v in grow state x: 0 or the number.
-pub fn defect_refusal(b: &[i64], v: usize, x: usize) -> usize
+// What refuses a defect at vertex v in grow state x.
+pub fn defect_refusal(b: &[i64], v: usize, x: usize) -> Result<(), Refusal>
     requires { Formed b.now }
-    ensures { result ≡ defect_refusal (state_of b.now) v x }
+    ensures { refusal_number result ≡ defect_refusal (state_of b.now) v x }
 {
     if (rows::vertex_count(b) <= v) | (node::SHRINK < x) {
-        return 3;
+        return Err(Refusal::NoSuch);
     }
     let looked = occupied::occupied(b, v);
     if looked.occupied {
-        return 5;
+        return Err(Refusal::Occupied);
     }
     if rows::node_limit(b) <= rows::node_count(b) {
-        return 8;
+        return Err(Refusal::NoNodeLeft);
     }
-    if refuse::store_short_new(b) { 9 } else { 0 }
+    if refuse::store_short_new(b) {
+        return Err(Refusal::StoreShort);
+    }
+    Ok(())
 }
 
 // The sides at vertex v are held by node n, and written at the front of t; how many they are.
@@ -67,18 +73,15 @@ fn hold_defect(b: &mut [i64], t: &mut [i64], v: usize, n: usize) -> usize
 }
 
 // The next node is a defect at vertex v, in grow state x.
-pub fn insert_defect(b: &mut [i64], t: &mut [i64], v: usize, x: usize) -> Answer
+pub fn insert_defect(b: &mut [i64], t: &mut [i64], v: usize, x: usize) -> Result<Answer, Refusal>
     requires { Usable b.old t.old }
-    ensures { RepliesInsert b.old b.new result (insert_defect (state_of b.old) v x) × (t.new ≡ t.old) }
+    ensures { RepliesInsert b.old b.new (told result) (insert_defect (state_of b.old) v x) × (t.new ≡ t.old) }
 {
-    let k = defect_refusal(b, v, x);
-    if k != 0 {
-        return Answer::Refused(k);
-    }
+    defect_refusal(b, v, x)?;
     let n = rows::node_count(b);
     let l = hold_defect(b, t, v, n);
     insert::push_node(b, v, x, t, l);
     active_list::join(b, n);
     scratch::wipe(t, 0, l);
-    Answer::Node(n)
+    Ok(Answer::Node(n))
 }

@@ -1,13 +1,15 @@
-// Refusals of a call on a node, on a block in form: 0 or the number.
+// What refuses a call on a node, on a block in form.
 
 ghost use Rattle.std.specs.Prelude.{◌≡◌, ◌+◌, ◌*◌, ◌<◌, ◌≤◌, ◌&&◌, [], ◌∷◌, nat_lt};
 ghost use Rattle.graph.specs.State.{vertex_count, side_count, node_count};
 ghost use Rattle.graph.specs.Sound.{entries_of};
 ghost use Rattle.graph.specs.Layout.{state_of};
 ghost use Rattle.graph.specs.Form.{Formed};
+ghost use Rattle.refusal.specs.Refusal.{refusal_number};
 ghost use Rattle.calls.specs.Refuse.{bad_node, in_blossom, store_short, node_refusal};
 
 use graph::{lists, node, rows};
+use refusal::Refusal;
 
 // Whether n is no node, or a removed one.
 pub fn bad_node(b: &[i64], n: usize) -> bool
@@ -68,20 +70,21 @@ pub fn store_short_new(b: &[i64]) -> bool
     over_store(b, used, 1)
 }
 
-// The refusal of a call on node n; `wrong` says that some other number is not listed, `prepares` that the call prepares the node.
-pub fn node_refusal(b: &[i64], n: usize, wrong: bool, prepares: bool) -> usize
+// What refuses a call on node n; `wrong` says that some other number is not listed, `prepares` that the call prepares the node.
+pub fn node_refusal(b: &[i64], n: usize, wrong: bool, prepares: bool) -> Result<(), Refusal>
     requires { Formed b.now }
-    ensures { result ≡ node_refusal (state_of b.now) n wrong (prepares && store_short (state_of b.now) (n ∷ []) 1) }
+    ensures { refusal_number result ≡ node_refusal (state_of b.now) n wrong (prepares && store_short (state_of b.now) (n ∷ []) 1) }
 {
     if bad_node(b, n) | wrong {
-        return 3;
+        return Err(Refusal::NoSuch);
     }
     if in_blossom(b, n) {
-        return 6;
+        return Err(Refusal::InBlossom);
     }
     if prepares {
-        if store_short(b, n) { 9 } else { 0 }
-    } else {
-        0
+        if store_short(b, n) {
+            return Err(Refusal::StoreShort);
+        }
     }
+    Ok(())
 }

@@ -5,6 +5,7 @@ ghost use Rattle.std.specs.Prelude.{◌≡◌, ◌≤◌, true, false, ◌&&◌}
 ghost use Rattle.std.specs.Int.Signed.{non_neg};
 ghost use Rattle.graph.specs.Layout.{state_of};
 ghost use Rattle.graph.specs.Word.{word_limit};
+ghost use Rattle.answers.specs.Outcome.{told, length_told};
 ghost use Rattle.calls.specs.inner.Reply.{Replies, along, MemoryPreparable, Usable};
 ghost use Rattle.calls.specs.Keeps.{prepare_keeps, length_keeps, toward_keeps, grow_keeps, moves_keeps, advance_keeps};
 ghost use Rattle.calls.specs.Calls.{prepare_dual_node_growth, max_update_length, grow_toward, grow_dual_node, toward, advance_by, advance};
@@ -13,31 +14,38 @@ use crate::{advance, core_calls, refuse};
 use answers::{Answer, MaxUpdateLength};
 use graph::dual_node::{DOWN, UP};
 use graph::{node, words};
+use refusal::Refusal;
 use update_length::scan;
 
 // An answer, and whether a sound block was certainly kept sound.
 #[derive(Clone, Copy)]
 pub struct Tested {
-    pub answer: Answer,
+    pub answer: Result<Answer, Refusal>,
     pub kept: bool,
+}
+
+// What the scan of a boundary says as an answer.
+pub fn answered(found: Result<MaxUpdateLength, Refusal>) -> Result<Answer, Refusal>
+    ensures { told result ≡ length_told found }
+{
+    Ok(Answer::Length(found?))
 }
 
 // Node n is prepared to grow in direction d, in which it can be.
 pub fn prepare_toward(b: &mut [i64], t: &mut [i64], n: usize, d: usize, ask: bool) -> Tested
     requires { MemoryPreparable b.old t.old n d }
-    ensures { Replies b.old b.new result.answer (prepare_dual_node_growth (state_of b.old) n d)
+    ensures { Replies b.old b.new (told result.answer) (prepare_dual_node_growth (state_of b.old) n d)
         × (t.new ≡ t.old) × (result.kept ≡ (ask && prepare_keeps (state_of b.old) n d)) }
 {
-    let k = refuse::node_refusal(b, n, UP < d, true);
-    if k != 0 {
+    if let Err(refusal) = refuse::node_refusal(b, n, UP < d, true) {
         return Tested {
-            answer: Answer::Refused(k),
+            answer: Err(refusal),
             kept: ask,
         };
     }
     let p = prepare_tested::prepare_asked(b, t, n, d, ask);
     Tested {
-        answer: Answer::Prepared(p.passes),
+        answer: Ok(Answer::Prepared(p.passes)),
         kept: p.kept,
     }
 }
@@ -51,7 +59,7 @@ pub fn prepare_dual_node_growth(
     ask: bool,
 ) -> Tested
     requires { Usable b.old t.old }
-    ensures { Replies b.old b.new result.answer (prepare_dual_node_growth (state_of b.old) n d)
+    ensures { Replies b.old b.new (told result.answer) (prepare_dual_node_growth (state_of b.old) n d)
         × (t.new ≡ t.old) × (result.kept ≡ (ask && prepare_keeps (state_of b.old) n d)) }
 {
     prepare_toward(b, t, n, d, ask)
@@ -60,19 +68,18 @@ pub fn prepare_dual_node_growth(
 // How far node n may grow in direction d, prepared first. It can be prepared so again.
 pub fn length_prepared(b: &mut [i64], t: &mut [i64], n: usize, d: usize, ask: bool) -> Tested
     requires { Usable b.old t.old }
-    ensures { Replies b.old b.new result.answer (max_update_length (state_of b.old) n d true)
+    ensures { Replies b.old b.new (told result.answer) (max_update_length (state_of b.old) n d true)
         × (t.new ≡ t.old) × MemoryPreparable b.new t.new n d
         × (result.kept ≡ (ask && length_keeps (state_of b.old) n d true)) }
 {
-    let k = refuse::node_refusal(b, n, UP < d, true);
-    if k != 0 {
+    if let Err(refusal) = refuse::node_refusal(b, n, UP < d, true) {
         return Tested {
-            answer: Answer::Refused(k),
+            answer: Err(refusal),
             kept: ask,
         };
     }
     let p = prepare_tested::prepare_asked(b, t, n, d, ask);
-    let answer = scan::scan(b, n, d);
+    let answer = answered(scan::scan(b, n, d));
     Tested {
         answer,
         kept: p.kept,
@@ -89,7 +96,7 @@ pub fn compute_maximum_update_length_dual_node(
     ask: bool,
 ) -> Tested
     requires { Usable b.old t.old }
-    ensures { Replies b.old b.new result.answer (max_update_length (state_of b.old) n d first)
+    ensures { Replies b.old b.new (told result.answer) (max_update_length (state_of b.old) n d first)
         × (t.new ≡ t.old) × (result.kept ≡ (ask && length_keeps (state_of b.old) n d first)) }
 {
     if first {
@@ -102,13 +109,12 @@ pub fn compute_maximum_update_length_dual_node(
 // Node n is prepared and grows by l in direction d, or is refused.
 pub fn grow_toward(b: &mut [i64], t: &mut [i64], n: usize, d: usize, l: usize, ask: bool) -> Tested
     requires { MemoryPreparable b.old t.old n d × (l ≤ word_limit) }
-    ensures { Replies b.old b.new result.answer (grow_toward (state_of b.old) n d l)
+    ensures { Replies b.old b.new (told result.answer) (grow_toward (state_of b.old) n d l)
         × (t.new ≡ t.old) × (result.kept ≡ (ask && toward_keeps (state_of b.old) n d)) }
 {
-    let k = refuse::node_refusal(b, n, false, true);
-    if k != 0 {
+    if let Err(refusal) = refuse::node_refusal(b, n, false, true) {
         return Tested {
-            answer: Answer::Refused(k),
+            answer: Err(refusal),
             kept: ask,
         };
     }
@@ -130,7 +136,7 @@ pub fn grow_along(
     ask: bool,
 ) -> Tested
     requires { MemoryPreparable b.old t.old n d × (d ≤ 1) × (non_neg length ≡ false → d ≡ 1) }
-    ensures { Replies b.old b.new result.answer (grow_dual_node (state_of b.old) n (along d length))
+    ensures { Replies b.old b.new (told result.answer) (grow_dual_node (state_of b.old) n (along d length))
         × (t.new ≡ t.old) × (result.kept ≡ (ask && grow_keeps (state_of b.old) n (along d length))) }
 {
     let l = words::magnitude(length);
@@ -147,7 +153,7 @@ pub fn grow_along(
 // Node n grows by a length: below 0 it shrinks.
 pub fn grow_dual_node(b: &mut [i64], t: &mut [i64], n: usize, length: i64, ask: bool) -> Tested
     requires { Usable b.old t.old }
-    ensures { Replies b.old b.new result.answer (grow_dual_node (state_of b.old) n length)
+    ensures { Replies b.old b.new (told result.answer) (grow_dual_node (state_of b.old) n length)
         × (t.new ≡ t.old) × (result.kept ≡ (ask && grow_keeps (state_of b.old) n length)) }
 {
     grow_along(b, t, n, UP, length, ask)
@@ -156,13 +162,15 @@ pub fn grow_dual_node(b: &mut [i64], t: &mut [i64], n: usize, length: i64, ask: 
 // A node n in grow state x, which is not Stay, grows on a free answer with a limit; any other answer is handed back.
 fn advance_by(b: &mut [i64], t: &mut [i64], n: usize, x: usize, ask: bool) -> Tested
     requires { Usable b.old t.old }
-    ensures { Replies b.old b.new result.answer
+    ensures { Replies b.old b.new (told result.answer)
         (advance_by n x (max_update_length (state_of b.old) n (toward x) true))
         × (t.new ≡ t.old) × (result.kept ≡ (ask && moves_keeps (state_of b.old) n x)) }
 {
     let d = advance::direction(x);
     let first = length_prepared(b, t, n, d, ask);
-    let answer = first.answer;
+    let Ok(answer) = first.answer else {
+        return first;
+    };
     let Answer::Length(found) = answer else {
         return first;
     };
@@ -180,20 +188,19 @@ fn advance_by(b: &mut [i64], t: &mut [i64], n: usize, x: usize, ask: bool) -> Te
 // Node n grows by its own length answer, in the direction of its grow state.
 pub fn advance(b: &mut [i64], t: &mut [i64], n: usize, ask: bool) -> Tested
     requires { Usable b.old t.old }
-    ensures { Replies b.old b.new result.answer (advance (state_of b.old) n)
+    ensures { Replies b.old b.new (told result.answer) (advance (state_of b.old) n)
         × (t.new ≡ t.old) × (result.kept ≡ (ask && advance_keeps (state_of b.old) n)) }
 {
-    let k = refuse::node_refusal(b, n, false, false);
-    if k != 0 {
+    if let Err(refusal) = refuse::node_refusal(b, n, false, false) {
         return Tested {
-            answer: Answer::Refused(k),
+            answer: Err(refusal),
             kept: ask,
         };
     }
     let x = node::grow_state(b, n);
     if x == node::STAY {
         return Tested {
-            answer: Answer::Done,
+            answer: Ok(Answer::Done),
             kept: ask,
         };
     }

@@ -3,8 +3,8 @@ use Rattle.std.specs.Prelude.{ℕ, ◌+◌, ◌≤◌, ◌≢◌, List, map, ℤ
 use Rattle.std.proofs.Common.{sym, ap, ◌∙◌}
 use Rattle.graph.specs.Word.{to_nat}
 use Rattle.graph.specs.Layout.{state_of}
-use Rattle.answers.specs.declared.Answer.{Answer}
-use Rattle.answers.specs.declared.Answer.TheVariants.{Refused}
+use Rattle.answers.specs.Outcome.{Answer}
+use Rattle.answers.specs.Outcome.{Refused}
 use Rattle.answers.specs.Theorems.{same_answer}
 use Rattle.calls.specs.Refuse.{entries_but}
 use Rattle.calls.specs.Round.{refusal_of}

@@ -5,8 +5,8 @@ use Rattle.graph.specs.Word.{to_nat}
 use Rattle.graph.specs.Layout.{state_of, memory_refusal, list_refusal}
 use Rattle.graph.specs.Form.{Formed}
 use Rattle.pass.specs.Scratch.{zero_scratch}
-use Rattle.answers.specs.declared.Answer.{Answer}
-use Rattle.answers.specs.declared.Answer.TheVariants.{Done}
+use Rattle.answers.specs.Outcome.{Answer}
+use Rattle.answers.specs.Outcome.{Done}
 use Rattle.answers.specs.Answer.{Reply, says}
 use Rattle.answers.specs.Numbers.{OnPaper}
 use Rattle.calls.specs.Refuse.{node_refusal, store_short, unless}

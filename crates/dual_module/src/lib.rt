@@ -5,10 +5,12 @@
 
 ghost use Rattle.std.specs.Prelude.{◌≡◌, length};
 ghost use Rattle.pass.specs.Scratch.{zero_scratch};
+ghost use Rattle.answers.specs.Outcome.{told};
 ghost use Rattle.dual_module.specs.Called.{StateCalled, PrepareCalled, LengthCalled, GrowCalled, AdvanceCalled, ClearCalled};
 
 use answers::Answer;
 use pass::scratch;
+use refusal::Refusal;
 
 pub mod sound; // the calls behind these tests
 
@@ -21,24 +23,23 @@ pub fn clear_scratch(t: &mut [i64])
 }
 
 // Node n gets the grow state x.
-pub fn set_grow_state(b: &mut [i64], t: &[i64], n: usize, x: usize) -> Answer
-    ensures { StateCalled b.old t.now n x b.new result }
+pub fn set_grow_state(b: &mut [i64], t: &[i64], n: usize, x: usize) -> Result<Answer, Refusal>
+    ensures { StateCalled b.old t.now n x b.new (told result) }
 {
-    let k = memory_tests::refuse::refusal(b, t);
-    if k != 0 {
-        return Answer::Refused(k);
-    }
+    memory_tests::refuse::refusal(b, t)?;
     sound::set_grow_state(b, t, n, x)
 }
 
 // Node n is prepared to grow in direction d.
-pub fn prepare_dual_node_growth(b: &mut [i64], t: &mut [i64], n: usize, d: usize) -> Answer
-    ensures { PrepareCalled b.old t.old n d b.new t.new result }
+pub fn prepare_dual_node_growth(
+    b: &mut [i64],
+    t: &mut [i64],
+    n: usize,
+    d: usize,
+) -> Result<Answer, Refusal>
+    ensures { PrepareCalled b.old t.old n d b.new t.new (told result) }
 {
-    let k = memory_tests::refuse::refusal(b, t);
-    if k != 0 {
-        return Answer::Refused(k);
-    }
+    memory_tests::refuse::refusal(b, t)?;
     sound::prepare_dual_node_growth(b, t, n, d, false, false).answer
 }
 
@@ -49,45 +50,38 @@ pub fn compute_maximum_update_length_dual_node(
     n: usize,
     d: usize,
     first: bool,
-) -> Answer
-    ensures { LengthCalled b.old t.old n d first b.new t.new result }
+) -> Result<Answer, Refusal>
+    ensures { LengthCalled b.old t.old n d first b.new t.new (told result) }
 {
-    let k = memory_tests::refuse::refusal(b, t);
-    if k != 0 {
-        return Answer::Refused(k);
-    }
+    memory_tests::refuse::refusal(b, t)?;
     sound::compute_maximum_update_length_dual_node(b, t, n, d, first, false, false).answer
 }
 
 // Node n grows by a length: below 0 it shrinks.
-pub fn grow_dual_node(b: &mut [i64], t: &mut [i64], n: usize, length: i64) -> Answer
-    ensures { GrowCalled b.old t.old n length b.new t.new result }
+pub fn grow_dual_node(
+    b: &mut [i64],
+    t: &mut [i64],
+    n: usize,
+    length: i64,
+) -> Result<Answer, Refusal>
+    ensures { GrowCalled b.old t.old n length b.new t.new (told result) }
 {
-    let k = memory_tests::refuse::refusal(b, t);
-    if k != 0 {
-        return Answer::Refused(k);
-    }
+    memory_tests::refuse::refusal(b, t)?;
     sound::grow_dual_node(b, t, n, length, false, false).answer
 }
 
 // Node n grows by all of its own length answer.
-pub fn advance(b: &mut [i64], t: &mut [i64], n: usize) -> Answer
-    ensures { AdvanceCalled b.old t.old n b.new t.new result }
+pub fn advance(b: &mut [i64], t: &mut [i64], n: usize) -> Result<Answer, Refusal>
+    ensures { AdvanceCalled b.old t.old n b.new t.new (told result) }
 {
-    let k = memory_tests::refuse::refusal(b, t);
-    if k != 0 {
-        return Answer::Refused(k);
-    }
+    memory_tests::refuse::refusal(b, t)?;
     sound::advance(b, t, n, false, false).answer
 }
 
 // Everything but the graph is emptied.
-pub fn clear(b: &mut [i64], t: &[i64]) -> Answer
-    ensures { ClearCalled b.old t.now b.new result }
+pub fn clear(b: &mut [i64], t: &[i64]) -> Result<Answer, Refusal>
+    ensures { ClearCalled b.old t.now b.new (told result) }
 {
-    let k = memory_tests::refuse::refusal(b, t);
-    if k != 0 {
-        return Answer::Refused(k);
-    }
+    memory_tests::refuse::refusal(b, t)?;
     sound::clear(b, t)
 }

@@ -6,6 +6,7 @@ ghost use Rattle.std.specs.Prelude.{◌≡◌, true, ◌&&◌, length};
 ghost use Rattle.graph.specs.Layout.{state_of, memory_refusal};
 ghost use Rattle.pass.specs.Scratch.{zero_scratch};
 ghost use Rattle.calls.specs.Keeps.{prepare_keeps, length_keeps, grow_keeps, advance_keeps};
+ghost use Rattle.answers.specs.Outcome.{told};
 ghost use Rattle.dual_module.specs.inner.Known.{KnownZero};
 ghost use Rattle.dual_module.specs.Called.{StateCalled, PrepareCalled, LengthCalled, GrowCalled, AdvanceCalled, ClearCalled};
 
@@ -14,12 +15,13 @@ use calls::tested::Tested;
 use calls::{advance, core_calls, refuse, tested};
 use graph::dual_node::UP;
 use graph::{node, words};
+use refusal::Refusal;
 
 // A call on memory that has passed the tests: its answer, whether the block is certainly sound after it, and whether the scratch is known
 // to be all zero.
 #[derive(Clone, Copy)]
 pub struct Known {
-    pub answer: Answer,
+    pub answer: Result<Answer, Refusal>,
     pub kept: bool,
     pub zero: bool,
 }
@@ -36,7 +38,7 @@ pub fn clear_unless(t: &mut [i64], zero: bool)
 }
 
 // The call wrote nothing: as much is known as before it.
-pub fn as_before(answer: Answer, ask: bool, zero: bool) -> Known
+pub fn as_before(answer: Result<Answer, Refusal>, ask: bool, zero: bool) -> Known
     ensures { (result.answer ≡ answer) × (result.kept ≡ ask) × (result.zero ≡ zero) }
 {
     Known {
@@ -59,14 +61,11 @@ pub fn after_core(told: Tested) -> Known
 }
 
 // Node n gets the grow state x.
-pub fn set_grow_state(b: &mut [i64], t: &[i64], n: usize, x: usize) -> Answer
+pub fn set_grow_state(b: &mut [i64], t: &[i64], n: usize, x: usize) -> Result<Answer, Refusal>
     requires { memory_refusal b.old t.now ≡ 0 }
-    ensures { StateCalled b.old t.now n x b.new result }
+    ensures { StateCalled b.old t.now n x b.new (told result) }
 {
-    let j = refuse::node_refusal(b, n, node::SHRINK < x, false);
-    if j != 0 {
-        return Answer::Refused(j);
-    }
+    refuse::node_refusal(b, n, node::SHRINK < x, false)?;
     core_calls::set_grow_state(b, n, x)
 }
 
@@ -80,12 +79,11 @@ pub fn prepare_dual_node_growth(
     zero: bool,
 ) -> Known
     requires { (memory_refusal b.old t.old ≡ 0) × KnownZero zero t.old }
-    ensures { PrepareCalled b.old t.old n d b.new t.new result.answer
+    ensures { PrepareCalled b.old t.old n d b.new t.new (told result.answer)
         × (result.kept ≡ (ask && prepare_keeps (state_of b.old) n d)) × KnownZero result.zero t.new }
 {
-    let j = refuse::node_refusal(b, n, UP < d, true);
-    if j != 0 {
-        return as_before(Answer::Refused(j), ask, zero);
+    if let Err(refusal) = refuse::node_refusal(b, n, UP < d, true) {
+        return as_before(Err(refusal), ask, zero);
     }
     clear_unless(t, zero);
     after_core(tested::prepare_dual_node_growth(b, t, n, d, ask))
@@ -102,13 +100,12 @@ pub fn compute_maximum_update_length_dual_node(
     zero: bool,
 ) -> Known
     requires { (memory_refusal b.old t.old ≡ 0) × KnownZero zero t.old }
-    ensures { LengthCalled b.old t.old n d first b.new t.new result.answer
+    ensures { LengthCalled b.old t.old n d first b.new t.new (told result.answer)
         × (result.kept ≡ (ask && length_keeps (state_of b.old) n d first)) × KnownZero result.zero t.new }
 {
     if first {
-        let j = refuse::node_refusal(b, n, UP < d, true);
-        if j != 0 {
-            return as_before(Answer::Refused(j), ask, zero);
+        if let Err(refusal) = refuse::node_refusal(b, n, UP < d, true) {
+            return as_before(Err(refusal), ask, zero);
         }
         clear_unless(t, zero);
         return after_core(tested::length_prepared(b, t, n, d, ask));
@@ -126,15 +123,14 @@ pub fn grow_dual_node(
     zero: bool,
 ) -> Known
     requires { (memory_refusal b.old t.old ≡ 0) × KnownZero zero t.old }
-    ensures { GrowCalled b.old t.old n length b.new t.new result.answer
+    ensures { GrowCalled b.old t.old n length b.new t.new (told result.answer)
         × (result.kept ≡ (ask && grow_keeps (state_of b.old) n length)) × KnownZero result.zero t.new }
 {
     if words::magnitude(length) == 0 {
         return as_before(core_calls::grow_none(b, n, 1, length), ask, zero);
     }
-    let j = refuse::node_refusal(b, n, false, true);
-    if j != 0 {
-        return as_before(Answer::Refused(j), ask, zero);
+    if let Err(refusal) = refuse::node_refusal(b, n, false, true) {
+        return as_before(Err(refusal), ask, zero);
     }
     clear_unless(t, zero);
     after_core(tested::grow_dual_node(b, t, n, length, ask))
@@ -143,13 +139,12 @@ pub fn grow_dual_node(
 // Node n grows by all of its own length answer.
 pub fn advance(b: &mut [i64], t: &mut [i64], n: usize, ask: bool, zero: bool) -> Known
     requires { (memory_refusal b.old t.old ≡ 0) × KnownZero zero t.old }
-    ensures { AdvanceCalled b.old t.old n b.new t.new result.answer
+    ensures { AdvanceCalled b.old t.old n b.new t.new (told result.answer)
         × (result.kept ≡ (ask && advance_keeps (state_of b.old) n)) × KnownZero result.zero t.new }
 {
     if advance::moves(b, n) {
-        let j = refuse::node_refusal(b, n, false, true);
-        if j != 0 {
-            return as_before(Answer::Refused(j), ask, zero);
+        if let Err(refusal) = refuse::node_refusal(b, n, false, true) {
+            return as_before(Err(refusal), ask, zero);
         }
         clear_unless(t, zero);
         return after_core(tested::advance(b, t, n, ask));
@@ -158,9 +153,9 @@ pub fn advance(b: &mut [i64], t: &mut [i64], n: usize, ask: bool, zero: bool) ->
 }
 
 // Everything but the graph is emptied.
-pub fn clear(b: &mut [i64], t: &[i64]) -> Answer
+pub fn clear(b: &mut [i64], t: &[i64]) -> Result<Answer, Refusal>
     requires { memory_refusal b.old t.now ≡ 0 }
-    ensures { ClearCalled b.old t.now b.new result }
+    ensures { ClearCalled b.old t.now b.new (told result) }
 {
     core_calls::clear_all(b)
 }

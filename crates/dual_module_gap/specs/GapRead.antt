@@ -3,8 +3,8 @@ use Rattle.std.specs.Prelude.{ℕ, ◌≡◌, List, ℤ, eqb, leb, if◌then◌e
 use Rattle.graph.specs.State.{State, edge_count}
 use Rattle.graph.specs.Layout.{state_of, memory_refusal}
 use Rattle.gap.specs.Gap.{edge_gap}
-use Rattle.dual_module_gap.specs.declared.GapAnswer.{GapAnswer}
-use Rattle.dual_module_gap.specs.declared.GapAnswer.TheVariants.{Found, Refused}
+use Rattle.dual_module_gap.specs.Outcome.{GapAnswer}
+use Rattle.dual_module_gap.specs.Outcome.{Found, Refused}
 
 -- of edge e in state c
 unfoldable pub gap_told : State → ℕ → GapAnswer

@@ -2,18 +2,20 @@
 
 ghost use Rattle.std.specs.Prelude.{◌≡◌};
 ghost use Rattle.graph.specs.Layout.{memory_refusal};
+ghost use Rattle.dual_module_gap.specs.Outcome.{gap_answer};
 ghost use Rattle.dual_module_gap.specs.GapRead.{GapRead};
 
-use crate::GapAnswer;
+use gap::Gap;
 use graph::rows;
+use refusal::Refusal;
 
 // The gap of edge e.
-pub fn edge_gap(b: &[i64], t: &[i64], e: usize) -> GapAnswer
+pub fn edge_gap(b: &[i64], t: &[i64], e: usize) -> Result<Gap, Refusal>
     requires { memory_refusal b.now t.now ≡ 0 }
-    ensures { GapRead b.now t.now e result }
+    ensures { GapRead b.now t.now e (gap_answer result) }
 {
     if rows::edge_count(b) <= e {
-        return GapAnswer::Refused(3);
+        return Err(Refusal::NoSuch);
     }
-    GapAnswer::Found(gap::edge_gap(b, e))
+    Ok(gap::edge_gap(b, e))
 }

@@ -5,6 +5,7 @@ ghost use Rattle.std.specs.Prelude.{◌≡◌, true, ◌&&◌, map};
 ghost use Rattle.graph.specs.Word.{to_nat};
 ghost use Rattle.graph.specs.Layout.{state_of, memory_refusal};
 ghost use Rattle.calls.specs.Keeps.{blossom_keeps};
+ghost use Rattle.answers.specs.Outcome.{told};
 ghost use Rattle.dual_module.specs.inner.Known.{KnownZero};
 ghost use Rattle.dual_module.specs.Called.{DefectCalled, BlossomCalled};
 
@@ -13,16 +14,16 @@ use blossom::tested;
 use calls::defect;
 use dual_module::sound;
 use dual_module::sound::Known;
+use refusal::Refusal;
 
 // The next node is a defect at vertex v, in grow state x. It keeps every sound block sound.
 pub fn insert_defect(b: &mut [i64], t: &mut [i64], v: usize, x: usize, zero: bool) -> Known
     requires { (memory_refusal b.old t.old ≡ 0) × KnownZero zero t.old }
-    ensures { DefectCalled b.old t.old v x b.new t.new result.answer
+    ensures { DefectCalled b.old t.old v x b.new t.new (told result.answer)
         × (result.kept ≡ true) × KnownZero result.zero t.new }
 {
-    let j = defect::defect_refusal(b, v, x);
-    if j != 0 {
-        return sound::as_before(Answer::Refused(j), true, zero);
+    if let Err(refusal) = defect::defect_refusal(b, v, x) {
+        return sound::as_before(Err(refusal), true, zero);
     }
     sound::clear_unless(t, zero);
     let answer = defect::insert_defect(b, t, v, x);
@@ -43,13 +44,12 @@ pub fn insert_blossom(
     zero: bool,
 ) -> Known
     requires { (memory_refusal b.old t.old ≡ 0) × KnownZero zero t.old }
-    ensures { BlossomCalled b.old t.old x circle.now b.new t.new result.answer
+    ensures { BlossomCalled b.old t.old x circle.now b.new t.new (told result.answer)
         × (result.kept ≡ (ask && blossom_keeps (state_of b.old) x (map to_nat circle.now)))
         × KnownZero result.zero t.new }
 {
-    let j = blossom::blossom_refusal(b, x, circle);
-    if j != 0 {
-        return sound::as_before(Answer::Refused(j), ask, zero);
+    if let Err(refusal) = blossom::blossom_refusal(b, x, circle) {
+        return sound::as_before(Err(refusal), ask, zero);
     }
     sound::clear_unless(t, zero);
     sound::after_core(tested::insert_blossom(b, t, x, circle, ask))

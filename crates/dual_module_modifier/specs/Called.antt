@@ -2,7 +2,7 @@
 use Rattle.std.specs.Prelude.{ℕ, ◌%◌, Bool, ◌&&◌, not, List, ℤ, eqb, length, if◌then◌else◌}
 use Rattle.graph.specs.State.{State}
 use Rattle.graph.specs.Layout.{state_of, memory_refusal}
-use Rattle.answers.specs.declared.Answer.{Answer}
+use Rattle.answers.specs.Outcome.{Answer}
 use Rattle.calls.specs.Erasures.{EdgeWeight, pairs_from, modifier_refusal, load_edge_modifier}
 use Rattle.dual_module.specs.Called.{Called}
 

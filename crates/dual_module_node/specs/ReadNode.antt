@@ -3,8 +3,8 @@ use Rattle.std.specs.Prelude.{ℕ, ◌≡◌, List, ℤ, eqb, if◌then◌else�
 use Rattle.graph.specs.State.{State, NodeClass, defect_vertex, blossom, removed, class_of, grow_state_of, parent_of, dual_of}
 use Rattle.graph.specs.Layout.{state_of, memory_refusal}
 use Rattle.calls.specs.Refuse.{bad_node}
-use Rattle.dual_module_node.specs.declared.NodeRead.{NodeRead}
-use Rattle.dual_module_node.specs.declared.NodeRead.TheVariants.{Defect, Blossom, Refused}
+use Rattle.dual_module_node.specs.Outcome.{NodeRead}
+use Rattle.dual_module_node.specs.Outcome.{Defect, Blossom, Refused}
 
 -- a node of this class, of grow state x, parent p (0 for none, or the number of a blossom + 1) and dual variable y
 unfoldable pub node_told : NodeClass → ℕ → ℕ → ℕ → NodeRead

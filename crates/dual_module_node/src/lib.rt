@@ -3,7 +3,10 @@
 // A node read on memory that a host lends. Block and scratch are tested first (refusals 1 and 2); the call itself is in module `sound`.
 // Nothing is written.
 
+ghost use Rattle.dual_module_node.specs.Outcome.{node_answer};
 ghost use Rattle.dual_module_node.specs.ReadNode.{ReadNodeCalled};
+
+use refusal::Refusal;
 
 pub mod sound; // the call behind the tests
 
@@ -12,16 +15,12 @@ pub mod sound; // the call behind the tests
 pub enum NodeRead {
     Defect(usize, usize, usize, usize), // its vertex, grow state, parent and dual variable
     Blossom(usize, usize, usize, usize), // its first member, grow state, parent and dual variable
-    Refused(usize), // the number of the refusal
 }
 
 // Node n: what it stands for, its grow state, its parent and its dual variable.
-pub fn read_node(b: &[i64], t: &[i64], n: usize) -> NodeRead
-    ensures { ReadNodeCalled b.now t.now n result }
+pub fn read_node(b: &[i64], t: &[i64], n: usize) -> Result<NodeRead, Refusal>
+    ensures { ReadNodeCalled b.now t.now n (node_answer result) }
 {
-    let k = memory_tests::refuse::refusal(b, t);
-    if k != 0 {
-        return NodeRead::Refused(k);
-    }
+    memory_tests::refuse::refusal(b, t)?;
     sound::read_node(b, t, n)
 }

@@ -1,8 +1,10 @@
 -- The calls that only read block and scratch: the representative vertex of a node, the growth table, the contacts.
-use Rattle.std.specs.Prelude.{ℕ, ◌≡◌, List, map, ℤ, pos, eqb, length, if◌then◌else◌}
+use Rattle.std.specs.Prelude.{ℕ, ◌≡◌, List, map, ℤ, pos, eqb, length, if◌then◌else◌, Result, Ok, Err}
+use Rattle.refusal.specs.declared.Refusal.{Refusal}
+use Rattle.refusal.specs.Refusal.{number}
 use Rattle.graph.specs.Layout.{state_of, memory_refusal, list_refusal}
-use Rattle.answers.specs.declared.Answer.{Answer}
-use Rattle.answers.specs.declared.Answer.TheVariants.{Done}
+use Rattle.answers.specs.Outcome.{Answer}
+use Rattle.answers.specs.Outcome.{Done, Refused}
 use Rattle.answers.specs.Numbers.{OnPaper}
 use Rattle.answers.specs.Answer.{says}
 use Rattle.calls.specs.Refuse.{unless}
@@ -30,3 +32,12 @@ ContactsRead b t list list' a = ListRead b list list' (over_front (contact_words
 -- how many they are
 abbrev pub ContactsCounted : List ℤ → List ℤ → List ℤ → ℕ → Type 0
 ContactsCounted b t list k = k ≡ (if eqb (list_refusal b t (length list) 3) 0 then length (contacts (state_of b)) else 0)
+
+-- the answer of a reading that counts, and its count: 0 where it is refused
+abbrev pub count_told : Result ℕ Refusal → Answer
+count_told (Ok n) = Done
+count_told (Err e) = Refused (number e)
+
+abbrev pub count_in : Result ℕ Refusal → ℕ
+count_in (Ok n) = n
+count_in (Err e) = 0

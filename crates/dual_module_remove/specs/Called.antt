@@ -3,7 +3,7 @@
 use Rattle.std.specs.Prelude.{ℕ, Bool, List, ℤ, eqb}
 use Rattle.graph.specs.State.{State}
 use Rattle.graph.specs.Layout.{state_of, memory_refusal}
-use Rattle.answers.specs.declared.Answer.{Answer}
+use Rattle.answers.specs.Outcome.{Answer}
 use Rattle.calls.specs.Remove.{remove_refusal, remove_blossom}
 use Rattle.dual_module.specs.Called.{CalledWithScratch}
 

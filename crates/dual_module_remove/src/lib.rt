@@ -4,23 +4,19 @@
 // the opening before it prepares (3, 6, 15, 9); until then nothing is written. Then the scratch is set to zero and the
 // core runs.
 
+ghost use Rattle.answers.specs.Outcome.{told};
 ghost use Rattle.dual_module_remove.specs.Called.{RemoveCalled};
 
 use answers::Answer;
+use refusal::Refusal;
 
 // Node n, a blossom of dual variable 0, is opened: its members are outermost again and hold their sides, and its number
 // stands for nothing.
-pub fn remove_blossom(b: &mut [i64], t: &mut [i64], n: usize) -> Answer
-    ensures { RemoveCalled b.old t.old n b.new t.new result }
+pub fn remove_blossom(b: &mut [i64], t: &mut [i64], n: usize) -> Result<Answer, Refusal>
+    ensures { RemoveCalled b.old t.old n b.new t.new (told result) }
 {
-    let k = memory_tests::refuse::refusal(b, t);
-    if k != 0 {
-        return Answer::Refused(k);
-    }
-    let j = remove::remove_refusal(b, n);
-    if j != 0 {
-        return Answer::Refused(j);
-    }
+    memory_tests::refuse::refusal(b, t)?;
+    remove::remove_refusal(b, n)?;
     dual_module::clear_scratch(t);
     remove::remove_blossom(b, t, n)
 }

@@ -5,12 +5,12 @@ use Rattle.graph.specs.State.{State}
 use Rattle.graph.specs.Layout.{n_of, state_of, sized, memory_fits, block_refusal}
 use Rattle.graph.specs.Form.{Formed}
 use Rattle.pass.specs.Scratch.{zero_scratch}
-use Rattle.answers.specs.declared.Answer.{Answer}
+use Rattle.answers.specs.Outcome.{Answer}
 use Rattle.answers.specs.Numbers.{OnPaper}
 use Rattle.answers.specs.Answer.{Reply}
-use Rattle.calls.specs.declared.group.GroupMaxUpdateLength.{GroupMaxUpdateLength as Group}
-use Rattle.calls.specs.declared.group.GroupMaxUpdateLength.TheVariants.{Refused}
-use Rattle.answers.specs.declared.Answer.TheVariants.{Done, Refused as RefusedCall}
+use Rattle.calls.specs.Group.{GroupMaxUpdateLength as Group}
+use Rattle.calls.specs.Group.{Refused}
+use Rattle.answers.specs.Outcome.{Done, Refused as RefusedCall}
 use Rattle.calls.specs.Refuse.{unless}
 use Rattle.calls.specs.Round.{refusal_of, tried, renew_active_list, prepare_all, round, GroupReply, is_refused, group_length}
 use Rattle.round_trial.specs.Trial.{whole_trial}

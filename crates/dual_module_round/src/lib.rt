@@ -6,7 +6,9 @@
 ghost use Rattle.std.specs.Prelude.{◌≡◌, ◌&&◌, ◌*◌, ◌<◌, ◌≤◌, pos, eqb, length, get_or, set, if◌then◌else◌};
 ghost use Rattle.graph.specs.Layout.{n_of, state_of, sized};
 ghost use Rattle.pass.specs.Scratch.{zero_scratch};
-ghost use Rattle.calls.specs.Round.{is_refused};
+ghost use Rattle.refusal.specs.Refusal.{refusal_number};
+ghost use Rattle.answers.specs.Outcome.{told};
+ghost use Rattle.calls.specs.Group.{group_told};
 ghost use Rattle.dual_module_round.specs.Called.{trial_refusal, group_trial_refusal, round_refusal, trial_reply, trial_answer, OnTrial, RenewCalled, PrepareAllCalled, RoundCalled, GroupCalled};
 ghost use Rattle.graph.specs.Word.{word_limit};
 
@@ -14,6 +16,7 @@ use answers::Answer;
 use calls::group::GroupMaxUpdateLength;
 use graph::{sizes, words};
 use memory_tests::refuse;
+use refusal::Refusal;
 
 // ---- copies
 
@@ -49,24 +52,24 @@ fn end(b: &mut [i64], s: &mut [i64], refused: bool)
 // ---- what refuses a trial before it
 
 // Lengths and sizes, then soundness.
-fn trial_refusal(b: &[i64], s: &[i64], t: &[i64]) -> usize
-    ensures { result ≡ trial_refusal b.now s.now t.now }
+fn trial_refusal(b: &[i64], s: &[i64], t: &[i64]) -> Result<(), Refusal>
+    ensures { refusal_number result ≡ trial_refusal b.now s.now t.now }
 {
     if s.len() == b.len() {
         return refuse::refusal(b, t);
     }
-    1
+    Err(Refusal::WrongLength)
 }
 
 // The same, and a length of 1 at least.
-fn round_refusal(b: &[i64], s: &[i64], t: &[i64], length: i64) -> usize
-    ensures { result ≡ round_refusal b.now s.now t.now length }
+fn round_refusal(b: &[i64], s: &[i64], t: &[i64], length: i64) -> Result<(), Refusal>
+    ensures { refusal_number result ≡ round_refusal b.now s.now t.now length }
 {
-    let k = trial_refusal(b, s, t);
-    if k != 0 {
-        return k;
+    trial_refusal(b, s, t)?;
+    if length < 1 {
+        return Err(Refusal::RoundTooShort);
     }
-    if length < 1 { 14 } else { 0 }
+    Ok(())
 }
 
 // Whether the sizes are in range and m words are 5 for each of N entries.
@@ -82,84 +85,62 @@ fn entries_fit(b: &[i64], m: usize) -> bool
 }
 
 // What refuses the group, with a list of m words.
-fn group_refusal(b: &[i64], s: &[i64], t: &[i64], m: usize) -> usize
-    ensures { result ≡ group_trial_refusal b.now s.now t.now m }
+fn group_refusal(b: &[i64], s: &[i64], t: &[i64], m: usize) -> Result<(), Refusal>
+    ensures { refusal_number result ≡ group_trial_refusal b.now s.now t.now m }
 {
     if entries_fit(b, m) {
         return trial_refusal(b, s, t);
     }
-    1
+    Err(Refusal::WrongLength)
 }
 
 // ---- the calls
 
 // The nodes in Stay leave the active list.
-pub fn renew_active_list(b: &mut [i64]) -> Answer
-    ensures { RenewCalled b.old b.new result }
+pub fn renew_active_list(b: &mut [i64]) -> Result<Answer, Refusal>
+    ensures { RenewCalled b.old b.new (told result) }
 {
-    let refused = refuse::refusal_alone(b);
-    if refused != 0 {
-        return Answer::Refused(refused);
-    }
+    refuse::refusal_alone(b)?;
     active_list::renew(b);
-    Answer::Done
+    Ok(Answer::Done)
 }
 
-// What a trial answers that met the refusal r, or 0.
-fn trial_answer(r: usize) -> Answer
-    ensures { result ≡ trial_answer r }
+// What a trial answers.
+fn trial_answer(tried: Result<(), Refusal>) -> Result<Answer, Refusal>
+    ensures { told result ≡ trial_answer (refusal_number tried) }
 {
-    if r == 0 {
-        Answer::Done
-    } else {
-        Answer::Refused(r)
+    match tried {
+        Ok(()) => Ok(Answer::Done),
+        Err(refusal) => Err(refusal),
     }
 }
 
 // A trial of length l, 0 for a preparation, on memory that is not refused.
-fn trial(b: &mut [i64], s: &mut [i64], t: &mut [i64], l: usize) -> Answer
+fn trial(b: &mut [i64], s: &mut [i64], t: &mut [i64], l: usize) -> Result<Answer, Refusal>
     requires { (trial_refusal b.old s.old t.old ≡ 0) × (l ≤ word_limit) }
-    ensures { OnTrial 0 b.old s.old t.old b.new s.new t.new result
+    ensures { OnTrial 0 b.old s.old t.old b.new s.new t.new (told result)
         (trial_reply l (state_of b.old)) }
 {
     begin(b, s, t);
-    let r = round_trial::trial::in_turn(s, t, l);
-    end(b, s, r != 0);
-    trial_answer(r)
+    let tried = round_trial::trial::in_turn(s, t, l);
+    end(b, s, tried.is_err());
+    trial_answer(tried)
 }
 
 // Every active node is prepared, first those that shrink.
-pub fn prepare_all(b: &mut [i64], s: &mut [i64], t: &mut [i64]) -> Answer
-    ensures { PrepareAllCalled b.old s.old t.old b.new s.new t.new result }
+pub fn prepare_all(b: &mut [i64], s: &mut [i64], t: &mut [i64]) -> Result<Answer, Refusal>
+    ensures { PrepareAllCalled b.old s.old t.old b.new s.new t.new (told result) }
 {
-    let k = trial_refusal(b, s, t);
-    if k != 0 {
-        return Answer::Refused(k);
-    }
+    trial_refusal(b, s, t)?;
     trial(b, s, t, 0)
 }
 
 // A round: every active node moves by a length, first those that shrink.
-pub fn grow(b: &mut [i64], s: &mut [i64], t: &mut [i64], length: i64) -> Answer
-    ensures { RoundCalled b.old s.old t.old length b.new s.new t.new result }
+pub fn grow(b: &mut [i64], s: &mut [i64], t: &mut [i64], length: i64) -> Result<Answer, Refusal>
+    ensures { RoundCalled b.old s.old t.old length b.new s.new t.new (told result) }
 {
-    let k = round_refusal(b, s, t, length);
-    if k != 0 {
-        return Answer::Refused(k);
-    }
+    round_refusal(b, s, t, length)?;
     trial(b, s, t, words::magnitude(length))
-}
-
-// Whether the group's answer is a refusal.
-fn is_refused(g: GroupMaxUpdateLength) -> bool
-    ensures { result ≡ is_refused g }
-{
-    match g {
-        GroupMaxUpdateLength::NonZeroGrow(_, _) => false,
-        GroupMaxUpdateLength::Unlimited(_) => false,
-        GroupMaxUpdateLength::Conflicts(_, _) => false,
-        GroupMaxUpdateLength::Refused(_) => true,
-    }
 }
 
 // How far all active nodes may move, prepared first; what stands in the way of them is listed.
@@ -168,16 +149,13 @@ pub fn compute_maximum_update_length(
     s: &mut [i64],
     t: &mut [i64],
     list: &mut [usize],
-) -> GroupMaxUpdateLength
+) -> Result<GroupMaxUpdateLength, Refusal>
     ensures { GroupCalled b.old s.old t.old list.old b.new s.new
-        t.new list.new result }
+        t.new list.new (group_told result) }
 {
-    let k = group_refusal(b, s, t, list.len());
-    if k != 0 {
-        return GroupMaxUpdateLength::Refused(k);
-    }
+    group_refusal(b, s, t, list.len())?;
     begin(b, s, t);
-    let g = round::group::compute_maximum_update_length(s, t, list);
-    end(b, s, is_refused(g));
-    g
+    let group = round::group::compute_maximum_update_length(s, t, list);
+    end(b, s, group.is_err());
+    group
 }

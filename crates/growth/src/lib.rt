@@ -11,12 +11,14 @@ ghost use Rattle.graph.specs.Layout.{state_of};
 ghost use Rattle.graph.specs.Form.{Formed};
 ghost use Rattle.graph.specs.inner.Form.{Becomes, sides_ok};
 ghost use Rattle.graph.specs.inner.Readable.{Readable};
+ghost use Rattle.refusal.specs.Refusal.{refusal_number};
 ghost use Rattle.growth.specs.Growth.{passes_weight, grow_check, move_side, grow_apply};
 ghost use Rattle.growth.specs.inner.Moving.{number_refuses, node_refuses, side_refuses, refuses, move_node, SidesMovable, TopPut, Growing};
 
 use gap::Gap;
 use graph::dual_node::{DualNode, UP};
 use graph::{dual_node, edge, lists, node, side, top, words};
+use refusal::Refusal;
 
 // ---- what refuses it
 
@@ -124,24 +126,24 @@ fn refuses(b: &[i64], n: usize, l: usize, k: usize) -> bool
     }
 }
 
-// 0, or what refuses the growth of node n by l in direction d.
-pub fn grow_check(b: &[i64], n: usize, d: usize, l: usize) -> usize
+// What refuses the growth of node n by l in direction d.
+pub fn grow_check(b: &[i64], n: usize, d: usize, l: usize) -> Result<(), Refusal>
     requires { Formed b.now × Readable (state_of b.now) × (n < node_count (state_of b.now)) × (l ≤ word_limit)
         × (sides_ok (state_of b.now) n ≡ true) }
-    ensures { result ≡ grow_check (state_of b.now) n d l }
+    ensures { refusal_number result ≡ grow_check (state_of b.now) n d l }
 {
     if d == UP {
         if boundary_refuses(b, n, l, 10) {
-            10
+            Err(Refusal::PassesWeight)
         } else if refuses(b, n, l, 12) {
-            12
+            Err(Refusal::AboveLimit)
         } else {
-            0
+            Ok(())
         }
     } else if refuses(b, n, l, 11) {
-        11
+        Err(Refusal::BelowZero)
     } else {
-        0
+        Ok(())
     }
 }
 

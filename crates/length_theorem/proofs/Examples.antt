@@ -2,7 +2,7 @@
 use Rattle.std.specs.Prelude.{ℕ, ◌+◌, ◌≡◌, refl, true, false, List, [], ◌∷◌, pos}
 use Rattle.std.proofs.Common.{arith}
 use Rattle.graph.specs.Open.{Edge, opened, open_refusal}
-use Rattle.answers.specs.declared.Answer.TheVariants.{Length}
+use Rattle.answers.specs.Outcome.{Length}
 use Rattle.answers.specs.declared.MaxUpdateLength.TheVariants.{Unlimited, Conflicting}
 use Rattle.calls.specs.Calls.{Call, InsertDefect, Grow}
 use Rattle.calls.specs.Examples.{edge}

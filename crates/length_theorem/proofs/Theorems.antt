@@ -1,7 +1,7 @@
 -- What a growing length, prepared first, says of tight constraints and obstacles: on every run without blossoms and with positive weights.
 use Rattle.std.specs.Prelude.{ℕ, ◌+◌, ◌≡◌, ◌≢◌, Bool, List, ℤ}
 use Rattle.graph.specs.Open.{Edge}
-use Rattle.answers.specs.declared.Answer.TheVariants.{Length, Refused}
+use Rattle.answers.specs.Outcome.{Length, Refused}
 use Rattle.answers.specs.declared.MaxUpdateLength.TheVariants.{NonZeroGrow, Unlimited, Conflicting, TouchingVirtual}
 use Rattle.opened_graph.specs.OpenedGraph.{PositiveWeights}
 use Rattle.calls.specs.Contacts.{IsContact}

@@ -4,8 +4,8 @@
 use Rattle.std.specs.Prelude.{ℕ, suc, ◌+◌, ◌≤◌, ◌<◌, ◌≡◌, ◌≢◌, ◌⊎◌, true, List, ℤ, pos}
 use Rattle.graph.specs.State.{defect_vertex, node_count, class_of, grow_state_of, dual_of, growing, shrinking, up}
 use Rattle.graph.specs.Open.{Edge}
-use Rattle.answers.specs.declared.Answer.{Answer}
-use Rattle.answers.specs.declared.Answer.TheVariants.{Length}
+use Rattle.answers.specs.Outcome.{Answer}
+use Rattle.answers.specs.Outcome.{Length}
 use Rattle.answers.specs.declared.MaxUpdateLength.TheVariants.{Conflicting, TouchingVirtual}
 use Rattle.calls.specs.Calls.{max_update_length}
 use Rattle.distance.specs.Graph.{WeightedGraph, Virtual, Walk}

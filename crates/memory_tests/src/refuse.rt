@@ -2,9 +2,11 @@
 
 ghost use Rattle.std.specs.Prelude.{◌≡◌, true, ◌&&◌, ◌*◌, ◌≤◌, eqb};
 ghost use Rattle.graph.specs.Layout.{e_of, sized, memory_fits, block_refusal, memory_refusal, list_refusal};
+ghost use Rattle.refusal.specs.Refusal.{refusal_number};
 
 use crate::sound;
 use graph::{sizes, words};
+use refusal::Refusal;
 
 // Whether block and scratch have their exact lengths, and the sizes are in range.
 fn measured(b: &[i64], t: &[i64]) -> bool
@@ -32,38 +34,40 @@ fn measured_list(b: &[i64], t: &[i64], m: usize, k: usize) -> bool
     }
 }
 
-// 0, or the refusal of a block: 1 for a wrong length or size, 2 if it is not sound.
-fn block_refusal(b: &[i64], fits: bool) -> usize
+// What refuses a block: its length or a size, or that it is not sound.
+fn block_refusal(b: &[i64], fits: bool) -> Result<(), Refusal>
     requires { fits ≡ true → sized b.now ≡ true }
-    ensures { result ≡ block_refusal fits b.now }
+    ensures { refusal_number result ≡ block_refusal fits b.now }
 {
-    if fits {
-        if sound::sound(b) { 0 } else { 2 }
-    } else {
-        1
+    if !fits {
+        return Err(Refusal::WrongLength);
     }
+    if !sound::sound(b) {
+        return Err(Refusal::Unsound);
+    }
+    Ok(())
 }
 
-// 0, or the refusal of a block that is lent alone.
-pub fn refusal_alone(b: &[i64]) -> usize
-    ensures { result ≡ block_refusal (sized b.now) b.now }
+// What refuses a block that is lent alone.
+pub fn refusal_alone(b: &[i64]) -> Result<(), Refusal>
+    ensures { refusal_number result ≡ block_refusal (sized b.now) b.now }
 {
     let fits = sizes::sized(b);
     block_refusal(b, fits)
 }
 
-// 0, or the refusal of block and scratch.
-pub fn refusal(b: &[i64], t: &[i64]) -> usize
-    ensures { result ≡ memory_refusal b.now t.now }
+// What refuses block and scratch.
+pub fn refusal(b: &[i64], t: &[i64]) -> Result<(), Refusal>
+    ensures { refusal_number result ≡ memory_refusal b.now t.now }
 {
     let fits = measured(b, t);
     block_refusal(b, fits)
 }
 
-// 0, or the refusal of block and scratch with a list of m words, which must be k for each edge.
-pub fn list_refusal(b: &[i64], t: &[i64], m: usize, k: usize) -> usize
+// What refuses block and scratch with a list of m words, which must be k for each edge.
+pub fn list_refusal(b: &[i64], t: &[i64], m: usize, k: usize) -> Result<(), Refusal>
     requires { k ≤ 3 }
-    ensures { result ≡ list_refusal b.now t.now m k }
+    ensures { refusal_number result ≡ list_refusal b.now t.now m k }
 {
     let fits = measured_list(b, t, m, k);
     block_refusal(b, fits)

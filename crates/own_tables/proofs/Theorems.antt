@@ -4,7 +4,7 @@ use Rattle.graph.specs.Open.{Edge}
 use Rattle.distance.specs.Nearest.{ReachesVirtual}
 use Rattle.opened_graph.specs.OpenedGraph.{opened_graph, PositiveWeights}
 use Rattle.table_theorem.specs.Runs.{Run}
-use Rattle.table_check.specs.declared.Verdict.TheVariants.{Yes}
+use Rattle.table_check.specs.Outcome.{Yes}
 use Rattle.table_check.specs.Verdict.{table_verdict}
 use Rattle.own_tables.specs.Own.{Own}
 use Rattle.own_tables.proofs.laws.Own.{own-yes}

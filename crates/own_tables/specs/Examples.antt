@@ -9,8 +9,7 @@ use Rattle.table_words.specs.Handed
 use Rattle.table_refuse.specs.Refuse
 use Rattle.table_check.specs.Verdict
 use Rattle.table_check.specs.Verdict.{table_verdict}
-use Rattle.table_check.specs.declared.Verdict.{Verdict as Answer}
-use Rattle.table_check.specs.declared.Verdict.TheVariants.{Yes, No, Refused}
+use Rattle.table_check.specs.Outcome.{Verdict as Answer, Yes, No, Refused}
 
 -- a name that opens all definitions of the verdict: under `unfolding everything` it computes
 unfoldable pub everything : ℕ

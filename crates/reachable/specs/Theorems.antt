@@ -12,7 +12,7 @@ use Rattle.gap.specs.declared.Gap.TheVariants.{Over}
 use Rattle.gap.specs.Gap.{edge_gap}
 use Rattle.reachable.specs.laws.Gap.{over-never}
 use Rattle.pass.specs.Prepare.{prepare_node}
-use Rattle.answers.specs.declared.Answer.TheVariants.{Done, Refused}
+use Rattle.answers.specs.Outcome.{Done, Refused}
 use Rattle.answers.specs.Answer.{says}
 use Rattle.update_length.specs.laws.Long.{long_as}
 use Rattle.calls.specs.Insert.{occupied, defect_refusal}
@@ -21,7 +21,7 @@ use Rattle.calls.proofs.Theorems.{none_read, all_read}
 use Rattle.calls.proofs.laws.Occupied.{accepted-vacant, refused-occupied}
 use Rattle.calls.specs.Calls.{Call, max_update_length, advance, response, respond}
 use Rattle.calls.specs.Round.{prepare_all, round, group_length}
-use Rattle.calls.specs.declared.group.GroupMaxUpdateLength.TheVariants.{NonZeroGrow as group_free, Refused as group_refused}
+use Rattle.calls.specs.Group.{NonZeroGrow as group_free, Refused as group_refused}
 use Rattle.calls.specs.Remove.{is_blossom, remove_refusal, remove_blossom}
 use Rattle.calls.proofs.laws.RemoveCall.{remove-keeps}
 use Rattle.reachable.specs.laws.state.Live.{invariant-sound}

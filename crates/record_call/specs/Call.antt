@@ -4,7 +4,7 @@ use Rattle.graph.specs.State.{vertex_count, edge_count}
 use Rattle.graph.specs.Layout.{state_of}
 use Rattle.graph.specs.Form.{Formed}
 use Rattle.pass.specs.Scratch.{scratch_of}
-use Rattle.answers.specs.declared.Answer.{Answer}
+use Rattle.answers.specs.Outcome.{Answer}
 use Rattle.calls.specs.Calls.{Call, Clear, answered, respond}
 use Rattle.reachable.specs.Reachable.{Reachable}
 use Rattle.records.specs.Record.{Record, sizes, an_edge, a_virtual, ask, ill_formed, pair_at, decoded}

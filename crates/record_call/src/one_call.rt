@@ -2,6 +2,7 @@
 
 ghost use Rattle.std.specs.Prelude.{◌≡◌, ◌+◌, ◌-◌, ◌*◌, ◌/◌, ◌≤◌, map, length, take, ◌≢◌};
 ghost use Rattle.graph.specs.Word.{to_nat};
+ghost use Rattle.answers.specs.Outcome.{told};
 ghost use Rattle.records.specs.Record.{fields};
 ghost use Rattle.record_call.specs.Call.{call_in, OfKind, Opened, Answers};
 
@@ -10,6 +11,7 @@ use answers::Answer;
 use calls::{advance, core_calls, defect};
 use graph::words;
 use records::bytes;
+use refusal::Refusal;
 
 // The entries of a circle, which are all fields but the first, at the front of c; how many they are.
 fn circle_into(c: &mut [i64], body: &[u8]) -> usize
@@ -25,9 +27,9 @@ fn circle_into(c: &mut [i64], body: &[u8]) -> usize
 }
 
 // The blossom that a body asks for, with its circle in c.
-fn blossom_in(b: &mut [i64], t: &mut [i64], body: &[u8], c: &mut [i64]) -> Answer
+fn blossom_in(b: &mut [i64], t: &mut [i64], body: &[u8], c: &mut [i64]) -> Result<Answer, Refusal>
     requires { Opened b.old t.old × OfKind body.now 5 × (length body.now ≤ 4 * length c.old + 6) }
-    ensures { Answers b.old b.new result (call_in body.now) × (t.new ≡ t.old) }
+    ensures { Answers b.old b.new (told result) (call_in body.now) × (t.new ≡ t.old) }
 {
     let n = circle_into(c, body);
     let x = bytes::field(body, 0);
@@ -35,21 +37,21 @@ fn blossom_in(b: &mut [i64], t: &mut [i64], body: &[u8], c: &mut [i64]) -> Answe
 }
 
 // The same with words of its own. A longer circle is refused without any, so that a call sets few words to zero.
-fn blossom(b: &mut [i64], t: &mut [i64], body: &[u8]) -> Answer
+fn blossom(b: &mut [i64], t: &mut [i64], body: &[u8]) -> Result<Answer, Refusal>
     requires { Opened b.old t.old × OfKind body.now 5 }
-    ensures { Answers b.old b.new result (call_in body.now) × (t.new ≡ t.old) }
+    ensures { Answers b.old b.new (told result) (call_in body.now) × (t.new ≡ t.old) }
 {
     if body.len() <= 262 {
         let mut c = [0i64; 64];
         return blossom_in(b, t, body, &mut c);
     }
-    Answer::Refused(long_circle::long_refusal(b, body))
+    Err(long_circle::long_refusal(b, body))
 }
 
 // The call of a body of this kind, which is not one that only reads.
-pub fn call(b: &mut [i64], t: &mut [i64], kind: usize, body: &[u8]) -> Answer
+pub fn call(b: &mut [i64], t: &mut [i64], kind: usize, body: &[u8]) -> Result<Answer, Refusal>
     requires { Opened b.old t.old × OfKind body.now kind × (4 ≤ kind) × (kind ≢ 10) × (kind ≢ 12) }
-    ensures { Answers b.old b.new result (call_in body.now) × (t.new ≡ t.old) }
+    ensures { Answers b.old b.new (told result) (call_in body.now) × (t.new ≡ t.old) }
 {
     match kind {
         4 => defect::insert_defect(b, t, bytes::field(body, 0), bytes::field(body, 1)),

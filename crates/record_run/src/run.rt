@@ -1,13 +1,14 @@
 // A run between two records: its start, and its end with a refusal.
 
 ghost use Rattle.std.specs.Prelude.{◌≡◌, ◌+◌, ◌<◌, ◌≤◌, length};
+ghost use Rattle.refusal.specs.Refusal.{number};
 ghost use Rattle.records.specs.Run.{ends};
 ghost use Rattle.records.specs.Write.{LinesPut};
 
-use answers::Answer;
 use records::lines::Out;
 use records::setup::Setup;
 use records::told;
+use refusal::Refusal;
 
 #[derive(Clone, Copy)]
 pub struct Run {
@@ -43,14 +44,14 @@ pub fn fresh() -> Run
     }
 }
 
-// The run ends with refusal k.
-pub fn stop(lines: &mut [u8], r: Run, o: Out, k: usize) -> After
+// The run ends with this refusal.
+pub fn stop(lines: &mut [u8], r: Run, o: Out, refusal: Refusal) -> After
     requires { o.at ≤ length lines.old }
     ensures { LinesPut lines.old o.at o.full lines.new result.out.at result.out.full
-        (ends r.record k).lines
+        (ends r.record (number refusal)).lines
         × (result.run.stage ≡ 3) × (result.run.record ≡ r.record) }
 {
-    let out = told::answer(lines, o, r.record, Answer::Refused(k));
+    let out = told::answer(lines, o, r.record, Err(refusal));
     let run = Run { stage: 3, ..r };
     After { run, out }
 }
@@ -66,5 +67,5 @@ pub fn cut(lines: &mut [u8], r: Run, o: Out) -> After
         record: r.record + 1,
         ..r
     };
-    stop(lines, next, o, 3)
+    stop(lines, next, o, Refusal::NoSuch)
 }

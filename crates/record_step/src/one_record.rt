@@ -17,6 +17,7 @@ use record_run::run::{After, Run};
 use records::lines::Out;
 use records::setup::Setup;
 use records::{bytes, opening, record, setup, table, told};
+use refusal::Refusal;
 
 // The lines of the call of a body on an opened graph go behind the others.
 fn ask(
@@ -70,9 +71,8 @@ fn first(
         × (result.run.record ≡ r.record) × (scratch.new ≡ scratch.old) }
 {
     let s = r.setup;
-    let k = opening::open(s, block, scratch, edges, virtuals);
-    if k != 0 {
-        return run::stop(lines, r, o, k);
+    if let Err(refusal) = opening::open(s, block, scratch, edges, virtuals) {
+        return run::stop(lines, r, o, refusal);
     }
     let out = ask(lines, o, r.record, s, kind, body, block, scratch);
     let run = Run { stage: 2, ..r };
@@ -101,7 +101,7 @@ fn asked(
         × (result.run.record ≡ r.record) × (scratch.new ≡ scratch.old) }
 {
     if r.stage == 0 {
-        return run::stop(lines, r, o, 3);
+        return run::stop(lines, r, o, Refusal::NoSuch);
     }
     if r.stage == 1 {
         return first(lines, r, o, kind, body, block, scratch, edges, virtuals);
@@ -139,7 +139,7 @@ fn gather(
             };
             return After { run, out: o };
         }
-        return run::stop(lines, r, o, 3);
+        return run::stop(lines, r, o, Refusal::NoSuch);
     }
     if r.stage == 1 {
         if kind == 2 {
@@ -159,7 +159,7 @@ fn gather(
         };
         return After { run, out: o };
     }
-    run::stop(lines, r, o, 3)
+    run::stop(lines, r, o, Refusal::NoSuch)
 }
 
 // The next record, whose body this is.
@@ -193,5 +193,5 @@ pub fn step_record(
         }
         return asked(lines, r, o, kind, body, block, scratch, edges, virtuals);
     }
-    run::stop(lines, r, o, 3)
+    run::stop(lines, r, o, Refusal::NoSuch)
 }

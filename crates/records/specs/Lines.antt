@@ -1,7 +1,7 @@
 -- The lines of an outcome, as bytes. Each has the record's number in front and a line feed behind.
 use Rattle.std.specs.Prelude.{ℕ, ◌+◌, ◌-◌, List, [], ◌∷◌, ◌++◌, map, eqb, leb, length, drop, if◌then◌else◌}
-use Rattle.answers.specs.declared.Answer.{Answer}
-use Rattle.answers.specs.declared.Answer.TheVariants.{Length, Done, Node, Prepared, Refused, Vertex}
+use Rattle.answers.specs.Outcome.{Answer}
+use Rattle.answers.specs.Outcome.{Length, Done, Node, Prepared, Refused, Vertex}
 use Rattle.answers.specs.declared.MaxUpdateLength.{MaxUpdateLength}
 use Rattle.answers.specs.declared.MaxUpdateLength.TheVariants.{NonZeroGrow, Unlimited, Conflicting, TouchingVirtual, BlossomNeedExpand, VertexShrinkStop, VertexShrinkStopPeer}
 use Rattle.answers.specs.Answer.{flag}

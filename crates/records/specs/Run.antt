@@ -2,7 +2,7 @@
 use Rattle.std.specs.Prelude.{ℕ, zero, suc, ◌+◌, ◌≡◌, Bool, true, ◌||◌, List, [], ◌∷◌, ◌++◌, ltb, eqb, length, if◌then◌else◌}
 use Rattle.graph.specs.State.{State}
 use Rattle.graph.specs.Open.{Edge, opened, open_refusal}
-use Rattle.answers.specs.declared.Answer.TheVariants.{Refused}
+use Rattle.answers.specs.Outcome.{Refused}
 use Rattle.calls.specs.Calls.{Call, answered, Response, respond}
 use Rattle.records.specs.Record.{Record, sizes, an_edge, a_virtual, ask, ill_formed, nothing, next, next_record}
 use Rattle.records.specs.Lines.{lines_for, joined_lines, fitting, over}

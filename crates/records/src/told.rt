@@ -2,12 +2,14 @@
 
 ghost use Rattle.std.specs.Prelude.{[], ◌∷◌, ◌≤◌, length};
 ghost use Rattle.answers.specs.declared.MaxUpdateLength.TheVariants.{NonZeroGrow};
+ghost use Rattle.answers.specs.Outcome.{accepted_as, told};
 ghost use Rattle.records.specs.Lines.{line, words_of_length, words_of};
 ghost use Rattle.records.specs.Write.{LinesPut};
 
 use crate::lines::Out;
 use crate::{lines, signed_text, text};
 use answers::{Answer, MaxUpdateLength};
+use refusal::Refusal;
 
 // The line of an answer that a node may grow by x.
 fn free(lines: &mut [u8], o: Out, k: usize, x: i64, e: bool) -> Out
@@ -50,10 +52,10 @@ fn length(lines: &mut [u8], o: Out, k: usize, m: MaxUpdateLength) -> Out
     }
 }
 
-// The line of an answer to record k goes behind the others.
-pub fn answer(lines: &mut [u8], o: Out, k: usize, a: Answer) -> Out
+// The line of an answer that is no refusal.
+fn accepted(lines: &mut [u8], o: Out, k: usize, a: Answer) -> Out
     requires { o.at ≤ length lines.old }
-    ensures { LinesPut lines.old o.at o.full lines.new result.at result.full (line k (words_of a) ∷ []) }
+    ensures { LinesPut lines.old o.at o.full lines.new result.at result.full (line k (words_of (accepted_as a)) ∷ []) }
 {
     match a {
         Answer::Length(m) => length(lines, o, k, m),
@@ -61,6 +63,16 @@ pub fn answer(lines: &mut [u8], o: Out, k: usize, a: Answer) -> Out
         Answer::Node(n) => lines::tell_one(lines, o, k, b"node", n),
         Answer::Prepared(n) => lines::tell_one(lines, o, k, b"prepared", n),
         Answer::Vertex(v) => lines::tell_one(lines, o, k, b"vertex", v),
-        Answer::Refused(n) => lines::tell_one(lines, o, k, b"refused", n),
+    }
+}
+
+// The line of an answer to record k goes behind the others.
+pub fn answer(lines: &mut [u8], o: Out, k: usize, a: Result<Answer, Refusal>) -> Out
+    requires { o.at ≤ length lines.old }
+    ensures { LinesPut lines.old o.at o.full lines.new result.at result.full (line k (words_of (told a)) ∷ []) }
+{
+    match a {
+        Ok(answer) => accepted(lines, o, k, answer),
+        Err(refusal) => lines::tell_one(lines, o, k, b"refused", refusal.number()),
     }
 }

@@ -6,6 +6,8 @@ ghost use Rattle.std.specs.Prelude.{◌≡◌, ◌&&◌, ◌<◌, eqb};
 ghost use Rattle.graph.specs.State.{node_count, class_of, dual_of};
 ghost use Rattle.graph.specs.Layout.{state_of};
 ghost use Rattle.graph.specs.Form.{Formed};
+ghost use Rattle.refusal.specs.Refusal.{refusal_number};
+ghost use Rattle.answers.specs.Outcome.{told};
 ghost use Rattle.calls.specs.Remove.{is_blossom, remove_refusal, open_prepared, remove_blossom};
 ghost use Rattle.calls.specs.inner.Reply.{Replies, Usable};
 ghost use Rattle.remove.specs.inner.Stops.{SidesIn};
@@ -13,6 +15,7 @@ ghost use Rattle.remove.specs.inner.Stops.{SidesIn};
 use answers::Answer;
 use calls::refuse;
 use graph::{node, rows};
+use refusal::Refusal;
 
 pub mod opened; // the opened state
 pub mod stops; // what stops a debug build once the blossom is prepared
@@ -27,43 +30,39 @@ fn is_bare(b: &[i64], n: usize) -> bool
     (v <= x) & (x != v + node::REMOVED) & (node::dual(b, n) == 0)
 }
 
-// What refuses the opening of node n: 0 or the number.
-pub fn remove_refusal(b: &[i64], n: usize) -> usize
+// What refuses the opening of node n.
+pub fn remove_refusal(b: &[i64], n: usize) -> Result<(), Refusal>
     requires { Formed b.now }
-    ensures { result ≡ remove_refusal (state_of b.now) n }
+    ensures { refusal_number result ≡ remove_refusal (state_of b.now) n }
 {
-    let k = refuse::node_refusal(b, n, false, false);
-    if k != 0 {
-        return k;
-    }
+    refuse::node_refusal(b, n, false, false)?;
     if is_bare(b, n) {
-        if refuse::store_short(b, n) { 9 } else { 0 }
-    } else {
-        15
+        if refuse::store_short(b, n) {
+            return Err(Refusal::StoreShort);
+        }
+        return Ok(());
     }
+    Err(Refusal::NotOpenable)
 }
 
 // The prepared node n is opened, or stays as it is where a debug build stops.
-fn open_prepared(b: &mut [i64], t: &[i64], n: usize) -> Answer
+fn open_prepared(b: &mut [i64], t: &[i64], n: usize) -> Result<Answer, Refusal>
     requires { Formed b.old × SidesIn (state_of b.old) × (n < node_count (state_of b.old)) }
-    ensures { Replies b.old b.new result (open_prepared (state_of b.old) n) }
+    ensures { Replies b.old b.new (told result) (open_prepared (state_of b.old) n) }
 {
     if stops::stops_opening(b, n) {
-        return Answer::Refused(15);
+        return Err(Refusal::NotOpenable);
     }
     opened::open(b, t, n);
-    Answer::Done
+    Ok(Answer::Done)
 }
 
 // Node n, a blossom of dual variable 0, is opened: its members are outermost again and hold their sides.
-pub fn remove_blossom(b: &mut [i64], t: &mut [i64], n: usize) -> Answer
+pub fn remove_blossom(b: &mut [i64], t: &mut [i64], n: usize) -> Result<Answer, Refusal>
     requires { Usable b.old t.old }
-    ensures { Replies b.old b.new result (remove_blossom (state_of b.old) n) × (t.new ≡ t.old) }
+    ensures { Replies b.old b.new (told result) (remove_blossom (state_of b.old) n) × (t.new ≡ t.old) }
 {
-    let k = remove_refusal(b, n);
-    if k != 0 {
-        return Answer::Refused(k);
-    }
+    remove_refusal(b, n)?;
     prepare::prepare_dual_node_growth(b, t, n, 0);
     open_prepared(b, t, n)
 }

@@ -3,11 +3,13 @@
 ghost use Rattle.std.specs.Prelude.{◌≡◌, ◌*◌, length};
 ghost use Rattle.graph.specs.Layout.{state_of};
 ghost use Rattle.calls.specs.inner.Reply.{Usable};
+ghost use Rattle.calls.specs.Group.{found_as, group_told};
 ghost use Rattle.calls.specs.Round.{answers_of};
 ghost use Rattle.round_answers.specs.inner.Asked.{Askable};
 ghost use Rattle.round.specs.inner.Group.{ListedGroup, AskedGroup, GroupTried};
 
 use calls::group::GroupMaxUpdateLength;
+use refusal::Refusal;
 use round_answers::node_answers;
 use round_list::listed;
 use round_trial::trial;
@@ -15,7 +17,7 @@ use round_trial::trial;
 // Conflicts and stops are listed.
 fn list_group(b: &[i64], list: &mut [usize]) -> GroupMaxUpdateLength
     requires { Askable b.now × (length list.old ≡ 5 * (state_of b.now).node_limit) }
-    ensures { ListedGroup (answers_of (state_of b.now) (state_of b.now).active) list.old list.new result }
+    ensures { ListedGroup (answers_of (state_of b.now) (state_of b.now).active) list.old list.new (found_as result) }
 {
     let k = listed::list_conflicts(b, list);
     let j = listed::list_stops(b, list, k);
@@ -25,7 +27,7 @@ fn list_group(b: &[i64], list: &mut [usize]) -> GroupMaxUpdateLength
 // What prepared active nodes answer together.
 fn ask(b: &[i64], list: &mut [usize]) -> GroupMaxUpdateLength
     requires { Askable b.now × (length list.old ≡ 5 * (state_of b.now).node_limit) }
-    ensures { AskedGroup (answers_of (state_of b.now) (state_of b.now).active) list.old list.new result }
+    ensures { AskedGroup (answers_of (state_of b.now) (state_of b.now).active) list.old list.new (found_as result) }
 {
     if node_answers::all_free(b) {
         return node_answers::free_group(b);
@@ -38,17 +40,11 @@ pub fn compute_maximum_update_length(
     b: &mut [i64],
     t: &mut [i64],
     list: &mut [usize],
-) -> GroupMaxUpdateLength
+) -> Result<GroupMaxUpdateLength, Refusal>
     requires { Usable b.old t.old × (length list.old ≡ 5 * (state_of b.old).node_limit) }
-    ensures { GroupTried b.old b.new list.old list.new result × (t.new ≡ t.old) }
+    ensures { GroupTried b.old b.new list.old list.new (group_told result) × (t.new ≡ t.old) }
 {
-    let r = trial::in_turn(b, t, 0);
-    if r != 0 {
-        return GroupMaxUpdateLength::Refused(r);
-    }
-    let s = node_answers::first_refusal(b);
-    if s != 0 {
-        return GroupMaxUpdateLength::Refused(s);
-    }
-    ask(b, list)
+    trial::in_turn(b, t, 0)?;
+    node_answers::first_refusal(b)?;
+    Ok(ask(b, list))
 }

@@ -4,49 +4,47 @@ ghost use Rattle.std.specs.Prelude.{◌≡◌, true, false, ◌<◌, length, get
 ghost use Rattle.graph.specs.Basic.{all, fold, member};
 ghost use Rattle.graph.specs.Layout.{state_of};
 ghost use Rattle.update_length.specs.Scan.{lesser};
-ghost use Rattle.answers.specs.declared.Answer.TheVariants.{Length};
+ghost use Rattle.refusal.specs.Refusal.{refusal_number};
+ghost use Rattle.answers.specs.Outcome.{Length, length_told};
 ghost use Rattle.calls.specs.Round.{answers_of, first_refusal, is_free, join_length, join_unlimited, join_free};
-ghost use Rattle.calls.specs.declared.group.GroupMaxUpdateLength.TheVariants.{Unlimited as group_unlimited};
+ghost use Rattle.calls.specs.Group.{Unlimited as group_unlimited, found_as};
 ghost use Rattle.round_answers.specs.inner.Asked.{Askable, answer_of};
 
-use answers::{Answer, MaxUpdateLength};
+use answers::MaxUpdateLength;
 use calls::advance;
 use calls::group::GroupMaxUpdateLength;
 use graph::{node, rows};
-use round_trial::trial;
+use refusal::Refusal;
 use update_length::scan;
 
 // The answer of an active node n.
-pub fn answer_of(b: &[i64], n: usize) -> Answer
+pub fn answer_of(b: &[i64], n: usize) -> Result<MaxUpdateLength, Refusal>
     requires { Askable b.now × (member n (state_of b.now).active ≡ true) }
-    ensures { result ≡ answer_of (state_of b.now) n }
+    ensures { length_told result ≡ answer_of (state_of b.now) n }
 {
     let d = advance::direction(node::grow_state(b, n));
     scan::scan(b, n, d)
 }
 
 // The answer of entry i of the active list.
-pub fn answer_at(b: &[i64], i: usize) -> Answer
+pub fn answer_at(b: &[i64], i: usize) -> Result<MaxUpdateLength, Refusal>
     requires { Askable b.now × (i < length (state_of b.now).active) }
-    ensures { result ≡ answer_of (state_of b.now) (get_or (state_of b.now).active i 0) }
+    ensures { length_told result ≡ answer_of (state_of b.now) (get_or (state_of b.now).active i 0) }
 {
     let n = rows::active_node(b, i);
     answer_of(b, n)
 }
 
-// The number of the first refusal, or 0.
-pub fn first_refusal(b: &[i64]) -> usize
+// The first refusal.
+pub fn first_refusal(b: &[i64]) -> Result<(), Refusal>
     requires { Askable b.now }
-    ensures { result ≡ first_refusal (answers_of (state_of b.now) (state_of b.now).active) }
+    ensures { refusal_number result ≡ first_refusal (answers_of (state_of b.now) (state_of b.now).active) }
 {
     let k = rows::active_count(b);
     for i in 0..k {
-        let r = trial::refusal_of(answer_at(b, i));
-        if r != 0 {
-            return r;
-        }
+        answer_at(b, i)?;
     }
-    0
+    Ok(())
 }
 
 // Whether a length answer leaves the node free.
@@ -65,16 +63,12 @@ fn is_free_length(m: MaxUpdateLength) -> bool
 }
 
 // Whether an answer does.
-fn is_free(a: Answer) -> bool
-    ensures { result ≡ is_free a }
+fn is_free(a: Result<MaxUpdateLength, Refusal>) -> bool
+    ensures { result ≡ is_free (length_told a) }
 {
     match a {
-        Answer::Length(m) => is_free_length(m),
-        Answer::Done => false,
-        Answer::Node(_) => false,
-        Answer::Prepared(_) => false,
-        Answer::Vertex(_) => false,
-        Answer::Refused(_) => false,
+        Ok(m) => is_free_length(m),
+        Err(_) => false,
     }
 }
 
@@ -101,7 +95,7 @@ fn lesser(x: i64, y: i64) -> i64
 
 // A length k and whether a boundary is empty, after the others.
 fn join_length(g: GroupMaxUpdateLength, k: i64, f: bool) -> GroupMaxUpdateLength
-    ensures { result ≡ join_length g k f }
+    ensures { found_as result ≡ join_length (found_as g) k f }
 {
     match g {
         GroupMaxUpdateLength::NonZeroGrow(l, e) => GroupMaxUpdateLength::NonZeroGrow(
@@ -110,25 +104,23 @@ fn join_length(g: GroupMaxUpdateLength, k: i64, f: bool) -> GroupMaxUpdateLength
         ),
         GroupMaxUpdateLength::Unlimited(e) => GroupMaxUpdateLength::NonZeroGrow(k, e | f),
         GroupMaxUpdateLength::Conflicts(c, s) => GroupMaxUpdateLength::Conflicts(c, s),
-        GroupMaxUpdateLength::Refused(r) => GroupMaxUpdateLength::Refused(r),
     }
 }
 
 // No limit, and whether a boundary is empty, after the others.
 fn join_unlimited(g: GroupMaxUpdateLength, f: bool) -> GroupMaxUpdateLength
-    ensures { result ≡ join_unlimited g f }
+    ensures { found_as result ≡ join_unlimited (found_as g) f }
 {
     match g {
         GroupMaxUpdateLength::NonZeroGrow(l, e) => GroupMaxUpdateLength::NonZeroGrow(l, e | f),
         GroupMaxUpdateLength::Unlimited(e) => GroupMaxUpdateLength::Unlimited(e | f),
         GroupMaxUpdateLength::Conflicts(c, s) => GroupMaxUpdateLength::Conflicts(c, s),
-        GroupMaxUpdateLength::Refused(r) => GroupMaxUpdateLength::Refused(r),
     }
 }
 
 // A free length answer after the others.
 fn join_free_length(g: GroupMaxUpdateLength, m: MaxUpdateLength) -> GroupMaxUpdateLength
-    ensures { result ≡ join_free g (Length m) }
+    ensures { found_as result ≡ join_free (found_as g) (Length m) }
 {
     match m {
         MaxUpdateLength::NonZeroGrow(k, f) => join_length(g, k, f),
@@ -142,23 +134,19 @@ fn join_free_length(g: GroupMaxUpdateLength, m: MaxUpdateLength) -> GroupMaxUpda
 }
 
 // A free answer after the others.
-fn join_free(g: GroupMaxUpdateLength, a: Answer) -> GroupMaxUpdateLength
-    ensures { result ≡ join_free g a }
+fn join_free(g: GroupMaxUpdateLength, a: Result<MaxUpdateLength, Refusal>) -> GroupMaxUpdateLength
+    ensures { found_as result ≡ join_free (found_as g) (length_told a) }
 {
     match a {
-        Answer::Length(m) => join_free_length(g, m),
-        Answer::Done => g,
-        Answer::Node(_) => g,
-        Answer::Prepared(_) => g,
-        Answer::Vertex(_) => g,
-        Answer::Refused(_) => g,
+        Ok(m) => join_free_length(g, m),
+        Err(_) => g,
     }
 }
 
 // What is left to all of them, where all are free.
 pub fn free_group(b: &[i64]) -> GroupMaxUpdateLength
     requires { Askable b.now }
-    ensures { result ≡ fold join_free (group_unlimited false) (answers_of (state_of b.now) (state_of b.now).active) }
+    ensures { found_as result ≡ fold join_free (group_unlimited false) (answers_of (state_of b.now) (state_of b.now).active) }
 {
     let k = rows::active_count(b);
     let mut g = GroupMaxUpdateLength::Unlimited(false);

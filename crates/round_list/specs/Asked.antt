@@ -1,6 +1,6 @@
 -- How conflicts and stops stand in a lent list: 5 words an entry.
 use Rattle.std.specs.Prelude.{ℕ, ◌+◌, ◌*◌, List, [], ◌∷◌, ◌++◌, length, take, drop}
-use Rattle.answers.specs.declared.Answer.{Answer}
+use Rattle.answers.specs.Outcome.{Answer}
 use Rattle.answers.specs.Numbers.{answer_numbers}
 
 -- an answer in 5 words: its numbers, and 0 behind them

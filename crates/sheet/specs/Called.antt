@@ -3,8 +3,7 @@ use Rattle.std.specs.Prelude.{ℕ, ◌*◌, ◌≡◌, Bool, ◌&&◌, not, List
 use Rattle.graph.specs.Basic.{all}
 use Rattle.graph.specs.Open.{Edge, sizes_ok}
 use Rattle.graph.specs.Opening.{edges_in, edges_from, virtuals_from, fits, opened_words}
-use Rattle.sheet.specs.declared.SheetOpened.{SheetOpened}
-use Rattle.sheet.specs.declared.SheetOpened.TheVariants.{Opened, Refused}
+use Rattle.sheet.specs.Outcome.{SheetOpened, Opened, Refused}
 use Rattle.sheet.specs.Sheet.{values_from, sheet_ok, vanished, weighed}
 
 -- two ends that differ, both vertices; the third word may be anything

@@ -3,7 +3,7 @@ use Rattle.std.specs.Prelude.{ℕ, ◌+◌, ◌*◌, ◌≤◌, ◌<◌, ◌≡�
 use Rattle.graph.specs.Basic.{all, only, member}
 use Rattle.graph.specs.Open.{Edge, open_refusal}
 use Rattle.graph.specs.Opening.{edge_at, edges_from, virtuals_from, OpenCalled}
-use Rattle.sheet.specs.declared.SheetOpened.TheVariants.{Opened, Refused}
+use Rattle.sheet.specs.Outcome.{Opened, Refused}
 use Rattle.sheet.specs.Weight.{scaled}
 use Rattle.sheet.specs.Nearest.{NearestUpward}
 use Rattle.sheet.specs.Sheet.{values_from, largest, sheet_ok, vanished, sheet_weight, weighed, with_weight}

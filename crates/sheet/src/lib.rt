@@ -5,10 +5,3 @@
 pub mod values; // the values of a sheet: in range, the largest, how many vanish
 pub mod weights; // their weights, and the edges with them
 pub mod open; // the refusals and the call
-
-// What an opening from a sheet answers.
-#[derive(Clone, Copy)]
-pub enum SheetOpened {
-    Opened(usize), // how many positive values became 0
-    Refused(usize), // the number of the refusal
-}

@@ -4,11 +4,14 @@ ghost use Rattle.std.specs.Prelude.{◌≡◌, true, ◌&&◌, ◌*◌, ◌<◌,
 ghost use Rattle.graph.specs.Basic.{all};
 ghost use Rattle.graph.specs.Open.{sizes_ok};
 ghost use Rattle.graph.specs.Opening.{edge_at, edges_in, edges_from, fits};
+ghost use Rattle.refusal.specs.Refusal.{refusal_number};
+ghost use Rattle.sheet.specs.Outcome.{opened_told};
 ghost use Rattle.sheet.specs.Called.{ends_ok, sheet_refusal, SheetCalled};
 
-use crate::{SheetOpened, values, weights};
+use crate::{values, weights};
 use graph::sizes;
 use open_graph::{given, open};
+use refusal::Refusal;
 
 // Whether edge i has two ends that differ, both vertices.
 fn end_ok(v: usize, edges: &[i64], i: usize) -> bool
@@ -43,7 +46,7 @@ fn lengths_fit(b: &[i64], t: &[i64], v: usize, e: usize, n: usize, l: usize, she
         & (sheet.len() == e)
 }
 
-// The number of the refusal, 0 where the opening is accepted.
+// What refuses the opening.
 fn refusal(
     b: &[i64],
     t: &[i64],
@@ -54,23 +57,26 @@ fn refusal(
     edges: &[i64],
     sheet: &[i64],
     virtuals: &[i64],
-) -> usize
-    ensures { result ≡ sheet_refusal v e n l edges.now sheet.now virtuals.now
+) -> Result<(), Refusal>
+    ensures { refusal_number result ≡ sheet_refusal v e n l edges.now sheet.now virtuals.now
         (fits b.now t.now v e n l) }
 {
     if !(sizes::sizes_ok(v, e, n, l) & (given::edges_in(edges) == e)) {
-        return 4;
+        return Err(Refusal::OutOfRange);
     }
     if !lengths_fit(b, t, v, e, n, l, sheet) {
-        return 1;
+        return Err(Refusal::WrongLength);
     }
     if !given::virtuals_ok(v, virtuals) {
-        return 3;
+        return Err(Refusal::NoSuch);
     }
     if !((edges.len() == 3 * e) & ends_ok(v, e, edges)) {
-        return 4;
+        return Err(Refusal::OutOfRange);
     }
-    if values::sheet_ok(sheet) { 0 } else { 17 }
+    if !values::sheet_ok(sheet) {
+        return Err(Refusal::NoValue);
+    }
+    Ok(())
 }
 
 // A graph is opened in the block b with the weights of the sheet, which are written into the edges: how many positive values became 0.
@@ -85,15 +91,12 @@ pub fn open_sheet(
     edges: &mut [i64],
     sheet: &[i64],
     virtuals: &[i64],
-) -> SheetOpened
+) -> Result<usize, Refusal>
     ensures { SheetCalled b.old t.now v e n l edges.old sheet.now virtuals.now
-        edges.new b.new result }
+        edges.new b.new (opened_told result) }
 {
-    let k = refusal(b, t, v, e, n, l, edges, sheet, virtuals);
-    if k != 0 {
-        return SheetOpened::Refused(k);
-    }
+    refusal(b, t, v, e, n, l, edges, sheet, virtuals)?;
     weights::weigh(edges, sheet);
-    open::open(b, t, v, e, n, l, edges, virtuals);
-    SheetOpened::Opened(weights::vanished(sheet))
+    open::open(b, t, v, e, n, l, edges, virtuals)?;
+    Ok(weights::vanished(sheet))
 }

@@ -6,8 +6,7 @@ use Rattle.table_words.specs.Handed.{distance_in, row_of}
 use Rattle.table_refuse.specs.Refuse.{distances_in_range, head_in_range}
 use Rattle.table_check.specs.Tests.{positive_in, all_marked}
 use Rattle.table_rows.specs.Row.{row_right, cover_marks, free_at}
-use Rattle.table_check.specs.declared.Verdict.{Verdict}
-use Rattle.table_check.specs.declared.Verdict.TheVariants.{Yes, No, Refused}
+use Rattle.table_check.specs.Outcome.{Verdict, Yes, No, Refused}
 
 -- what is known after some rows: whether every number so far is in range, whether every test so far passed, and which vertices a defect covers
 pub record Known : Type 0 where

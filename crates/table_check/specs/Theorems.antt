@@ -3,7 +3,7 @@ use Rattle.std.specs.Prelude.{ℕ, ◌≡◌, ◌≢◌, ◌↔◌, true, List, 
 use Rattle.table_words.specs.Handed.{handed}
 use Rattle.table_check.specs.Verdict.{Right, table_verdict}
 use Rattle.table_refuse.specs.Refuse.{sizes_right, lengths_right, table_refusal}
-use Rattle.table_check.specs.declared.Verdict.TheVariants.{Yes, No, Refused}
+use Rattle.table_check.specs.Outcome.{Yes, No, Refused}
 use Rattle.table_check.specs.Streamed.{after_rows, ended}
 use Rattle.table_check.specs.laws.Streamed.{streamed-verdict}
 use Rattle.table_check.specs.laws.Verdict.{verdict-yes, verdict-no, verdict-refused}

@@ -7,8 +7,7 @@ use Rattle.distance.specs.Nearest.{VirtualInReach, nearest_virtual}
 use Rattle.distance.specs.Table.{table_from_distances}
 use Rattle.table_words.specs.Handed.{Handed, handed}
 use Rattle.table_refuse.specs.Refuse.{table_refusal}
-use Rattle.table_check.specs.declared.Verdict.{Verdict}
-use Rattle.table_check.specs.declared.Verdict.TheVariants.{Yes, No, Refused}
+use Rattle.table_check.specs.Outcome.{Verdict, Yes, No, Refused}
 
 -- ---- the numbers of what was handed over
 

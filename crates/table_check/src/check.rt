@@ -3,10 +3,12 @@
 ghost use Rattle.std.specs.Prelude.{◌≡◌, ◌*◌, ◌≤◌, ◌<◌, length};
 ghost use Rattle.graph.specs.Basic.{all_below};
 ghost use Rattle.table_words.specs.Handed.{distance_in, row_of};
+ghost use Rattle.table_check.specs.Outcome.{verdict_told};
 ghost use Rattle.table_check.specs.Verdict.{table_verdict};
 ghost use Rattle.table_check.specs.Tests.{positive_in, rows_right, tested};
 
-use crate::{Verdict, reach};
+use crate::reach;
+use refusal::Refusal;
 use table_refuse::refuse;
 use table_rows::rows;
 use table_words::table::Table;
@@ -52,7 +54,7 @@ fn tested(table: &Table, distances: &[i64]) -> bool
     }
 }
 
-// Whether the table is right: yes, no, or the number of a refusal. Everything lent is only read.
+// Whether the table is right, or what refuses the call. Everything lent is only read.
 pub fn check_table(
     v: usize,
     e: usize,
@@ -62,8 +64,8 @@ pub fn check_table(
     duals: &[i64],
     growths: &[i64],
     distances: &[i64],
-) -> Verdict
-    ensures { result ≡ table_verdict v e edges.now virtuals.now defects.now duals.now
+) -> Result<bool, Refusal>
+    ensures { verdict_told result ≡ table_verdict v e edges.now virtuals.now defects.now duals.now
         growths.now distances.now }
 {
     let table = Table {
@@ -75,13 +77,6 @@ pub fn check_table(
         duals,
         growths,
     };
-    let k = refuse::refusal(&table, distances);
-    if k != 0 {
-        return Verdict::Refused(k);
-    }
-    if tested(&table, distances) {
-        Verdict::Yes
-    } else {
-        Verdict::No
-    }
+    refuse::refusal(&table, distances)?;
+    Ok(tested(&table, distances))
 }

@@ -6,11 +6,3 @@
 pub mod reach; // whether every vertex reaches a virtual one
 pub mod check; // the call
 pub mod stream; // the same row by row
-
-// The answer.
-#[derive(Clone, Copy)]
-pub enum Verdict {
-    Yes,
-    No,
-    Refused(usize), // the number of the refusal
-}

@@ -2,9 +2,11 @@
 
 ghost use Rattle.std.specs.Prelude.{◌≡◌, true, ◌≤◌};
 ghost use Rattle.table_refuse.specs.Refuse.{sizes_right};
+ghost use Rattle.table_check.specs.Outcome.{verdict_told};
 ghost use Rattle.table_check.specs.Streamed.{begun, advanced, ended};
 
-use crate::{Verdict, check, reach};
+use crate::{check, reach};
+use refusal::Refusal;
 use table_refuse::refuse;
 use table_rows::rows;
 use table_words::table::Table;
@@ -47,17 +49,12 @@ pub fn next(k: Known, m: &mut [usize], table: &Table, row: &[i64], i: usize) -> 
 }
 
 // The verdict in the end.
-pub fn end(k: Known, m: &[usize], e: usize, edges: &[i64], growths: &[i64]) -> Verdict
+pub fn end(k: Known, m: &[usize], e: usize, edges: &[i64], growths: &[i64]) -> Result<bool, Refusal>
     requires { e ≤ 4096 }
-    ensures { result ≡ ended e edges.now growths.now (record { in_range = k.in_range; passed = k.passed; marks = m.now }) }
+    ensures { verdict_told result ≡ ended e edges.now growths.now (record { in_range = k.in_range; passed = k.passed; marks = m.now }) }
 {
-    if k.in_range {
-        if k.passed & rows::free(e, edges, growths, m) {
-            Verdict::Yes
-        } else {
-            Verdict::No
-        }
-    } else {
-        Verdict::Refused(4)
+    if !k.in_range {
+        return Err(Refusal::OutOfRange);
     }
+    Ok(k.passed & rows::free(e, edges, growths, m))
 }

@@ -3,8 +3,8 @@
 use Rattle.std.specs.Prelude.{ℕ, ◌≤◌, ◌≡◌, List, ℤ, pos, length, get_or, if◌then◌else◌}
 use Rattle.graph.specs.Open.{Edge}
 use Rattle.c_api.specs.Words.{Tells}
-use Rattle.dual_module_node.specs.declared.NodeRead.{NodeRead}
-use Rattle.dual_module_node.specs.declared.NodeRead.TheVariants.{Defect, Refused}
+use Rattle.dual_module_node.specs.Outcome.{NodeRead}
+use Rattle.dual_module_node.specs.Outcome.{Defect, Refused}
 use Rattle.dual_module_node.specs.ReadNode.{ReadNodeCalled}
 use Rattle.c_api_node.specs.Told.{read_node_numbers, ReadNodeTold}
 use Rattle.table_theorem.specs.History.{entry_at}

@@ -4,7 +4,7 @@ use Rattle.std.proofs.Common.{subst, ⊎_elim, inl, inr}
 use Rattle.graph.specs.Open.{Edge}
 use Rattle.graph.specs.Layout.{state_of, sized, block_sound, memory_refusal, list_refusal}
 use Rattle.gap.specs.declared.Gap.TheVariants.{Over}
-use Rattle.dual_module_gap.specs.declared.GapAnswer.TheVariants.{Found}
+use Rattle.dual_module_gap.specs.Outcome.{Found}
 use Rattle.dual_module_gap.specs.GapRead.{GapRead}
 use Rattle.c_api_gap.specs.Told.{GapTold}
 use Rattle.reachable.specs.Reachable.{after}

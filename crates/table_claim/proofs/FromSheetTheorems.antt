@@ -4,7 +4,7 @@ use Rattle.std.specs.Prelude.{ℕ, ◌<◌, ◌≡◌, refl, ◌↔◌, true, Li
 use Rattle.graph.specs.Basic.{all}
 use Rattle.graph.specs.Layout.{state_of}
 use Rattle.graph.specs.Opening.{edges_from, virtuals_from}
-use Rattle.sheet.specs.declared.SheetOpened.TheVariants.{Opened}
+use Rattle.sheet.specs.Outcome.{Opened}
 use Rattle.sheet.specs.Sheet.{values_from}
 use Rattle.sheet.specs.Called.{SheetCalled}
 use Rattle.sheet.specs.Theorems.{sheet-opens, weights-positive-exactly}

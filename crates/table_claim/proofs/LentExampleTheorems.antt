@@ -7,7 +7,7 @@ use Rattle.graph.specs.Layout.{state_of}
 use Rattle.graph.specs.Opening.{flattened, zeros, edges_from, virtuals_from, opened_words, OpenCalled}
 use Rattle.graph.specs.laws.Members.{clash}
 use Rattle.memory_tests.specs.laws.Block.{block-formed}
-use Rattle.answers.specs.declared.Answer.TheVariants.{Done, Node, Refused}
+use Rattle.answers.specs.Outcome.{Done, Node, Refused}
 use Rattle.calls.specs.Calls.{InsertBlossom, InsertDefect, Grow}
 use Rattle.calls.specs.Examples.{edge}
 use Rattle.dual_module.specs.Called.{DefectCalled, GrowCalled}
@@ -18,7 +18,7 @@ use Rattle.opened_graph.specs.OpenedGraph.{with_weights}
 use Rattle.table_claim.specs.Opens.{everything_lent}
 use Rattle.table_claim.specs.Lent.{lent_blossom, open-refused, insert-defect, grow, none, next, read-node}
 use Rattle.table_claim.specs.Run.{fed, LentRun, run_sizes, run_start, run_calls, history_by, lent_history, WithoutBlossoms}
-use Rattle.dual_module_node.specs.declared.NodeRead.TheVariants.{Defect}
+use Rattle.dual_module_node.specs.Outcome.{Defect}
 use Rattle.dual_module_node.specs.ReadNode.{node_told, read_node, read_unless, ReadNodeCalled}
 use Rattle.c_api_node.specs.Told.{read_node_numbers, ReadNodeTold}
 use Rattle.table_theorem.specs.History.{entry_at}

@@ -2,7 +2,7 @@
 use Rattle.std.specs.Prelude.{ℕ, ◌≡◌, true, List, ℤ}
 use Rattle.graph.specs.State.{up}
 use Rattle.graph.specs.Open.{Edge}
-use Rattle.answers.specs.declared.Answer.{Answer}
+use Rattle.answers.specs.Outcome.{Answer}
 use Rattle.dual_module.specs.Called.{LengthCalled}
 use Rattle.table_theorem.specs.Runs.{Run}
 use Rattle.length_theorem.specs.Meaning.{growing_length}

@@ -5,8 +5,8 @@ use Rattle.std.proofs.Common.{sym, ◌∙◌}
 use Rattle.graph.specs.Opening.{zeros}
 use Rattle.graph.specs.laws.Members.{clash}
 use Rattle.memory_tests.specs.laws.Block.{block-formed}
-use Rattle.answers.specs.declared.Answer.TheVariants.{Done, Refused}
-use Rattle.calls.specs.declared.group.GroupMaxUpdateLength.TheVariants.{NonZeroGrow}
+use Rattle.answers.specs.Outcome.{Done, Refused}
+use Rattle.calls.specs.Group.{NonZeroGrow}
 use Rattle.calls.specs.Calls.{InsertDefect, RenewActiveList, GroupLength, Round}
 use Rattle.dual_module_read.specs.Read.{TableRead}
 use Rattle.dual_module_round.specs.Called.{RenewCalled, RoundCalled, GroupCalled}

@@ -1,7 +1,7 @@
 -- Graph P opened from a sheet: 0.0002, 0.0001 and 0.0004 become 500,000, 250,000 and 1,000,000. Then one that is refused.
 use Rattle.std.specs.Prelude.{ℕ, ◌≡◌, refl, List, [], ◌∷◌, map, ℤ, pos, negsuc}
 use Rattle.graph.specs.Opening.{zeros, edges_from, virtuals_from, opened_words}
-use Rattle.sheet.specs.declared.SheetOpened.TheVariants.{Opened, Refused}
+use Rattle.sheet.specs.Outcome.{Opened, Refused}
 use Rattle.sheet.specs.Called.{SheetCalled}
 use Rattle.sheet.specs.Opens as Sheet
 use Rattle.table_claim.specs.Opens.{everything_lent}

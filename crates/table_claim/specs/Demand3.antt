@@ -25,8 +25,8 @@
 use Rattle.std.specs.Prelude.{ℕ, ◌+◌, ◌*◌, ◌≤◌, ◌<◌, ◌≡◌, ◌↔◌, true, List, [], map, ℤ, pos, length, get_or, take}
 use Rattle.graph.specs.Open.{Edge}
 use Rattle.graph.specs.Layout.{state_of}
-use Rattle.answers.specs.declared.Answer.{Answer}
-use Rattle.answers.specs.declared.Answer.TheVariants.{Done}
+use Rattle.answers.specs.Outcome.{Answer}
+use Rattle.answers.specs.Outcome.{Done}
 use Rattle.dual_module_read.specs.Read.{TableRead}
 use Rattle.c_api.specs.Told.{TableTold}
 use Rattle.records.specs.Lines.{edge_lines, joined_lines}

@@ -2,18 +2,17 @@
 -- that was called, by its name in crate `dual_module` (specs/Called). What comes back beside the block may be anything that the promise allows.
 use Rattle.std.specs.Prelude.{ℕ, ◌≢◌, Bool, List, [], ◌∷◌, ℤ}
 use Rattle.graph.specs.Opening.{OpenCalled}
-use Rattle.answers.specs.declared.Answer.{Answer}
+use Rattle.answers.specs.Outcome.{Answer}
 use Rattle.dual_module.specs.Called.{DefectCalled, BlossomCalled, StateCalled, PrepareCalled, LengthCalled, GrowCalled, AdvanceCalled, ClearCalled}
 use Rattle.dual_module_read.specs.Read.{VertexRead, TableRead, ContactsRead, ContactsCounted}
-use Rattle.sheet.specs.declared.SheetOpened.{SheetOpened}
-use Rattle.sheet.specs.declared.SheetOpened.TheVariants.{Opened, Refused}
+use Rattle.sheet.specs.Outcome.{SheetOpened, Opened, Refused}
 use Rattle.sheet.specs.Called.{SheetCalled}
-use Rattle.calls.specs.declared.group.GroupMaxUpdateLength.{GroupMaxUpdateLength}
+use Rattle.calls.specs.Group.{GroupMaxUpdateLength}
 use Rattle.dual_module_round.specs.Called.{RenewCalled, PrepareAllCalled, RoundCalled, GroupCalled}
 use Rattle.dual_module_remove.specs.Called.{RemoveCalled}
-use Rattle.dual_module_node.specs.declared.NodeRead.{NodeRead}
+use Rattle.dual_module_node.specs.Outcome.{NodeRead}
 use Rattle.dual_module_node.specs.ReadNode.{ReadNodeCalled}
-use Rattle.dual_module_gap.specs.declared.GapAnswer.{GapAnswer}
+use Rattle.dual_module_gap.specs.Outcome.{GapAnswer}
 use Rattle.dual_module_gap.specs.GapRead.{GapRead}
 use Rattle.dual_module_modifier.specs.Called.{ModifierCalled}
 

@@ -1,7 +1,7 @@
 -- What the history of a list of calls says of a node that is read.
 use Rattle.std.specs.Prelude.{ℕ, ◌≤◌, ◌≡◌, List, ltb, length, get_or, if◌then◌else◌}
-use Rattle.dual_module_node.specs.declared.NodeRead.{NodeRead}
-use Rattle.dual_module_node.specs.declared.NodeRead.TheVariants.{Defect, Refused}
+use Rattle.dual_module_node.specs.Outcome.{NodeRead}
+use Rattle.dual_module_node.specs.Outcome.{Defect, Refused}
 use Rattle.table_theorem.specs.History.{History, entry_at, natural}
 
 -- the defect of entry n, with its vertex, grow state and dual variable, in no blossom; without an entry refused 3

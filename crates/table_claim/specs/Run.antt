@@ -5,8 +5,8 @@ use Rattle.graph.specs.Word.{to_nat}
 use Rattle.graph.specs.Layout.{block_length, scratch_length, state_of}
 use Rattle.graph.specs.Open.{Edge, opened, open_refusal}
 use Rattle.graph.specs.Opening.{edges_from, virtuals_from, OpenCalled}
-use Rattle.answers.specs.declared.Answer.{Answer}
-use Rattle.answers.specs.declared.Answer.TheVariants.{Done, Refused}
+use Rattle.answers.specs.Outcome.{Answer}
+use Rattle.answers.specs.Outcome.{Done, Refused}
 use Rattle.calls.specs.Reply.{over_front}
 use Rattle.calls.specs.Contacts.{contacts, contact_words}
 use Rattle.calls.specs.Insert.{insert_defect, insert_blossom}
@@ -15,18 +15,18 @@ use Rattle.reachable.specs.Reachable.{after}
 use Rattle.table_theorem.specs.Answers.{accepted, is_done}
 use Rattle.table_theorem.specs.History.{History, entry_at, with_node_state, with_added, advance_length, history_after, no_blossoms, with_round}
 use Rattle.table_claim.specs.Lent.{LentCall, lent_open, lent_defect, lent_blossom, lent_state, lent_prepare, lent_length, lent_grow, lent_table, lent_advance, lent_contacts, lent_vertex, lent_clear, Returned, opening, returns, returns_list, returns_count, Exchange, Steps, lent_sheet, opening_sheet, lent_renew, lent_prepare_all, lent_group, lent_round, lent_remove, returns_group, lent_node, returns_node, lent_gap, returns_gap, lent_weights}
-use Rattle.sheet.specs.declared.SheetOpened.TheVariants.{Opened, Refused as SheetRefused}
+use Rattle.sheet.specs.Outcome.{Opened, Refused as SheetRefused}
 use Rattle.sheet.specs.Sheet.{values_from}
 use Rattle.sheet.specs.Called.{sheet_refusal, sheet_answer, sheet_edges}
-use Rattle.calls.specs.declared.group.GroupMaxUpdateLength.TheVariants.{Refused as group_refused}
+use Rattle.calls.specs.Group.{Refused as group_refused}
 use Rattle.calls.specs.Remove.{remove_blossom}
 use Rattle.calls.specs.Erasures.{pairs_from, load_edge_modifier}
 use Rattle.opened_graph.specs.OpenedGraph.{with_weights}
 use Rattle.calls.specs.Round.{renew_active_list, prepare_all, group_length, round}
 use Rattle.round_list.specs.Asked.{listed_from}
-use Rattle.dual_module_node.specs.declared.NodeRead.TheVariants.{Refused as node_refused}
+use Rattle.dual_module_node.specs.Outcome.{Refused as node_refused}
 use Rattle.dual_module_node.specs.ReadNode.{read_node}
-use Rattle.dual_module_gap.specs.declared.GapAnswer.TheVariants.{Refused as gap_refused}
+use Rattle.dual_module_gap.specs.Outcome.{Refused as gap_refused}
 use Rattle.dual_module_gap.specs.GapRead.{gap_told}
 
 -- ---- lengths

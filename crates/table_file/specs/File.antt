@@ -1,7 +1,6 @@
 -- A table in a file (docs/TABLE-FILE.md): its sizes, how many words it has, and the text of its verdict.
 use Rattle.std.specs.Prelude.{ℕ, ◌+◌, ◌*◌, Bool, ◌&&◌, List, [], ◌∷◌, leb, ◌==◌, if◌then◌else◌}
-use Rattle.table_check.specs.declared.Verdict.{Verdict}
-use Rattle.table_check.specs.declared.Verdict.TheVariants.{Yes, No, Refused}
+use Rattle.table_check.specs.Outcome.{Verdict, Yes, No, Refused}
 
 -- V and E are within their limits; there are no more virtual vertices than vertices, and no more defects
 unfoldable pub file_sizes : (v e k n : ℕ) → Bool

@@ -3,9 +3,11 @@
 // A table in a file: its sizes, how many words it has, and the text of its verdict. docs/TABLE-FILE.md has the form of a file.
 
 ghost use Rattle.std.specs.Prelude.{◌≡◌, ◌≤◌};
+ghost use Rattle.refusal.specs.Refusal.{number};
+ghost use Rattle.table_check.specs.Outcome.{Refused, verdict_told};
 ghost use Rattle.table_file.specs.File.{file_sizes, file_words, verdict_text};
 
-use table_check::Verdict;
+use refusal::Refusal;
 
 // Whether the four sizes are in range.
 pub fn sizes_fit(v: usize, e: usize, k: usize, n: usize) -> bool
@@ -22,14 +24,23 @@ pub fn words_of(v: usize, e: usize, k: usize, n: usize) -> usize
     4 + 5 * e + k + 2 * n + n * v
 }
 
-// The text of a verdict.
-pub fn text(a: Verdict) -> &'static str
-    ensures { result.now ≡ verdict_text a }
+// The text of a refusal; a table is refused by no other than these two.
+fn refused_text(refusal: Refusal) -> &'static str
+    ensures { result.now ≡ verdict_text (Refused (number refusal)) }
 {
-    match a {
-        Verdict::Yes => "yes",
-        Verdict::No => "no",
-        Verdict::Refused(4) => "refused 4",
-        Verdict::Refused(_) => "refused 1",
+    match refusal {
+        Refusal::OutOfRange => "refused 4",
+        _ => "refused 1",
+    }
+}
+
+// The text of a verdict.
+pub fn text(verdict: Result<bool, Refusal>) -> &'static str
+    ensures { result.now ≡ verdict_text (verdict_told verdict) }
+{
+    match verdict {
+        Ok(true) => "yes",
+        Ok(false) => "no",
+        Err(refusal) => refused_text(refusal),
     }
 }

@@ -3,10 +3,12 @@
 ghost use Rattle.std.specs.Prelude.{◌≡◌, true, map, ◌≤◌, ◌<◌, leb, ltb};
 ghost use Rattle.graph.specs.Basic.{all, distinct};
 ghost use Rattle.graph.specs.Word.{to_nat};
+ghost use Rattle.refusal.specs.Refusal.{refusal_number};
 ghost use Rattle.table_refuse.specs.Refuse.{head_in_range, sizes_right, lengths_right, graph_in_range, defects_in_range, distances_in_range, numbers_right, table_refusal};
 
 use graph::{sizes, words as blockwords};
 use open_graph::given;
+use refusal::Refusal;
 use table_words::table::Table;
 use table_words::words;
 
@@ -98,19 +100,19 @@ fn numbers_right(table: &Table, distances: &[i64]) -> bool
     head_in_range(table) & distances_in_range(distances)
 }
 
-// The number of the refusal, 0 where there is none.
-pub fn refusal(table: &Table, distances: &[i64]) -> usize
-    ensures { result ≡ table_refusal table.now.v table.now.e table.now.edges.now table.now.virtuals.now table.now.defects.now table.now.duals.now
-        table.now.growths.now distances.now }
+// What refuses the call.
+pub fn refusal(table: &Table, distances: &[i64]) -> Result<(), Refusal>
+    ensures { refusal_number result ≡ table_refusal table.now.v table.now.e table.now.edges.now table.now.virtuals.now table.now.defects.now
+        table.now.duals.now table.now.growths.now distances.now }
 {
     if !sizes_right(table.v, table.e, table.edges) {
-        return 4;
+        return Err(Refusal::OutOfRange);
     }
     if !lengths_right(table, distances) {
-        return 1;
+        return Err(Refusal::WrongLength);
     }
     if !numbers_right(table, distances) {
-        return 4;
+        return Err(Refusal::OutOfRange);
     }
-    0
+    Ok(())
 }

@@ -1,6 +1,6 @@
 -- What the history reads of an answer.
 use Rattle.std.specs.Prelude.{Bool, ℤ, pos}
-use Rattle.answers.specs.declared.Answer.{Answer}
+use Rattle.answers.specs.Outcome.{Answer}
 use Rattle.answers.specs.Answer.{free_or}
 -- the call is not refused; it is done
 unfoldable pub use Rattle.answers.specs.Answer.{accepted, is_done}

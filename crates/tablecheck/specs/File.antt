@@ -2,7 +2,7 @@
 use Rattle.std.specs.Prelude.{ℕ, ◌*◌, ◌≤◌, ◌≡◌, List, ℤ, length}
 use Rattle.table_check.specs.Streamed.{after_rows}
 use Rattle.table_check.specs.Verdict.{table_verdict}
-use Rattle.table_check.specs.declared.Verdict.{Verdict}
+use Rattle.table_check.specs.Outcome.{Verdict}
 
 -- a is the verdict on these lists with some rows: those that were read
 pub record RowsRead (v e : ℕ) (edges virtuals defects duals growths : List ℤ) (a : Verdict) : Type 0 where

@@ -4,14 +4,16 @@
 // are read one at a time. docs/TABLE-FILE.md has the form of a file.
 
 ghost use Rattle.std.specs.Prelude.{◌≡◌, true, ◌*◌, ◌≤◌, ◌<◌, length, replicate, IfOk, IfSome, OnErr};
+ghost use Rattle.table_check.specs.Outcome.{verdict_told};
 ghost use Rattle.table_refuse.specs.Refuse.{sizes_right};
 ghost use Rattle.tablecheck.specs.File.{RowsRead, RowsBegun};
 ghost use Rattle.graph.specs.Word.{word_limit};
 
 use graph::words;
+use refusal::Refusal;
 use std::io;
 use std::io::Read;
-use table_check::{Verdict, stream};
+use table_check::stream;
 use table_refuse::refuse;
 use table_words::table::Table;
 
@@ -71,6 +73,10 @@ impl<R: Read> WordReader<R> {
 }
 
 // ---- one table
+
+// Whether it is right, or what refuses it.
+type Verdict = Result<bool, Refusal>;
+
 // None stands for a table inside which the input ends.
 
 // The rows, one at a time, and the verdict behind the last. Where one can't be read, the marks are those of the rows before it.
@@ -83,8 +89,8 @@ fn rows<R: Read>(
     requires { (table.now.v ≤ 1024) × (table.now.e ≤ 4096) × (length row.old ≡ table.now.v) × (length table.now.defects.now ≤ 1024)
         × (length table.now.duals.now ≡ length table.now.defects.now) × (length table.now.growths.now ≡ 2 * table.now.e)
         × (sizes_right table.now.v table.now.e table.now.edges.now ≡ true) × (m.old ≡ replicate 1024 0) }
-    ensures told { IfOk result (λ x. IfSome x (RowsRead table.now.v table.now.e table.now.edges.now table.now.virtuals.now
-        table.now.defects.now table.now.duals.now table.now.growths.now)) }
+    ensures told { IfOk result (λ x. IfSome x (λ verdict. RowsRead table.now.v table.now.e table.now.edges.now table.now.virtuals.now
+        table.now.defects.now table.now.duals.now table.now.growths.now (verdict_told verdict))) }
     ensures lost { OnErr result (RowsBegun table.now.v table.now.e table.now.edges.now table.now.virtuals.now table.now.defects.now
         table.now.duals.now table.now.growths.now m.new) }
 {
@@ -108,7 +114,7 @@ fn checked<R: Read>(
         × (length table.now.duals.now ≡ length table.now.defects.now) × (length table.now.growths.now ≡ 2 * table.now.e) }
 {
     if !refuse::sizes_right(table.v, table.e, table.edges) {
-        return Ok(Some(Verdict::Refused(4)));
+        return Ok(Some(Err(Refusal::OutOfRange)));
     }
     let mut m = [0usize; 1024];
     rows(input, &mut m, table, row)
@@ -150,14 +156,14 @@ fn sized<R: Read>(
     checked(input, &table, &mut row[0..v])
 }
 
-// A table that is refused by a number: its other words are passed over.
+// A table that is refused: its other words are passed over.
 fn refused<R: Read>(
     input: &mut WordReader<R>,
     left: usize,
-    number: usize,
+    refusal: Refusal,
 ) -> io::Result<Option<Verdict>> {
     if input.pass_over(left)? {
-        Ok(Some(Verdict::Refused(number)))
+        Ok(Some(Err(refusal)))
     } else {
         Ok(None)
     }
@@ -175,10 +181,10 @@ fn counted<R: Read>(
     requires { left < word_limit }
 {
     if !table_file::sizes_fit(v, e, k, n) {
-        return refused(input, left, 4);
+        return refused(input, left, Refusal::OutOfRange);
     }
     if 4 + left != table_file::words_of(v, e, k, n) {
-        return refused(input, left, 1);
+        return refused(input, left, Refusal::WrongLength);
     }
     sized(input, v, e, k, n)
 }
@@ -188,7 +194,7 @@ fn table<R: Read>(input: &mut WordReader<R>, count: usize) -> io::Result<Option<
     requires { count < word_limit }
 {
     if count < 4 {
-        return refused(input, count, 1);
+        return refused(input, count, Refusal::WrongLength);
     }
     let mut head = [0i64; 4];
     if !input.read_some(&mut head)? {
@@ -238,7 +244,7 @@ fn tables<R: Read>(rt: &impl Print, input: &mut WordReader<R>) -> io::Result<()>
     for k in 1..9223372036854775807 {
         match next(input)? {
             Step::Table(verdict) => tell(rt, k, verdict)?,
-            Step::Cut => return tell(rt, k, Verdict::Refused(1)),
+            Step::Cut => return tell(rt, k, Err(Refusal::WrongLength)),
             Step::End => return Ok(()),
         }
     }

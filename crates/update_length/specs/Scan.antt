@@ -3,9 +3,9 @@ use Rattle.std.specs.Prelude.{ℕ, ◌+◌, ◌-◌, ◌/◌, min, Bool, true, f
 use Rattle.std.proofs.Math.IntN.{sub_ℕ}
 use Rattle.graph.specs.Basic.{fold}
 use Rattle.graph.specs.State.{State, Overgrown, NodeClass, defect_vertex, blossom, removed, opposite, end_at, growth_at, holder_at, grandson_at, sides_at, passable, class_of, grow_state_of, dual_of, boundary_of, overgrown_of, grown_over, weight_over, growing, shrinking, up}
-use Rattle.answers.specs.declared.Answer.{Answer}
+use Rattle.answers.specs.Outcome.{Answer}
 use Rattle.answers.specs.declared.MaxUpdateLength.{MaxUpdateLength}
-use Rattle.answers.specs.declared.Answer.TheVariants.{Length, Refused}
+use Rattle.answers.specs.Outcome.{Length, Refused}
 use Rattle.answers.specs.declared.MaxUpdateLength.TheVariants.{NonZeroGrow, Unlimited, Conflicting, TouchingVirtual, BlossomNeedExpand, VertexShrinkStop, VertexShrinkStopPeer}
 
 -- ---- lengths: signed, because on a state that no call list reaches an edge may have grown past its weight

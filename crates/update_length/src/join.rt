@@ -1,19 +1,21 @@
 // What a scan of a boundary knows, side after side.
 
 ghost use Rattle.std.specs.Prelude.{◌≡◌, ◌<◌};
+ghost use Rattle.answers.specs.Outcome.{length_told};
 ghost use Rattle.update_length.specs.Scan.{with_look, scan_answer};
 ghost use Rattle.update_length.specs.inner.Length.{length_end, look_of, room_in, scan_of, within_in, is_over, Knows};
 
 use crate::lengths;
 use crate::look::Look;
-use answers::{Answer, MaxUpdateLength};
+use answers::MaxUpdateLength;
+use refusal::Refusal;
 
 // What a scan knows so far.
 #[derive(Clone, Copy)]
 pub enum Scan {
     OpenEnded, // no limit
     Within(usize), // the smallest length
-    Over(Answer), // the scan has met its answer
+    Over(Result<MaxUpdateLength, Refusal>), // the scan has met its answer
 }
 
 // What is known after one more side.
@@ -48,13 +50,13 @@ pub fn is_over(r: Scan) -> bool
 }
 
 // The answer by what the scan of a boundary knows; whether the boundary is empty.
-pub fn scan_answer(empty: bool, r: Scan) -> Answer
+pub fn scan_answer(empty: bool, r: Scan) -> Result<MaxUpdateLength, Refusal>
     requires { within_in r < length_end }
-    ensures { result ≡ scan_answer empty (scan_of r) }
+    ensures { length_told result ≡ scan_answer empty (scan_of r) }
 {
     match r {
-        Scan::OpenEnded => Answer::Length(MaxUpdateLength::Unlimited(empty)),
-        Scan::Within(x) => Answer::Length(MaxUpdateLength::NonZeroGrow(lengths::signed(x), empty)),
+        Scan::OpenEnded => Ok(MaxUpdateLength::Unlimited(empty)),
+        Scan::Within(x) => Ok(MaxUpdateLength::NonZeroGrow(lengths::signed(x), empty)),
         Scan::Over(a) => a,
     }
 }

@@ -10,17 +10,18 @@ ghost use Rattle.graph.specs.inner.Readable.{Readable};
 
 use crate::lengths;
 use crate::lengths::ZERO;
-use answers::{Answer, MaxUpdateLength};
+use answers::MaxUpdateLength;
 use gap::Gap;
 use graph::dual_node::UP;
 use graph::{edge, node, side, vertex};
+use refusal::Refusal;
 
 // What one side says.
 #[derive(Clone, Copy)]
 pub enum Look {
     Skip,
     Room(usize), // a length that is left
-    Meets(Answer),
+    Meets(Result<MaxUpdateLength, Refusal>),
 }
 
 // A stored node as its number.
@@ -63,7 +64,7 @@ fn look_peer(b: &[i64], n: usize, s: usize, p: usize, l: usize) -> Look
         let o = side::opposite(s);
         let g = less(side::grandson(b, o));
         let h = less(side::grandson(b, s));
-        Look::Meets(Answer::Length(MaxUpdateLength::Conflicting(p, g, n, h)))
+        Look::Meets(Ok(MaxUpdateLength::Conflicting(p, g, n, h)))
     } else {
         Look::Room(l)
     }
@@ -77,10 +78,10 @@ fn look_free(b: &[i64], n: usize, s: usize, l: usize) -> Look
     if l == ZERO {
         let v = side::end(b, side::opposite(s));
         if vertex::virtual_flag(b, v) == 0 {
-            Look::Meets(Answer::Refused(13))
+            Look::Meets(Err(Refusal::Unprepared))
         } else {
             let h = less(side::grandson(b, s));
-            Look::Meets(Answer::Length(MaxUpdateLength::TouchingVirtual(n, h, v)))
+            Look::Meets(Ok(MaxUpdateLength::TouchingVirtual(n, h, v)))
         }
     } else {
         Look::Room(l)
@@ -130,7 +131,7 @@ fn look_shrink(b: &[i64], s: usize) -> Look
 {
     let g = side::growth(b, s);
     if g == 0 {
-        Look::Meets(Answer::Refused(13))
+        Look::Meets(Err(Refusal::Unprepared))
     } else {
         Look::Room(ZERO + g)
     }

@@ -7,6 +7,7 @@ ghost use Rattle.graph.specs.Word.{to_nat};
 ghost use Rattle.graph.specs.Layout.{state_of};
 ghost use Rattle.graph.specs.Form.{Formed};
 ghost use Rattle.graph.specs.inner.Form.{sides_ok};
+ghost use Rattle.answers.specs.Outcome.{length_told};
 ghost use Rattle.update_length.specs.Scan.{scan_step, scan_boundary, shrink_limit, scan};
 ghost use Rattle.update_length.specs.inner.Length.{length_end, scan_of, within_in, Knows};
 ghost use Rattle.graph.specs.inner.Readable.{Readable};
@@ -14,9 +15,10 @@ ghost use Rattle.graph.specs.inner.Readable.{Readable};
 use crate::join::Scan;
 use crate::lengths::ZERO;
 use crate::{join, lengths, look, stop};
-use answers::Answer;
+use answers::MaxUpdateLength;
 use graph::dual_node::UP;
 use graph::{lists, node, words};
+use refusal::Refusal;
 
 // The scan of a boundary, handed on as its stretch of the list store.
 fn scan_sides(b: &[i64], boundary: &[i64], n: usize, d: usize, start: Scan) -> Scan
@@ -38,10 +40,10 @@ fn scan_sides(b: &[i64], boundary: &[i64], n: usize, d: usize, start: Scan) -> S
 }
 
 // The scan of the boundary of node n in direction d, from what is known before.
-fn scan_boundary(b: &[i64], n: usize, d: usize, start: Scan) -> Answer
+fn scan_boundary(b: &[i64], n: usize, d: usize, start: Scan) -> Result<MaxUpdateLength, Refusal>
     requires { Formed b.now × Readable (state_of b.now) × (n < node_count (state_of b.now))
         × (sides_ok (state_of b.now) n ≡ true) × (within_in start < length_end) }
-    ensures { result ≡ scan_boundary (state_of b.now) n d (scan_of start) }
+    ensures { length_told result ≡ scan_boundary (state_of b.now) n d (scan_of start) }
 {
     let boundary = lists::boundary(b, n);
     let r = scan_sides(b, boundary, n, d, start);
@@ -63,15 +65,15 @@ fn shrink_limit(b: &[i64], n: usize) -> usize
 }
 
 // The length answer of node n in direction d.
-pub fn scan(b: &[i64], n: usize, d: usize) -> Answer
+pub fn scan(b: &[i64], n: usize, d: usize) -> Result<MaxUpdateLength, Refusal>
     requires { Formed b.now × Readable (state_of b.now) × (n < node_count (state_of b.now)) × (sides_ok (state_of b.now) n ≡ true) }
-    ensures { result ≡ scan (state_of b.now) n d }
+    ensures { length_told result ≡ scan (state_of b.now) n d }
 {
     if d == UP {
         return scan_boundary(b, n, d, Scan::OpenEnded);
     }
     if node::dual(b, n) == 0 {
-        return Answer::Length(stop::stop_answer(b, n));
+        return Ok(stop::stop_answer(b, n));
     }
     let y = shrink_limit(b, n);
     scan_boundary(b, n, d, Scan::Within(ZERO + y))

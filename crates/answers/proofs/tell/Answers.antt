@@ -1,28 +1,11 @@
 use mathlib.Core.Path.{sym, ap}
+use Rattle.answers.specs.Outcome.{told}
 use Rattle.answers.specs.Numbers.{answer_numbers}
 use Rattle.answers.specs.laws.Numbers.{tells_as}
 use Rattle.answers.proofs.tell.Goals as goal
 
-pub returns-in-Length : goal.returns-in-Length
-unfolding answer_numbers
-returns-in-Length c = tells_as c.tell_length.ensures (ap answer_numbers (sym c.in-Length.is))
+pub returns-in-Ok : goal.returns-in-Ok
+returns-in-Ok c = tells_as c.tell_accepted.ensures (ap (λ a. answer_numbers (told a)) (sym c.in-Ok.is))
 
-pub returns-in-Done : goal.returns-in-Done
-unfolding answer_numbers
-returns-in-Done c = tells_as c.front.ensures (ap answer_numbers (sym c.in-Done.is))
-
-pub returns-in-Node : goal.returns-in-Node
-unfolding answer_numbers
-returns-in-Node c = tells_as c.front-in-Node.ensures (ap answer_numbers (sym c.in-Node.is))
-
-pub returns-in-Prepared : goal.returns-in-Prepared
-unfolding answer_numbers
-returns-in-Prepared c = tells_as c.front-in-Prepared.ensures (ap answer_numbers (sym c.in-Prepared.is))
-
-pub returns-in-Vertex : goal.returns-in-Vertex
-unfolding answer_numbers
-returns-in-Vertex c = tells_as c.front-in-Vertex.ensures (ap answer_numbers (sym c.in-Vertex.is))
-
-pub returns-in-Refused : goal.returns-in-Refused
-unfolding answer_numbers
-returns-in-Refused c = tells_as c.front-in-Refused.ensures (ap answer_numbers (sym c.in-Refused.is))
+pub returns-in-Err : goal.returns-in-Err
+returns-in-Err c = tells_as c.tell_refusal.ensures (ap (λ a. answer_numbers (told a)) (sym c.in-Err.is))

@@ -1,8 +1,8 @@
 -- Answers as numbers: how they are written over the front of a list, and how many they are.
 use Rattle.std.specs.Prelude.{ℕ, ◌≤◌, ◌≡◌, refl, ◌≢◌, List, ◌++◌, length, get_or}
 use Rattle.std.proofs.Common.{arith}
-use Rattle.answers.specs.declared.Answer.{Answer}
-use Rattle.answers.specs.declared.Answer.TheVariants.{Length, Done, Node, Prepared, Vertex, Refused}
+use Rattle.answers.specs.Outcome.{Answer}
+use Rattle.answers.specs.Outcome.{Length, Done, Node, Prepared, Vertex, Refused}
 use Rattle.answers.specs.declared.MaxUpdateLength.{MaxUpdateLength}
 use Rattle.answers.specs.declared.MaxUpdateLength.TheVariants.{NonZeroGrow, Unlimited, Conflicting, TouchingVirtual, BlossomNeedExpand, VertexShrinkStop, VertexShrinkStopPeer}
 use Rattle.answers.specs.Numbers.{length_numbers, answer_numbers, Tells}

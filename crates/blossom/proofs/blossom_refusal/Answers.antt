@@ -93,8 +93,8 @@ returns-then-store_short_circle c =
     blossom-refusal-9 (state_of a.b.now) a.x (map to_nat a.circle.now) (listed c.before.before.before.before.before.before.before.before.before) (outer c.before.before.before.before.before.before.before)
     (round c.before.before.before.before.before) (fits c.before.before) (sym c.store_short_circle.ensures ∙ c.if-store_short_circle.true)
 
-pub returns-else-store_short_circle : goal.returns-else-store_short_circle
-returns-else-store_short_circle c =
+pub returns : goal.returns
+returns c =
     let a = c.args in
     blossom-refusal-0 (state_of a.b.now) a.x (map to_nat a.circle.now) (listed c.before.before.before.before.before.before.before.before.before) (outer c.before.before.before.before.before.before.before)
     (round c.before.before.before.before.before) (fits c.before.before) (sym c.store_short_circle.ensures ∙ c.if-store_short_circle.false)

@@ -26,7 +26,7 @@ use Rattle.pass.specs.inner.Ready.{Ready, Shrinkable, Preparable, AfterPreparati
 use Rattle.pass.proofs.laws.Scratch.{scratch-same, hold-first, first-numbers, wipe-first}
 use Rattle.pass.proofs.laws.Passes.{Passed}
 use Rattle.pass.proofs.laws.Prepare.{prepare-passed}
-use Rattle.answers.specs.declared.Answer.TheVariants.{Node, Refused}
+use Rattle.answers.specs.Outcome.{Node, Refused}
 use Rattle.answers.specs.Answer.{says}
 use Rattle.calls.specs.Refuse.{entries_unless, entries_but, unless}
 use Rattle.calls.specs.Insert.{Joining, blossom_refusal, prepare_step, join_side, member_stays, join_step, join_circle, blossom_put, insert_blossom}

@@ -7,4 +7,4 @@ pub returns-then-answer-lt5 : goal.returns-then-answer-lt5
 returns-then-answer-lt5 c = told-short c.if-answer-lt5.true c.refuse_short.ensures refl
 
 pub returns : goal.returns
-returns c = told-all (search rules) _ c.open-k.ensures c.tell_opened.ensures
+returns c = told-all (search rules) _ c.open-opened.ensures c.tell_opened.ensures

@@ -3,7 +3,7 @@ use Rattle.std.specs.Prelude.{ℕ, ◌≡◌, Bool, true, List, ℤ, length}
 use Rattle.std.proofs.Common.{arith, sym, ◌∙◌}
 use Rattle.std.proofs.Math.Path.{refl}
 use Rattle.graph.specs.Layout.{state_of, memory_refusal}
-use Rattle.answers.specs.declared.Answer.TheVariants.{Refused}
+use Rattle.answers.specs.Outcome.{Refused}
 use Rattle.answers.specs.Numbers.{answer_numbers, Tells}
 use Rattle.c_api.specs.laws.Words.{told-all}
 use Rattle.dual_module.specs.inner.Known.{KnownZero}

@@ -14,7 +14,7 @@ use Rattle.graph.specs.laws.Form.{formed-shape}
 use Rattle.graph.specs.laws.State.{if-both}
 use Rattle.memory_tests.specs.laws.Memory.{Lendable, memory-accepted}
 use Rattle.pass.specs.Scratch.{zero_scratch}
-use Rattle.answers.specs.declared.Answer.{Answer}
+use Rattle.answers.specs.Outcome.{Answer}
 use Rattle.answers.specs.Answer.{Reply, says}
 use Rattle.calls.specs.Refuse.{unless}
 use Rattle.calls.specs.Calls.{Call, InsertDefect, InsertBlossom, SetGrowState, Prepare, UpdateLength, Grow, Advance, Clear, response, respond}

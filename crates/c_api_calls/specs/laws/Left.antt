@@ -13,7 +13,7 @@ use Rattle.graph.specs.laws.Members.{by-test, clash, or_cases, or-neither-left, 
 use Rattle.memory_tests.specs.laws.Block.{block-state-sound}
 use Rattle.memory_tests.specs.laws.Memory.{Lendable, memory-accepted, fits-sized}
 use Rattle.memory_tests.specs.laws.Whole.{formed-sized, memory-by-length}
-use Rattle.answers.specs.declared.Answer.TheVariants.{Refused}
+use Rattle.answers.specs.Outcome.{Refused}
 use Rattle.answers.specs.Numbers.{answer_numbers, Tells}
 use Rattle.table_theorem.proofs.laws.Kept.{Wiring, wiring_of, calls-wired}
 use Rattle.soundness_theorem.specs.KeptSound.{KeptSound}

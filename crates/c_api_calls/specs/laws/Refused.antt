@@ -2,12 +2,12 @@
 use Rattle.std.specs.Prelude.{ℕ, ◌≤◌, ◌≡◌, refl, ◌≢◌, List, ℤ, length}
 use borrow.Author.Tests.{ne_eqb}
 use Rattle.graph.specs.Layout.{state_of, memory_refusal}
-use Rattle.answers.specs.declared.Answer.TheVariants.{Refused}
+use Rattle.answers.specs.Outcome.{Refused}
 use Rattle.answers.specs.Numbers.{answer_numbers, Tells}
 use Rattle.dual_module.proofs.laws.Called.{lent-refused, lent-refused-scratch, refusal-answered}
-use Rattle.dual_module_node.specs.declared.NodeRead.TheVariants.{Refused as NodeRefused}
+use Rattle.dual_module_node.specs.Outcome.{Refused as NodeRefused}
 use Rattle.dual_module_node.specs.laws.ReadNode.{memory-refused}
-use Rattle.dual_module_gap.specs.declared.GapAnswer.TheVariants.{Refused as GapRefused}
+use Rattle.dual_module_gap.specs.Outcome.{Refused as GapRefused}
 use Rattle.c_api.specs.laws.Words.{told-all}
 use Rattle.c_api_node.specs.Told.{read_node_numbers}
 use Rattle.c_api_gap.specs.Told.{gap_numbers}

@@ -8,7 +8,7 @@ use Rattle.graph.specs.Basic.{below}
 use Rattle.graph.specs.laws.State.{if-both}
 use Rattle.graph.specs.laws.Members.{clash, length-below}
 use Rattle.graph.specs.laws.Opened.{get_d-below}
-use Rattle.c_api_calls.specs.declared.CallsAnswer.TheVariants.{Made, Refused}
+use Rattle.c_api_calls.specs.Outcome.{Made, Refused}
 use Rattle.c_api_calls.specs.ListCall.{ListCall, list_other, list_call_of, list_call_at, list_calls}
 use Rattle.c_api_calls.specs.Told.{ListedSteps, no_call, call_count, CallsMade}
 use Rattle.c_api_calls.specs.Tests.{tests_from, tests_in}

@@ -6,4 +6,4 @@ pub returns-then-answer-lt5 : goal.returns-then-answer-lt5
 returns-then-answer-lt5 c = told-short c.if-answer-lt5.true c.refuse_short.ensures tt
 
 pub returns : goal.returns
-returns c = told-all (search rules) _ c.check_table-a.ensures c.tell_verdict.ensures
+returns c = told-all (search rules) _ c.check_table-verdict.ensures c.tell_verdict.ensures

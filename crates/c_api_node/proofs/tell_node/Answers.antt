@@ -1,18 +1,12 @@
+use Rattle.dual_module_node.specs.Outcome.{node_answer}
 use Rattle.c_api_node.specs.Told.{read_node_numbers}
-use Rattle.c_api.specs.Words.{answer_numbers}
 use Rattle.c_api.specs.laws.Words.{tells_as}
 use mathlib.Core.Path.{sym, ap}
-use borrow.Author.Rules.{rules}
 use Rattle.c_api_node.proofs.tell_node.Goals as goal
 
-pub returns-in-Defect : goal.returns-in-Defect
-unfolding read_node_numbers
-returns-in-Defect c = tells_as c.front.ensures (ap read_node_numbers (sym c.in-Defect.is))
+pub returns-in-Ok : goal.returns-in-Ok
+returns-in-Ok c = tells_as c.tell_read.ensures (ap (λ a. read_node_numbers (node_answer a)) (sym c.in-Ok.is))
 
-pub returns-in-Blossom : goal.returns-in-Blossom
+pub returns-in-Err : goal.returns-in-Err
 unfolding read_node_numbers
-returns-in-Blossom c = tells_as c.front-in-Blossom.ensures (ap read_node_numbers (sym c.in-Blossom.is))
-
-pub returns-in-Refused : goal.returns-in-Refused
-unfolding read_node_numbers answer_numbers
-returns-in-Refused c = tells_as c.front-in-Refused.ensures (ap read_node_numbers (sym c.in-Refused.is))
+returns-in-Err c = tells_as c.tell_refusal.ensures (ap (λ a. read_node_numbers (node_answer a)) (sym c.in-Err.is))

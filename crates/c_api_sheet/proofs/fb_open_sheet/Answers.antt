@@ -8,5 +8,5 @@ returns-then-answer-lt5 c = told-short c.if-answer-lt5.true c.refuse_short.ensur
 
 pub returns : goal.returns
 returns c =
-    told-all (search rules) _ c.open_sheet-a.ensures
+    told-all (search rules) _ c.open_sheet-opened.ensures
     c.tell_sheet.ensures

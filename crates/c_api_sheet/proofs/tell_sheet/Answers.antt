@@ -1,16 +1,17 @@
-use mathlib.Core.Path.{sym, ap}
+use mathlib.Core.Path.{sym, ap, ◌∙◌}
+use mathlib.Core.List.{[], ◌∷◌}
 use Rattle.c_api.specs.laws.Words.{tells_as}
 use Rattle.c_api.specs.Words.{answer_numbers}
+use Rattle.sheet.specs.Outcome.{opened_told}
 use Rattle.c_api_sheet.specs.Told.{sheet_numbers}
-use borrow.Author.Rules.{rules}
 use Rattle.c_api_sheet.proofs.tell_sheet.Goals as goal
 
-pub returns-in-Opened : goal.returns-in-Opened
+pub returns-in-Ok : goal.returns-in-Ok
 unfolding sheet_numbers
-returns-in-Opened c =
-    tells_as c.front.ensures (ap sheet_numbers (sym c.in-Opened.is))
+returns-in-Ok c = tells_as c.front.ensures (ap (λ a. sheet_numbers (opened_told a)) (sym c.in-Ok.is))
 
-pub returns-in-Refused : goal.returns-in-Refused
+pub returns-in-Err : goal.returns-in-Err
 unfolding sheet_numbers answer_numbers
-returns-in-Refused c =
-    tells_as c.front-in-Refused.ensures (ap sheet_numbers (sym c.in-Refused.is))
+returns-in-Err c =
+    tells_as c.front-in-Err.ensures
+    (ap (λ k. 11 ∷ k ∷ []) c.number.ensures ∙ ap (λ a. sheet_numbers (opened_told a)) (sym c.in-Err.is))

@@ -11,7 +11,7 @@ use Rattle.graph.specs.laws.State.{passed}
 use Rattle.graph.specs.laws.Sums.{sum_same, sum-apart}
 use Rattle.graph.specs.laws.Members.{by-test, clash, or-neither-left, or-neither-right, member-head, none-member}
 use Rattle.pass.proofs.laws.Passes.{Passed}
-use Rattle.answers.specs.declared.Answer.TheVariants.{Refused}
+use Rattle.answers.specs.Outcome.{Refused}
 use Rattle.answers.specs.Answer.{Reply, says}
 use Rattle.calls.specs.Refuse.{bad_node, in_blossom, entries_unless, entries_but, store_short, node_refusal, unless}
 use Rattle.calls.specs.Insert.{occupied, defect_refusal, no_circle, blossom_refusal}

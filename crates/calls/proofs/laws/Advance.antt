@@ -12,8 +12,8 @@ use Rattle.graph.specs.Form.{Formed}
 use Rattle.graph.specs.laws.State.{if-both, fold-keeps}
 use Rattle.graph.specs.laws.Members.{by-test, clash}
 use Rattle.graph.specs.laws.Row.{becomes-none, becomes-then}
-use Rattle.answers.specs.declared.Answer.{Answer}
-use Rattle.answers.specs.declared.Answer.TheVariants.{Length, Done, Refused}
+use Rattle.answers.specs.Outcome.{Answer}
+use Rattle.answers.specs.Outcome.{Length, Done, Refused}
 use Rattle.answers.specs.declared.MaxUpdateLength.TheVariants.{NonZeroGrow}
 use Rattle.answers.specs.Answer.{Reply, says, free_or}
 use Rattle.answers.specs.laws.Answer.{free_other}

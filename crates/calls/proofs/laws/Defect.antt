@@ -23,7 +23,7 @@ use Rattle.graph.specs.laws.SidesAt.{around-of, rising-of}
 use Rattle.pass.specs.Scratch.{scratch_of}
 use Rattle.pass.specs.inner.Scratch.{wiped}
 use Rattle.pass.proofs.laws.Scratch.{hold-first, first-numbers, wipe-first}
-use Rattle.answers.specs.declared.Answer.TheVariants.{Node, Refused}
+use Rattle.answers.specs.Outcome.{Node, Refused}
 use Rattle.answers.specs.Answer.{says}
 use Rattle.calls.specs.inner.Front.{FrontHolds}
 use Rattle.calls.proofs.laws.Front.{front-none, none-front, front-before}

@@ -2,7 +2,7 @@
 use Rattle.std.specs.Prelude.{◌≡◌, ℕ, Bool, false, ℤ}
 use Rattle.std.proofs.Common.{sym, subst}
 use Rattle.graph.specs.State.{State}
-use Rattle.answers.specs.declared.Answer.{Answer}
+use Rattle.answers.specs.Outcome.{Answer}
 use Rattle.answers.specs.Answer.{Reply, says, is_free}
 use Rattle.answers.specs.laws.Answer.{free-cases, free_other}
 use Rattle.calls.specs.Each.{grow_dual_node, signed_for, follow}

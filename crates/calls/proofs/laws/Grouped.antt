@@ -4,7 +4,7 @@ use Rattle.std.specs.Prelude.{refl}
 use Rattle.std.proofs.Common.{ap, ◌∙◌}
 use Rattle.graph.specs.Basic.{all}
 use Rattle.graph.specs.laws.State.{if-both, fold-keeps}
-use Rattle.answers.specs.declared.Answer.{Answer}
+use Rattle.answers.specs.Outcome.{Answer}
 use Rattle.answers.specs.laws.Answer.{free-cases, free_other}
 use Rattle.calls.specs.Round.{Group, group_free, group_unlimited, group_conflicts, group_refused, is_free, join_length, join_unlimited, join_free, group_of, is_refused}
 

@@ -9,8 +9,8 @@ use borrow.Author.Tests.{eqb-true, eqb-false, eq-eqb, ne_eqb}
 use Rattle.graph.specs.State.{State, grow_state_of, stay, up, down}
 use Rattle.graph.specs.laws.Members.{by-test}
 use Rattle.pass.specs.KeepsSound.{keeps_sound}
-use Rattle.answers.specs.declared.Answer.{Answer}
-use Rattle.answers.specs.declared.Answer.TheVariants.{Length}
+use Rattle.answers.specs.Outcome.{Answer}
+use Rattle.answers.specs.Outcome.{Length}
 use Rattle.answers.specs.declared.MaxUpdateLength.TheVariants.{NonZeroGrow, Unlimited}
 use Rattle.answers.specs.Answer.{says}
 use Rattle.answers.specs.laws.Answer.{free-cases, free_other}

@@ -11,7 +11,7 @@ use Rattle.graph.specs.laws.Members.{by-test, length-only, distinct-length}
 use Rattle.graph.specs.laws.Shape.{sound-count, sound-active}
 use Rattle.graph.specs.laws.Active.{active-inside, active-once}
 use Rattle.pass.proofs.laws.Prepare.{prepare-passed}
-use Rattle.answers.specs.declared.Answer.{Answer}
+use Rattle.answers.specs.Outcome.{Answer}
 use Rattle.answers.specs.Answer.{Reply, says}
 use Rattle.calls.specs.Refuse.{node_refusal, store_short}
 use Rattle.calls.specs.Calls.{prepare_dual_node_growth}

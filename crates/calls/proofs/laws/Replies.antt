@@ -17,9 +17,9 @@ use Rattle.pass.proofs.laws.Preparing.{sound-preparable}
 use Rattle.graph.specs.laws.Form.{laid-shape}
 use Rattle.graph.specs.laws.Members.{by-test}
 use Rattle.pass.proofs.laws.Scratch.{scratch-same}
-use Rattle.answers.specs.declared.Answer.{Answer}
-use Rattle.answers.specs.declared.Answer.TheVariants.{Done, Refused}
-use Rattle.answers.specs.declared.Answer.TheVariants as Says
+use Rattle.answers.specs.Outcome.{Answer}
+use Rattle.answers.specs.Outcome.{Done, Refused}
+use Rattle.answers.specs.Outcome as Says
 use Rattle.answers.specs.Answer.{Reply, says}
 use Rattle.calls.specs.Refuse.{store_short, node_refusal, unless}
 use Rattle.update_length.specs.Scan.{scan}

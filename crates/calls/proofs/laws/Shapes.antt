@@ -7,8 +7,8 @@ use Rattle.graph.specs.laws.State.{if-both, fold-keeps}
 use Rattle.graph.specs.laws.Shape.{emptied-shape, shape-growth, shape-holder, shape-defect, shape-state, shape-parent, shape-dual, shape-boundary, shape-overgrown, shape-node, shape-held-side, shape-held-vertex}
 use Rattle.graph.specs.Shape.{Shape}
 use Rattle.pass.proofs.laws.Passes.{Passed}
-use Rattle.answers.specs.declared.Answer.{Answer}
-use Rattle.answers.specs.declared.Answer.TheVariants.{Done}
+use Rattle.answers.specs.Outcome.{Answer}
+use Rattle.answers.specs.Outcome.{Done}
 use Rattle.answers.specs.Answer.{Reply, says}
 use Rattle.calls.specs.Refuse.{unless, node_refusal, store_short}
 use Rattle.pass.specs.Prepare.{prepare_node}

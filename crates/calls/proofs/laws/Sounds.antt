@@ -22,7 +22,7 @@ use Rattle.pass.specs.Grow.{grow_pass}
 use Rattle.pass.proofs.laws.Passes.{Passed, passed-refl, passed-trans}
 use Rattle.pass.proofs.laws.Fits.{Sized, sound-sized}
 use Rattle.pass.proofs.laws.GrowSound.{grow-pass-sound, grow-pass-entries}
-use Rattle.answers.specs.declared.Answer.TheVariants.{Done}
+use Rattle.answers.specs.Outcome.{Done}
 use Rattle.answers.specs.Answer.{Reply, says}
 use Rattle.calls.specs.Refuse.{store_short, node_refusal, unless}
 use Rattle.pass.specs.Prepare.{prepare_node}

@@ -9,7 +9,7 @@ use Rattle.graph.specs.Sound.{state_sound}
 use Rattle.graph.specs.Active.{renewed, active_in}
 use Rattle.graph.specs.laws.State.{if-both, fold-keeps, fold-keeps-on}
 use Rattle.graph.specs.laws.Members.{by-test, or_right, all_from}
-use Rattle.answers.specs.declared.Answer.{Answer}
+use Rattle.answers.specs.Outcome.{Answer}
 use Rattle.answers.specs.Answer.{Reply, says}
 use Rattle.calls.specs.Refuse.{unless}
 use Rattle.calls.proofs.laws.Accepted.{unless-cases}

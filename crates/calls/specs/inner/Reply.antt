@@ -8,7 +8,7 @@ use Rattle.graph.specs.inner.Form.{Becomes}
 use Rattle.pass.specs.Scratch.{scratch_of}
 use Rattle.pass.specs.inner.Ready.{Preparable}
 use Rattle.graph.specs.inner.Readable.{Readable}
-use Rattle.answers.specs.declared.Answer.{Answer}
+use Rattle.answers.specs.Outcome.{Answer}
 use Rattle.answers.specs.Answer.{Reply}
 
 -- a block in form whose state is sound, and a scratch of 3 words for each side that is all zero

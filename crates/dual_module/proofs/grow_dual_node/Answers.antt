@@ -1,3 +1,6 @@
+use Rattle.std.proofs.Common.{refl}
+use Rattle.std.proofs.lemmas.Result.{err_from_is_err_and}
+use Rattle.refusal.specs.Refusal.{number-some}
 use mathlib.Core.Path.{sym, ◌∙◌}
 use mir.Facts.{to_z-of_z}
 use Rattle.dual_module.proofs.laws.Called.{lent-refused-scratch}
@@ -5,12 +8,14 @@ use Rattle.dual_module.proofs.laws.Sound.{known-none}
 use borrow.Author.Rules.{rules}
 use Rattle.dual_module.proofs.grow_dual_node.Goals as goal
 
-pub returns-then-k-ne0 : goal.returns-then-k-ne0
-returns-then-k-ne0 c =
-    lent-refused-scratch c.refusal-k.ensures c.if-k-ne0.true c.args.b.now c.args.t.now _ _
+pub returns-in_err-refusal : goal.returns-in_err-refusal
+returns-in_err-refusal c =
+    let p = err_from_is_err_and c.from_residual.result c.from_residual.ensures.1 in
+    rw (p.1, p.2)
+    (lent-refused-scratch c.in_err-refusal.ensures (number-some _) c.args.b.now c.args.t.now _ _)
 
 pub grow_dual_node-requires : goal.grow_dual_node-requires
-grow_dual_node-requires c = (sym c.refusal-k.ensures ∙ c.if-k-ne0.false, known-none _)
+grow_dual_node-requires c = (sym c.in_ok-refusal.ensures ∙ refl, known-none _)
 
 pub returns : goal.returns
 returns c =

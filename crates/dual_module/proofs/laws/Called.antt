@@ -13,8 +13,8 @@ use Rattle.graph.specs.laws.Form.{laid-shape}
 use Rattle.graph.specs.laws.Row.{becomes-none}
 use Rattle.pass.specs.Scratch.{zero_scratch}
 use Rattle.pass.specs.inner.Scratch.{wiped}
-use Rattle.answers.specs.declared.Answer.{Answer}
-use Rattle.answers.specs.declared.Answer.TheVariants.{Done, Vertex, Refused}
+use Rattle.answers.specs.Outcome.{Answer}
+use Rattle.answers.specs.Outcome.{Done, Vertex, Refused}
 use Rattle.answers.specs.Numbers.{answer_numbers, OnPaper}
 use Rattle.answers.specs.Answer.{Reply, says}
 use Rattle.calls.specs.Refuse.{bad_node, in_blossom, store_short, node_refusal, unless}

@@ -10,7 +10,7 @@ use Rattle.graph.specs.Form.{Formed}
 use Rattle.graph.specs.laws.Members.{or_left, or_right}
 use Rattle.memory_tests.specs.laws.Memory.{memory-accepted}
 use Rattle.pass.specs.Scratch.{zero_scratch}
-use Rattle.answers.specs.declared.Answer.{Answer}
+use Rattle.answers.specs.Outcome.{Answer}
 use Rattle.answers.specs.Answer.{Reply, says}
 use Rattle.calls.specs.Refuse.{store_short, node_refusal}
 use Rattle.calls.specs.Calls.{toward}

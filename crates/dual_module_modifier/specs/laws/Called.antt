@@ -9,7 +9,7 @@ use borrow.Author.Tests.{eq-eqb, ne_eqb}
 use Rattle.graph.specs.Layout.{state_of, memory_refusal}
 use Rattle.graph.specs.laws.Members.{by-test}
 use Rattle.memory_tests.specs.laws.Memory.{Lendable}
-use Rattle.answers.specs.declared.Answer.{Answer}
+use Rattle.answers.specs.Outcome.{Answer}
 use Rattle.calls.specs.Erasures.{pairs_from, modifier_refusal, load_edge_modifier}
 use Rattle.calls.specs.inner.Reply.{Replies}
 use Rattle.edge_modifier.specs.laws.Load.{pairs-count}

@@ -8,7 +8,7 @@ use Rattle.graph.specs.Layout.{class_from}
 use Rattle.graph.specs.laws.Class.{class-defect, class-first}
 use Rattle.graph.specs.laws.Members.{or-neither-right}
 use Rattle.calls.specs.Refuse.{bad_node}
-use Rattle.dual_module_node.specs.declared.NodeRead.TheVariants.{Defect, Blossom, Refused}
+use Rattle.dual_module_node.specs.Outcome.{Defect, Blossom, Refused}
 use Rattle.dual_module_node.specs.ReadNode.{node_told, read_node, read_unless}
 
 module _ {j k : ℕ} (e : j ≡ k) (c : State) (n : ℕ) where

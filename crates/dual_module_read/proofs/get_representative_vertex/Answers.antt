@@ -1,6 +1,11 @@
+use Rattle.std.proofs.lemmas.Result.{err_from_is_err_and}
+use Rattle.refusal.specs.Refusal.{number-some}
 use Rattle.dual_module.proofs.laws.Called.{refusal-answered}
 use borrow.Author.Rules.{rules}
 use Rattle.dual_module_read.proofs.get_representative_vertex.Goals as goal
 
-pub returns-then-k-ne0 : goal.returns-then-k-ne0
-returns-then-k-ne0 c = refusal-answered c.refusal-k.ensures c.if-k-ne0.true _ _
+pub returns-in_err-refusal : goal.returns-in_err-refusal
+returns-in_err-refusal c =
+    let p = err_from_is_err_and c.from_residual.result c.from_residual.ensures.1 in
+    rw (p.1, p.2)
+    (refusal-answered c.in_err-refusal.ensures (number-some _) _ _)

@@ -5,7 +5,7 @@ use Rattle.graph.specs.State.{State, edge_count}
 use Rattle.graph.specs.Layout.{state_of}
 use Rattle.graph.specs.laws.Form.{laid-shape}
 use Rattle.memory_tests.specs.laws.Memory.{Lendable}
-use Rattle.answers.specs.declared.Answer.TheVariants.{Done, Vertex, Refused}
+use Rattle.answers.specs.Outcome.{Done, Vertex, Refused}
 use Rattle.answers.specs.Numbers.{OnPaper}
 use Rattle.answers.specs.Answer.{says}
 use Rattle.calls.specs.Refuse.{bad_node, unless}

@@ -1,3 +1,6 @@
+use Rattle.std.proofs.Common.{refl}
+use Rattle.std.proofs.lemmas.Result.{err_from_is_err_and}
+use Rattle.refusal.specs.Refusal.{number-some}
 use native.Mathlib.Omega.{arith}
 use mathlib.Core.Path.{sym, ◌∙◌}
 use lib.ListN.{length}
@@ -6,20 +9,23 @@ use Rattle.dual_module_read.proofs.laws.Read.{list-refused, list-filled, table-p
 use borrow.Author.Rules.{rules}
 use Rattle.dual_module_read.proofs.read_table.Goals as goal
 
-pub returns-then-k-ne0 : goal.returns-then-k-ne0
-returns-then-k-ne0 c = list-refused c.list_refusal-k.ensures c.if-k-ne0.true
+pub returns-in_err-list_refusal : goal.returns-in_err-list_refusal
+returns-in_err-list_refusal c =
+    let p = err_from_is_err_and c.from_residual.result c.from_residual.ensures.1 in
+    rw (p.1, p.2)
+    (list-refused c.in_err-list_refusal.ensures (number-some _))
 
 pub read_table-requires : goal.read_table-requires
 read_table-requires c =
     let l =
     list-accepted c.args.b.now c.args.t.now (length c.args.list.now) 2
-    (sym c.list_refusal-k.ensures ∙ c.if-k-ne0.false) in
+    (sym c.in_ok-list_refusal.ensures ∙ refl) in
     (l.0.formed, omega (arith, l.1, l.0.formed.pairs))
 
 pub returns : goal.returns
 returns c =
     let l =
     list-accepted c.args.b.now c.args.t.now (length c.args.list.now) 2
-    (sym c.list_refusal-k.ensures ∙ c.if-k-ne0.false) in
-    list-filled c.list_refusal-k.ensures c.if-k-ne0.false
+    (sym c.in_ok-list_refusal.ensures ∙ refl) in
+    list-filled c.in_ok-list_refusal.ensures refl
     (table-placed c.args.list.now l.0 l.1 c.read_table.ensures)

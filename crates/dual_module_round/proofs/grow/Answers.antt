@@ -1,3 +1,6 @@
+use Rattle.std.proofs.Common.{refl}
+use Rattle.std.proofs.lemmas.Result.{err_from_is_err_and}
+use Rattle.refusal.specs.Refusal.{number-some}
 use Rattle.dual_module_round.specs.laws.Called.{trial-refused, trial-as, round-lent, round-reply}
 use mir.Facts.{to_z-of_z}
 use mathlib.Core.Path.{sym, ◌∙◌}
@@ -5,11 +8,13 @@ use native.Mathlib.Omega.{arith}
 use borrow.Author.Rules.{rules}
 use Rattle.dual_module_round.proofs.grow.Goals as goal
 
-pub returns-then-k-ne0 : goal.returns-then-k-ne0
-returns-then-k-ne0 c =
-    trial-refused _ _ _ _ _ _
-    (rw (to_z-of_z c.ranges.length) at c.round_refusal-k.ensures)
-    c.if-k-ne0.true
+pub returns-in_err-round_refusal : goal.returns-in_err-round_refusal
+returns-in_err-round_refusal c =
+    let p = err_from_is_err_and c.from_residual.result c.from_residual.ensures.1 in
+    rw (p.1, p.2)
+    (trial-refused _ _ _ _ _ _
+    (rw (to_z-of_z c.ranges.length) at c.in_err-round_refusal.ensures)
+    (number-some _))
 
 pub trial-requires : goal.trial-requires
 trial-requires c =
@@ -20,8 +25,8 @@ trial-requires c =
     c.args.length
     (sym
     (rw (to_z-of_z c.ranges.length)
-    at c.round_refusal-k.ensures)
-    ∙ c.if-k-ne0.false) in
+    at c.in_ok-round_refusal.ensures)
+    ∙ refl) in
     (k.0, omega arith)
 
 pub returns : goal.returns
@@ -29,8 +34,8 @@ returns c =
     let j =
     sym
     (rw (to_z-of_z c.ranges.length)
-    at c.round_refusal-k.ensures)
-    ∙ c.if-k-ne0.false in
+    at c.in_ok-round_refusal.ensures)
+    ∙ refl in
     let k = round-lent c.args.b.now c.args.s.now c.args.t.now c.args.length j in
     trial-as _ _ _ j
     (rw (c.magnitude.ensures.0, to_z-of_z c.ranges.length)

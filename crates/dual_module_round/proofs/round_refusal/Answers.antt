@@ -1,12 +1,17 @@
+use Rattle.std.proofs.Common.{refl}
+use Rattle.std.proofs.lemmas.Result.{err_from_is_err_and}
+use Rattle.refusal.specs.Refusal.{number-some}
 use Rattle.dual_module_round.specs.laws.Called.{round-first, round-passed, below-yes, below-no}
 use mir.Facts.{to_z-of_z}
 use borrow.Author.Rules.{rules}
 use Rattle.dual_module_round.proofs.round_refusal.Goals as goal
 
-pub returns-then-k-ne0 : goal.returns-then-k-ne0
-returns-then-k-ne0 c =
-    round-first c.args.b.now c.args.s.now c.args.t.now c.args.length c.trial_refusal-k.ensures
-    c.if-k-ne0.true
+pub returns-in_err-trial_refusal : goal.returns-in_err-trial_refusal
+returns-in_err-trial_refusal c =
+    let p = err_from_is_err_and c.from_residual.result c.from_residual.ensures.1 in
+    rw (p.1, p.2)
+    (round-first c.args.b.now c.args.s.now c.args.t.now c.args.length c.in_err-trial_refusal.ensures
+    (number-some _))
 
 pub returns-then-length-lt1 : goal.returns-then-length-lt1
 returns-then-length-lt1 c =
@@ -14,12 +19,12 @@ returns-then-length-lt1 c =
     rw w
     at
     (round-passed c.args.b.now c.args.s.now c.args.t.now c.args.length
-    c.trial_refusal-k.ensures c.if-k-ne0.false)
+    c.in_ok-trial_refusal.ensures refl)
 
-pub returns-else-length-lt1 : goal.returns-else-length-lt1
-returns-else-length-lt1 c =
+pub returns : goal.returns
+returns c =
     let w = below-no c.args.length (rw (to_z-of_z c.ranges.length) at c.if-length-lt1.false) in
     rw w
     at
     (round-passed c.args.b.now c.args.s.now c.args.t.now c.args.length
-    c.trial_refusal-k.ensures c.if-k-ne0.false)
+    c.in_ok-trial_refusal.ensures refl)

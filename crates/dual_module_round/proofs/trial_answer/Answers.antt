@@ -1,12 +1,12 @@
+use Rattle.refusal.specs.Refusal.{refusal_number}
 use Rattle.dual_module_round.specs.Called.{trial_answer}
-use borrow.Author.Tests.{eq-eqb, ne_eqb}
-use mathlib.Core.Path.{refl}
+use Rattle.dual_module_round.specs.laws.Called.{refusal-told}
+use mathlib.Core.Path.{sym, ap, ◌∙◌}
 use Rattle.dual_module_round.proofs.trial_answer.Goals as goal
 
-pub returns-then-r-eq0 : goal.returns-then-r-eq0
+pub returns-in-Ok : goal.returns-in-Ok
 unfolding trial_answer
-returns-then-r-eq0 c = rw (eq-eqb c.args.r 0 c.if-r-eq0.true) refl
+returns-in-Ok c = ap (λ r. trial_answer (refusal_number r)) (sym c.in-Ok.is)
 
-pub returns-else-r-eq0 : goal.returns-else-r-eq0
-unfolding trial_answer
-returns-else-r-eq0 c = rw (ne_eqb c.args.r 0 c.if-r-eq0.false) refl
+pub returns-in-Err : goal.returns-in-Err
+returns-in-Err c = refusal-told _ ∙ ap (λ r. trial_answer (refusal_number r)) (sym c.in-Err.is)

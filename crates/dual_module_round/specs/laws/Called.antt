@@ -20,11 +20,17 @@ use Rattle.graph.specs.laws.State.{and_right}
 use Rattle.memory_tests.specs.laws.Memory.{Lendable, memory-accepted}
 use Rattle.pass.specs.Scratch.{zero_scratch}
 use Rattle.answers.specs.Numbers.{answer_numbers}
-use Rattle.answers.specs.declared.Answer.{Answer}
-use Rattle.answers.specs.declared.Answer.TheVariants.{Done, Refused}
+use Rattle.answers.specs.Outcome.{Answer}
+use Rattle.answers.specs.Outcome.{Done, Refused}
 use Rattle.answers.specs.Answer.{Reply, says}
-use Rattle.calls.specs.declared.group.GroupMaxUpdateLength.{GroupMaxUpdateLength as Group}
-use Rattle.calls.specs.declared.group.GroupMaxUpdateLength.TheVariants.{Refused as GroupRefused}
+use Rattle.std.specs.Prelude.{Result, Ok, Err, is_err}
+use Rattle.refusal.specs.declared.Refusal.{Refusal}
+use Rattle.refusal.specs.Refusal.{number, refusal_number, number-some}
+use Rattle.calls.specs.declared.group.GroupMaxUpdateLength.{GroupMaxUpdateLength as Found}
+use Rattle.calls.specs.declared.group.GroupMaxUpdateLength.TheVariants as Finds
+use Rattle.calls.specs.Group.{group_told}
+use Rattle.calls.specs.Group.{GroupMaxUpdateLength as Group}
+use Rattle.calls.specs.Group.{Refused as GroupRefused}
 use Rattle.calls.specs.Refuse.{unless}
 use Rattle.calls.specs.inner.Reply.{Replies, Usable}
 use Rattle.calls.specs.Round.{refusal_of, tried, prepared_all, prepare_all, round, renew_active_list, GroupReply, answers_of, group_of, is_refused, group_refusal, group_length}
@@ -55,6 +61,25 @@ pub copied_all : (s d₀ : List ℤ) (i : ℕ) → length s ≤ i → length d�
 copied_all s d₀ i h e =
     let k : length d₀ ≤ i = omega (arith, e) in
     rw (take_all i s h, drop_of_length-le d₀ k) (append-nil s)
+
+-- ---- what is handed back
+
+-- a test refuses where its number is not 0
+pub refuses : {A : Type 0} → (r : Result A Refusal) → is_err r ≡ not (eqb (refusal_number r) 0)
+refuses (Ok a) = refl
+refuses (Err e) = rw (ne_eqb (number e) 0 (number-some e)) refl
+
+pub refusal-told : (e : Refusal) → Refused (number e) ≡ trial_answer (number e)
+unfolding trial_answer
+refusal-told e = rw (ne_eqb (number e) 0 (number-some e)) refl
+
+-- and the group where its answer is a refusal
+pub group-refuses : (r : Result Found Refusal) → is_err r ≡ is_refused (group_told r)
+unfolding is_refused
+group-refuses (Ok (Finds.NonZeroGrow l e)) = refl
+group-refuses (Ok (Finds.Unlimited e)) = refl
+group-refuses (Ok (Finds.Conflicts k j)) = refl
+group-refuses (Err e) = refl
 
 -- ---- what refuses a trial
 

@@ -2,10 +2,10 @@ use mathlib.Core.Path.{sym, ◌∙◌}
 use Rattle.edge_modifier.specs.inner.Refusals.{refusal_of_weights}
 use Rattle.edge_modifier.proofs.weights_refusal.Goals as goal
 
-pub returns-then-weights_in_range : goal.returns-then-weights_in_range
+pub returns : goal.returns
 unfolding refusal_of_weights
-returns-then-weights_in_range c = rw (sym c.weights_in_range.ensures ∙ c.if-weights_in_range.true) c.mark_refusal.ensures
+returns c = rw (sym c.weights_in_range.ensures ∙ c.if-not-weights_in_range.false) c.mark_refusal.ensures
 
-pub returns-else-weights_in_range : goal.returns-else-weights_in_range
+pub returns-then-not-weights_in_range : goal.returns-then-not-weights_in_range
 unfolding refusal_of_weights
-returns-else-weights_in_range c = rw (sym c.weights_in_range.ensures ∙ c.if-weights_in_range.false)
+returns-then-not-weights_in_range c = rw (sym c.weights_in_range.ensures ∙ c.if-not-weights_in_range.true)

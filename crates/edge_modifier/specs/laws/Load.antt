@@ -17,7 +17,7 @@ use Rattle.graph.specs.laws.State.{fold_more, fold_done}
 use Rattle.graph.specs.laws.Opened.{get_d-tabled}
 use Rattle.graph.specs.laws.Row.{becomes-none, becomes-then}
 use Rattle.open_graph.specs.laws.Open.{Rest, rest_more, rest-fails, rest_all}
-use Rattle.answers.specs.declared.Answer.TheVariants.{Done, Refused}
+use Rattle.answers.specs.Outcome.{Done, Refused}
 use Rattle.calls.specs.Erasures.{EdgeWeight, edge_weight_at, pairs_in, pairs_from, names_edge, weight_in_range, weights_bound, modifier_refusal, reweigh, reweighed, load_edge_modifier}
 use Rattle.calls.specs.inner.Reply.{Replies}
 use Rattle.calls.proofs.laws.Replies.{replies-refused, replies-accepted}

@@ -5,8 +5,8 @@ use Rattle.std.proofs.Math.Path.{◌≡◌, refl, sym, subst}
 use Rattle.graph.specs.Basic.{fold}
 use Rattle.graph.specs.State.{State, defect_vertex, opposite, node_count, end_at, holder_at, class_of, grow_state_of, dual_of, boundary_of, grown_over, weight_over, virtual_at, growing, shrinking, up}
 use Rattle.graph.specs.Open.{Edge}
-use Rattle.answers.specs.declared.Answer.{Answer}
-use Rattle.answers.specs.declared.Answer.TheVariants.{Length, Refused}
+use Rattle.answers.specs.Outcome.{Answer}
+use Rattle.answers.specs.Outcome.{Length, Refused}
 use Rattle.answers.specs.declared.MaxUpdateLength.TheVariants.{NonZeroGrow, Unlimited, Conflicting, TouchingVirtual}
 use Rattle.update_length.specs.Scan.{meets, look_grow, look, Scan, open-ended, within, over, scan_step, is_empty, scan_answer, scan_boundary, scan}
 use Rattle.reachable.specs.laws.prepare.Preparation.{invariant-numbers}

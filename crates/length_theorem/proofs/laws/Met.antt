@@ -10,8 +10,8 @@ use borrow.Author.Tests.{eqb-true, eqb-false, ne_eqb, le-ltb}
 use Rattle.graph.specs.Basic.{fold, member}
 use Rattle.graph.specs.State.{State, opposite, passable, end_at, holder_at, virtual_at, grow_state_of, grown_over, weight_over, growing, shrinking, up}
 use Rattle.graph.specs.laws.Members.{by-test, clash, member-head, member-tail}
-use Rattle.answers.specs.declared.Answer.{Answer}
-use Rattle.answers.specs.declared.Answer.TheVariants.{Length, Refused}
+use Rattle.answers.specs.Outcome.{Answer}
+use Rattle.answers.specs.Outcome.{Length, Refused}
 use Rattle.answers.specs.declared.MaxUpdateLength.TheVariants.{Conflicting, TouchingVirtual}
 use Rattle.update_length.specs.Scan.{half, is_zero, lesser, Look, skip, room, meets, gap_of, look_peer, look_free, look_held, look_grow, look, Scan, open-ended, within, over, with_look, scan_step}
 

@@ -7,7 +7,7 @@ use Rattle.graph.specs.State.{State, node_count, class_of, grow_state_of, dual_o
 use Rattle.graph.specs.Open.{Edge}
 use Rattle.graph.specs.laws.Members.{by-test}
 use Rattle.pass.specs.Prepare.{prepare_node}
-use Rattle.answers.specs.declared.Answer.TheVariants.{Refused}
+use Rattle.answers.specs.Outcome.{Refused}
 use Rattle.answers.specs.Answer.{Reply, says}
 use Rattle.update_length.specs.Scan.{scan}
 use Rattle.calls.specs.Refuse.{store_short, node_refusal, unless}

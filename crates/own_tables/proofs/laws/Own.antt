@@ -39,7 +39,7 @@ use Rattle.table_theorem.proofs.Theorems.{table-is-from-distances}
 use Rattle.table_theorem.proofs.laws.Depth.{DefectsOnly, vertex-inside, far-off}
 use Rattle.table_theorem.proofs.laws.Feasible.{nodes-apart}
 use Rattle.table_theorem.proofs.laws.Runs.{present-opening, defects-only, end-matches}
-use Rattle.table_check.specs.declared.Verdict.TheVariants.{Yes}
+use Rattle.table_check.specs.Outcome.{Yes}
 use Rattle.table_words.specs.Handed.{distance_limit, distance_of, distance_in, row_of, Handed, handed}
 use Rattle.table_check.specs.Verdict.{given_dual_of as dual_by_vertex, duals_by_vertex, Right, table_verdict}
 use Rattle.table_refuse.specs.Refuse.{sizes_right, lengths_right, graph_in_range, defects_in_range, distances_in_range, numbers_right, table_refusal}

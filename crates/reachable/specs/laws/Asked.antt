@@ -19,8 +19,8 @@ use Rattle.pass.proofs.laws.Passes.{Passed}
 use Rattle.pass.proofs.laws.Prepare.{prepare-passed}
 use Rattle.pass.proofs.laws.Idle.{TopLeft, top-amount}
 use Rattle.pass.proofs.laws.Leaves.{prepare-top-left, prepare-frees-none}
-use Rattle.answers.specs.declared.Answer.{Answer}
-use Rattle.answers.specs.declared.Answer.TheVariants.{Length}
+use Rattle.answers.specs.Outcome.{Answer}
+use Rattle.answers.specs.Outcome.{Length}
 use Rattle.answers.specs.Answer.{Reply, free_or, is_free, accepted}
 use Rattle.answers.specs.laws.Answer.{free_other}
 use Rattle.update_length.specs.Scan.{half, is_zero, lesser, Look, skip, room, meets, gap_of, look_peer, look_free, look_held, look_grow, look_shrink, look, Scan, open-ended, within, over, with_look, scan_step, is_empty, scan_answer, scan_boundary, stop_answer, shrink_limit, scan}

@@ -10,14 +10,14 @@ use Rattle.graph.specs.laws.State.{and_left, and_right}
 use Rattle.graph.specs.laws.Members.{by-test, both, clash, member-only, member-cons, member-nil}
 use Rattle.graph.specs.laws.Active.{active-in}
 use Rattle.growth.specs.Growth.{top_is}
-use Rattle.answers.specs.declared.Answer.{Answer}
+use Rattle.answers.specs.Outcome.{Answer}
 use Rattle.answers.specs.laws.Answer.{free-cases}
 use Rattle.update_length.specs.Scan.{shrink_limit, scan}
 use Rattle.update_length.specs.laws.Long.{long_as, lesser-long, answer_long, LeftDown, LeftUp, scan-down-long, scan-up-long}
 use Rattle.calls.specs.Calls.{toward}
 use Rattle.calls.specs.Round.{prepared_all, moved_all, answers_of, is_free, join_length, join_unlimited, join_free, group_of, group_refusal, group_length}
-use Rattle.calls.specs.declared.group.GroupMaxUpdateLength.{GroupMaxUpdateLength as Group}
-use Rattle.calls.specs.declared.group.GroupMaxUpdateLength.TheVariants.{NonZeroGrow as group_free, Unlimited as group_unlimited, Conflicts as group_conflicts, Refused as group_refused}
+use Rattle.calls.specs.Group.{GroupMaxUpdateLength as Group}
+use Rattle.calls.specs.Group.{NonZeroGrow as group_free, Unlimited as group_unlimited, Conflicts as group_conflicts, Refused as group_refused}
 use Rattle.reachable.specs.Invariant.{Invariant}
 use Rattle.reachable.specs.laws.Calls.{group-invariant}
 use Rattle.reachable.specs.laws.Round.{Among}

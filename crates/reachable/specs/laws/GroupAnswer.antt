@@ -6,16 +6,16 @@ use Rattle.graph.specs.Basic.{all}
 use Rattle.graph.specs.State.{State}
 use Rattle.graph.specs.laws.State.{and_left, and_right, if-both, fold-keeps-on}
 use Rattle.graph.specs.laws.Members.{by-test, clash, member-cons, member-nil}
-use Rattle.answers.specs.declared.Answer.{Answer}
-use Rattle.answers.specs.declared.Answer.TheVariants.{Length}
+use Rattle.answers.specs.Outcome.{Answer}
+use Rattle.answers.specs.Outcome.{Length}
 use Rattle.answers.specs.declared.MaxUpdateLength.TheVariants.{NonZeroGrow}
 use Rattle.answers.specs.Answer.{accepted}
 use Rattle.answers.specs.laws.Answer.{free-cases, free_other, accepted-refusal}
 use Rattle.update_length.specs.laws.Long.{long_as}
 use Rattle.calls.proofs.laws.Grouped.{of-answered}
 use Rattle.calls.specs.Round.{refusal_of, prepared_all, first_refusal, is_free, join_length, join_unlimited, join_free, group_of, group_refusal, group_length, is_refused}
-use Rattle.calls.specs.declared.group.GroupMaxUpdateLength.{GroupMaxUpdateLength as Group}
-use Rattle.calls.specs.declared.group.GroupMaxUpdateLength.TheVariants.{NonZeroGrow as group_free, Unlimited as group_unlimited, Conflicts as group_conflicts, Refused as group_refused}
+use Rattle.calls.specs.Group.{GroupMaxUpdateLength as Group}
+use Rattle.calls.specs.Group.{NonZeroGrow as group_free, Unlimited as group_unlimited, Conflicts as group_conflicts, Refused as group_refused}
 use Rattle.reachable.specs.Invariant.{Invariant}
 use Rattle.reachable.specs.laws.Round.{Among, prepared-all-among}
 use Rattle.reachable.specs.laws.Asked.{fine, lesser-fine, zero-nine, answers-fine}

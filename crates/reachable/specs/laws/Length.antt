@@ -6,8 +6,8 @@ use Rattle.graph.specs.State.{State, boundary_of, grow_state_of, stay, up, down}
 use Rattle.graph.specs.laws.State.{if-both}
 use Rattle.graph.specs.laws.Members.{clash}
 use Rattle.pass.specs.Prepare.{prepare_node}
-use Rattle.answers.specs.declared.Answer.{Answer}
-use Rattle.answers.specs.declared.Answer.TheVariants.{Refused}
+use Rattle.answers.specs.Outcome.{Answer}
+use Rattle.answers.specs.Outcome.{Refused}
 use Rattle.answers.specs.Answer.{Reply, says, refusal_of}
 use Rattle.answers.specs.laws.Answer.{accepted-refusal}
 use Rattle.calls.proofs.laws.Follow.{follow-cases}

@@ -5,12 +5,12 @@ use Rattle.std.proofs.Math.Path.{refl}
 use Rattle.std.proofs.lemmas.Bool.{eqb-false}
 use Rattle.graph.specs.State.{State}
 use Rattle.graph.specs.laws.Members.{by-test, clash, member-cons, member-nil}
-use Rattle.answers.specs.declared.Answer.TheVariants.{Done, Refused}
+use Rattle.answers.specs.Outcome.{Done, Refused}
 use Rattle.answers.specs.Answer.{says}
 use Rattle.update_length.specs.laws.Long.{long_as}
 use Rattle.calls.specs.Refuse.{unless}
 use Rattle.calls.specs.Round.{Tried, refusal_of, tried, prepared_all, prepare_all, moved_all, round, group_length}
-use Rattle.calls.specs.declared.group.GroupMaxUpdateLength.TheVariants.{NonZeroGrow as group_free}
+use Rattle.calls.specs.Group.{NonZeroGrow as group_free}
 use Rattle.reachable.specs.Invariant.{Invariant}
 use Rattle.answers.specs.Answer.{accepted}
 use Rattle.reachable.specs.laws.Round.{Among, prepared-all-among, moved-all-among}

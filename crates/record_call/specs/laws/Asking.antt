@@ -7,7 +7,7 @@ use Rattle.graph.specs.Opening.{Cleared}
 use Rattle.graph.specs.Layout.{state_of}
 use Rattle.graph.specs.laws.State.{if-both, if-cases}
 use Rattle.graph.specs.laws.Members.{clash}
-use Rattle.answers.specs.declared.Answer.{Answer}
+use Rattle.answers.specs.Outcome.{Answer}
 use Rattle.answers.specs.Answer.{Reply}
 use Rattle.calls.specs.inner.Reply.{RepliesInsert, Replies, Usable}
 use Rattle.calls.specs.Insert.{insert_defect, insert_blossom}

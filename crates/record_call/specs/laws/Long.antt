@@ -1,12 +1,11 @@
 -- A circle that is too long to be accepted.
-use Rattle.std.specs.Prelude.{◌≡◌, ℕ, zero, suc, ◌+◌, ◌-◌, ◌%◌, ◌<◌, ◌≤◌, Bool, true, false, not, ◌||◌, ltb, ◌≢◌, List, ◌∷◌, length, ◌==◌, nat_lt, if◌then◌else◌}
-use Rattle.std.proofs.Common.{sym, ap, ◌∙◌}
+use Rattle.std.specs.Prelude.{◌≡◌, ℕ, zero, suc, ◌+◌, ◌-◌, ◌%◌, ◌<◌, ◌≤◌, Bool, true, false, not, ◌||◌, ltb, List, ◌∷◌, length, ◌==◌, nat_lt, if◌then◌else◌}
+use Rattle.std.proofs.Common.{ap}
 use native.Mathlib.Omega.{arith}
 use Rattle.std.proofs.Math.Path.{refl}
 use borrow.Author.Tests.{lt-ltb}
 use Rattle.graph.specs.Basic.{any, distinct}
 use Rattle.graph.specs.State.{State, shrinking}
-use Rattle.graph.specs.laws.State.{if-both}
 use Rattle.calls.specs.Refuse.{bad_node, in_blossom}
 use Rattle.calls.specs.Insert.{no_circle, blossom_refusal}
 use Rattle.records.specs.Record.{field, fields}
@@ -58,10 +57,6 @@ module _ (c : State) (body : List ℕ) (k : ℕ) where
 
 -- ---- the whole circle
 
-rest_some : (c : State) (inner : Bool) (l : List ℕ) → rest_refusal c inner l ≢ 0
-unfolding rest_refusal
-rest_some c inner l = if-both (λ x. x ≢ 0) (any (bad_node c) l) (λ e. absurd (omega (arith, e))) (if-both (λ x. x ≢ 0) (inner || any (in_blossom c) l) (λ e. absurd (omega (arith, e))) (λ e. absurd (omega (arith, e))))
-
 module _ (c : State) (x : ℕ) (body : List ℕ) (n : ℕ) where
   pub long-state : ltb shrinking x ≡ true → blossom_refusal c x (fields n body 1) ≡ 3
   unfolding blossom_refusal
@@ -73,6 +68,3 @@ module _ (c : State) (x : ℕ) (body : List ℕ) (n : ℕ) where
       let l = fields n body 1 in
       let m : ltb 63 (length l) ≡ true = lt-ltb 63 (length l) (rw (fields-many n body 1) h) in
       rw (t, m, third-true (length l % 2 == 0) (nat_lt (length l) 3) (not (distinct l))) refl
-
-pub long-refused : (c : State) (body : List ℕ) (n k : ℕ) → k ≡ rest_refusal c false (fields n body 1) → k ≢ 0
-long-refused c body n k e z = rest_some c false (fields n body 1) (sym e ∙ z)

@@ -1,6 +1,6 @@
 -- The line of a refusal that ends a run.
 use Rattle.std.specs.Prelude.{ℕ, ◌≡◌, refl, [], ◌∷◌}
-use Rattle.answers.specs.declared.Answer.TheVariants.{Refused}
+use Rattle.answers.specs.Outcome.{Refused}
 use Rattle.records.specs.Lines.{line, words_of, lines_for}
 use Rattle.records.specs.Run.{ends}
 

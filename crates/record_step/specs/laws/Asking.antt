@@ -9,7 +9,7 @@ use Rattle.graph.specs.Form.{Formed}
 use Rattle.graph.specs.Sound.{sound, sound_removed, state_sound}
 use Rattle.graph.specs.laws.State.{and_left}
 use Rattle.pass.specs.Scratch.{zero_scratch}
-use Rattle.answers.specs.declared.Answer.{Answer}
+use Rattle.answers.specs.Outcome.{Answer}
 use Rattle.calls.specs.Calls.{Call, growth_table, contacts, growths, touching, answered, respond}
 use Rattle.reachable.specs.Reachable.{after, Reachable}
 use Rattle.reachable.specs.Theorems.{reachable-sound}

@@ -16,8 +16,8 @@ use Rattle.pass.specs.Prepare.{prepare_node}
 use Rattle.pass.specs.inner.Ready.{Ready, Preparable, AfterPreparation}
 use Rattle.pass.proofs.laws.Passes.{Passed}
 use Rattle.pass.proofs.laws.Prepare.{prepare-passed}
-use Rattle.answers.specs.declared.Answer.{Answer}
-use Rattle.answers.specs.declared.Answer.TheVariants.{Done, Refused}
+use Rattle.answers.specs.Outcome.{Answer}
+use Rattle.answers.specs.Outcome.{Done, Refused}
 use Rattle.answers.specs.Answer.{says}
 use Rattle.calls.specs.Refuse.{bad_node, in_blossom, store_short, node_refusal}
 use Rattle.calls.specs.inner.Reply.{Replies, Usable}

@@ -2,9 +2,9 @@
 use Rattle.std.specs.Prelude.{ℕ, ◌≡◌, List, ◌++◌, ℤ, length}
 use Rattle.graph.specs.Layout.{state_of}
 use Rattle.graph.specs.inner.Form.{Becomes}
-use Rattle.answers.specs.declared.Answer.{Answer}
-use Rattle.calls.specs.declared.group.GroupMaxUpdateLength.{GroupMaxUpdateLength as Group}
-use Rattle.calls.specs.declared.group.GroupMaxUpdateLength.TheVariants.{Conflicts as group_conflicts}
+use Rattle.answers.specs.Outcome.{Answer}
+use Rattle.calls.specs.Group.{GroupMaxUpdateLength as Group}
+use Rattle.calls.specs.Group.{Conflicts as group_conflicts}
 use Rattle.calls.specs.Round.{conflicts_of, stops_of, group_of, listed_by, prepared_all, group_length}
 use Rattle.round_list.specs.Asked.{listed_from}
 

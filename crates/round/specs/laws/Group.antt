@@ -12,10 +12,10 @@ use Rattle.graph.specs.Active.{renewed}
 use Rattle.graph.specs.Layout.{state_of}
 use Rattle.graph.specs.Form.{Laid}
 use Rattle.pass.proofs.laws.Prepare.{prepare-passed}
-use Rattle.answers.specs.declared.Answer.{Answer}
+use Rattle.answers.specs.Outcome.{Answer}
 use Rattle.answers.specs.Answer.{Reply, says}
-use Rattle.calls.specs.declared.group.GroupMaxUpdateLength.{GroupMaxUpdateLength as Group}
-use Rattle.calls.specs.declared.group.GroupMaxUpdateLength.TheVariants.{Unlimited as group_unlimited, Conflicts as group_conflicts, Refused as group_refused}
+use Rattle.calls.specs.Group.{GroupMaxUpdateLength as Group}
+use Rattle.calls.specs.Group.{Unlimited as group_unlimited, Conflicts as group_conflicts, Refused as group_refused}
 use Rattle.calls.specs.Refuse.{node_refusal, store_short}
 use Rattle.calls.specs.Calls.{prepare_dual_node_growth}
 use Rattle.calls.specs.Round.{is_free, join_free, answers_of, first_refusal, conflicts_of, stops_of, group_of, listed_by, preparing, prepared_all, group_refusal, group_length}

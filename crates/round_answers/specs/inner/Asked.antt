@@ -7,7 +7,7 @@ use Rattle.graph.specs.Layout.{state_of}
 use Rattle.graph.specs.Form.{Formed}
 use Rattle.graph.specs.inner.Form.{sides_ok}
 use Rattle.graph.specs.inner.Readable.{Readable}
-use Rattle.answers.specs.declared.Answer.{Answer}
+use Rattle.answers.specs.Outcome.{Answer}
 use Rattle.update_length.specs.Scan.{scan}
 use Rattle.calls.specs.Calls.{toward}
 

@@ -9,9 +9,9 @@ use Rattle.graph.specs.Basic.{all, fold, only}
 use Rattle.graph.specs.State.{State}
 use Rattle.graph.specs.laws.Members.{clash}
 use Rattle.active_list.specs.laws.Renewal.{only-snoc}
-use Rattle.answers.specs.declared.Answer.{Answer}
+use Rattle.answers.specs.Outcome.{Answer}
 use Rattle.update_length.specs.Scan.{lesser}
-use Rattle.calls.specs.declared.group.GroupMaxUpdateLength.{GroupMaxUpdateLength as Group}
+use Rattle.calls.specs.Group.{GroupMaxUpdateLength as Group}
 use Rattle.calls.specs.Round.{refusal_of, answers_of, first_refusal, is_free, is_conflict, join_free, conflicts_of}
 use Rattle.round_answers.specs.inner.Asked.{answer_of}
 

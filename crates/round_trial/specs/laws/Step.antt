@@ -15,11 +15,16 @@ use Rattle.pass.specs.Prepare.{prepare_node}
 use Rattle.pass.proofs.laws.Scratch.{scratch-same}
 use Rattle.pass.proofs.laws.Prepare.{prepare-passed}
 use Rattle.growth.specs.Growth.{grow_check}
-use Rattle.answers.specs.declared.Answer.{Answer}
+use Rattle.answers.specs.Outcome.{Answer}
 use Rattle.answers.specs.Answer.{Reply, says}
 use Rattle.calls.specs.Refuse.{node_refusal, store_short}
 use Rattle.calls.specs.Calls.{prepare_dual_node_growth, grow_prepared, grow_toward, toward}
 use Rattle.calls.specs.inner.Reply.{Replies, MemoryPreparable}
+use Rattle.answers.specs.Outcome.{Refused, accepted_as}
+use Rattle.answers.specs.declared.Answer.{Answer as Accepted}
+use Rattle.answers.specs.declared.Answer.TheVariants as Accepts
+use Rattle.refusal.specs.declared.Refusal.{Refusal}
+use Rattle.refusal.specs.Refusal.{number}
 use Rattle.calls.specs.Round.{refusal_of, begun, tried_by, preparing, moving}
 use Rattle.calls.proofs.laws.Accepted.{unless-cases}
 use Rattle.calls.proofs.laws.Phase.{phase-prepare, phase-toward, StillSound, still-prepare, still-toward}
@@ -140,6 +145,19 @@ going_on x l i r b b' t t' g p e =
   where
     count : (l x : ℕ) (c : State) (i : ℕ) → node_count c ≤ node_count (node_call_at l x c i).state
     count l x c i = let e : node_count (node_call_at l x c i).state ≡ node_count c = ap (λ (k : List ℕ). length k) (at_same l x c i).states in omega arith
+
+-- the number of what a call hands back is that of its answer
+pub accepted-number : (a : Accepted) → 0 ≡ refusal_of (accepted_as a)
+unfolding refusal_of
+accepted-number (Accepts.Length m) = refl
+accepted-number Accepts.Done = refl
+accepted-number (Accepts.Node n) = refl
+accepted-number (Accepts.Prepared k) = refl
+accepted-number (Accepts.Vertex v) = refl
+
+pub refused-number : (e : Refusal) → number e ≡ refusal_of (Refused (number e))
+unfolding refusal_of
+refused-number e = refl
 
 -- ---- one call in a block
 

@@ -19,7 +19,7 @@ use Rattle.graph.specs.laws.Members.{both, by-test}
 use Rattle.graph.specs.laws.Scan.{list_at, list-from}
 use Rattle.open_graph.specs.laws.Open.{given-none, edges-count, edges-get}
 use Rattle.open_graph.specs.laws.OpenedBlock.{opened-block}
-use Rattle.sheet.specs.declared.SheetOpened.TheVariants.{Opened, Refused}
+use Rattle.sheet.specs.Outcome.{Opened, Refused}
 use Rattle.sheet.specs.Sheet.{values_from, largest, sheet_ok, vanished, weighed}
 use Rattle.sheet.specs.Called.{ends_ok, sheet_refusal, sheet_answer, sheet_edges, SheetCalled}
 use Rattle.graph.specs.laws.Chains.{same_test}
@@ -179,6 +179,11 @@ module _ (b t : List ℤ) (v e n l : ℕ) (edges sheet virtuals : List ℤ) wher
       let z : eqb refused 0 ≡ false = ne_eqb _ _ (λ q. h (p ∙ q)) in
       record { leaves = record { answer = rw z (ap Refused p); edges_are = rw z refl; block = rw z refl } }
 
+  -- open refuses no edges that are weighed
+  pub weighed-accepted : (edges' : List ℤ) → refused ≡ 0 → edges' ≡ weighed (values_from sheet) edges
+      → open_refusal v e n l (edges_from edges') (virtuals_from virtuals) (fits b t v e n l) ≡ 0
+  weighed-accepted edges' z w = rw w (accepted-by-open v e n l edges sheet virtuals (fits b t v e n l) z)
+
   module _ (edges' b' : List ℤ) where
     -- open was called on the weighed edges
     pub opened-done : (j k : ℕ) → refused ≡ 0 → edges' ≡ weighed (values_from sheet) edges
@@ -187,8 +192,7 @@ module _ (b t : List ℤ) (v e n l : ℕ) (edges sheet virtuals : List ℤ) wher
     unfolding sheet_answer sheet_edges
     opened-done j k z w o q =
         let y : eqb refused 0 ≡ true = eq-eqb _ _ z in
-        let a : open_refusal v e n l (edges_from edges') (virtuals_from virtuals) (fits b t v e n l) ≡ 0 =
-        rw w (accepted-by-open v e n l edges sheet virtuals (fits b t v e n l) z) in
+        let a = weighed-accepted edges' z w in
         record {
           leaves = record {
             answer = rw y (ap Opened q);

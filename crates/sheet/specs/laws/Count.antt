@@ -1,6 +1,6 @@
 -- How many entries pass a test: counted from the front; none; the same by two tests.
 use Prim.Native.Nat.{ℕ, zero, suc, ◌+◌, ◌≤◌, ◌<◌}
-use Rattle.std.proofs.Common.{arith, add-one, sym, drop_of_length-le, drop-cons}
+use Rattle.std.proofs.Common.{arith, add-one, drop_of_length-le, drop-cons}
 use Rattle.std.specs.Prelude.{◌≡◌, Bool, true, false, length, get_or, drop}
 use Rattle.std.proofs.Math.Path.{refl}
 use mathlib.Core.List.{List, [], ◌∷◌}

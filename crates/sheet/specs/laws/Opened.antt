@@ -14,7 +14,7 @@ use Rattle.graph.specs.laws.Members.{by-test}
 use Rattle.graph.specs.laws.Scan.{and-false, list_at, list-from}
 use Rattle.open_graph.specs.laws.Open.{edges-count, edges-get}
 use Rattle.open_graph.specs.laws.OpenedBlock.{opened-block}
-use Rattle.sheet.specs.declared.SheetOpened.TheVariants.{Opened, Refused}
+use Rattle.sheet.specs.Outcome.{Opened, Refused}
 use Rattle.sheet.specs.Weight.{scaled}
 use Rattle.sheet.specs.Sheet.{values_from, largest, vanishes, vanished, sheet_weight, weighed, with_weight}
 use Rattle.sheet.specs.Called.{sheet_refusal, sheet_answer, sheet_edges, SheetLeaves, SheetCalled}

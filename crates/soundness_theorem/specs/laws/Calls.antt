@@ -16,7 +16,7 @@ use Rattle.pass.specs.KeepsSound.{keeps_sound}
 use Rattle.pass.proofs.laws.Passes.{Passed}
 use Rattle.pass.proofs.laws.Prepare.{prepare-passed}
 use Rattle.growth.specs.Growth.{grow_check}
-use Rattle.answers.specs.declared.Answer.{Answer}
+use Rattle.answers.specs.Outcome.{Answer}
 use Rattle.answers.specs.Answer.{Reply, says}
 use Rattle.calls.specs.Refuse.{node_refusal, store_short}
 use Rattle.calls.specs.Each.{set_grow_state, prepare_dual_node_growth, readied, max_update_length, grow_prepared, grow_toward, grow_dual_node, signed_for, follow, advance_by, toward, advance, clear}

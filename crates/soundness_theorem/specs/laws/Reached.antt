@@ -15,7 +15,7 @@ use Rattle.pass.specs.KeepsSound.{own_side, own_vertex, may_go, side_may_go, pas
 use Rattle.pass.proofs.laws.KeepsSound.{passes-more, passes-last}
 use Rattle.pass.proofs.laws.Passes.{Passed}
 use Rattle.pass.proofs.laws.Prepare.{pass_state, one_down, prepare-passed}
-use Rattle.answers.specs.declared.Answer.{Answer}
+use Rattle.answers.specs.Outcome.{Answer}
 use Rattle.calls.specs.Refuse.{node_refusal, store_short}
 use Rattle.calls.specs.Insert.{blossom_refusal, prepare_step}
 use Rattle.calls.specs.Each.{max_update_length, signed_for, toward}

@@ -8,8 +8,7 @@ use Rattle.graph.specs.laws.Members.{by-test, clash}
 use Rattle.table_words.specs.Handed.{handed}
 use Rattle.table_check.specs.Verdict.{right, Right, verdict_by, table_verdict}
 use Rattle.table_refuse.specs.Refuse.{table_refusal}
-use Rattle.table_check.specs.declared.Verdict.{Verdict}
-use Rattle.table_check.specs.declared.Verdict.TheVariants.{Yes, No, Refused}
+use Rattle.table_check.specs.Outcome.{Verdict, Yes, No, Refused}
 use Rattle.table_check.specs.laws.Accepted.{accepted-of}
 use Rattle.table_check.specs.laws.Right.{exactly}
 

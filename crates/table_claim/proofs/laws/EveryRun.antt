@@ -17,8 +17,8 @@ use Rattle.open_graph.specs.laws.OpenedBlock.{opened-length, opened-state, opene
 use Rattle.open_graph.specs.laws.Join.{numbers-plain}
 use Rattle.memory_tests.specs.laws.Whole.{formed-sized, formed-sound}
 use Rattle.answers.specs.Theorems.{same_answer}
-use Rattle.answers.specs.declared.Answer.{Answer}
-use Rattle.answers.specs.declared.Answer.TheVariants.{Done}
+use Rattle.answers.specs.Outcome.{Answer}
+use Rattle.answers.specs.Outcome.{Done}
 use Rattle.answers.specs.Answer.{says}
 use Rattle.calls.specs.Refuse.{unless}
 use Rattle.calls.specs.Calls.{growth_table, max_update_length}

@@ -8,8 +8,7 @@ use Rattle.graph.specs.Opening.{edges_from, virtuals_from, OpenCalled}
 use Rattle.c_api.specs.Words.{answer_numbers, open_answer, Tells}
 use Rattle.c_api.specs.Told.{OpenTold}
 use Rattle.c_api.specs.laws.Words.{told-all}
-use Rattle.sheet.specs.declared.SheetOpened.{SheetOpened}
-use Rattle.sheet.specs.declared.SheetOpened.TheVariants.{Opened, Refused}
+use Rattle.sheet.specs.Outcome.{SheetOpened, Opened, Refused}
 use Rattle.sheet.specs.Called.{SheetCalled}
 use Rattle.c_api_sheet.specs.Told.{sheet_numbers, SheetTold}
 use Rattle.table_claim.specs.Hosted.{SaysOpened, HostExchange, HostSteps, HostRun}

@@ -11,8 +11,8 @@ use Rattle.graph.specs.laws.Members.{by-test, clash}
 use Rattle.gap.specs.declared.Gap.{Gap}
 use Rattle.gap.specs.declared.Gap.TheVariants.{Inner, Over, Left}
 use Rattle.gap.specs.Gap.{edge_gap}
-use Rattle.dual_module_gap.specs.declared.GapAnswer.{GapAnswer}
-use Rattle.dual_module_gap.specs.declared.GapAnswer.TheVariants.{Found, Refused}
+use Rattle.dual_module_gap.specs.Outcome.{GapAnswer}
+use Rattle.dual_module_gap.specs.Outcome.{Found, Refused}
 use Rattle.dual_module_gap.specs.GapRead.{gap_told, GapRead}
 use Rattle.c_api.specs.Words.{answer_numbers, Tells}
 use Rattle.c_api_gap.specs.Told.{found_numbers, gap_numbers, GapTold}

@@ -4,9 +4,10 @@ use Rattle.std.proofs.Common.{arith, sym, ap, subst, eqb-true, leb-true, leb-fal
 use Rattle.graph.specs.Layout.{state_of}
 use Rattle.graph.specs.Open.{Edge}
 use Rattle.graph.specs.laws.Members.{by-test, clash}
-use Rattle.answers.specs.declared.Answer.{Answer}
-use Rattle.answers.specs.declared.Answer.TheVariants.{Done, Refused}
+use Rattle.answers.specs.Outcome.{Answer}
+use Rattle.answers.specs.Outcome.{Done, Refused}
 use Rattle.answers.specs.laws.Numbers.{case-done}
+use Rattle.dual_module_read.specs.Read.{count_told, count_in}
 use Rattle.c_api.specs.Words.{answer_numbers, open_answer, open_numbers, short_list, short_count, Tells, Told}
 use Rattle.table_theorem.specs.Answers.{is_done}
 use Rattle.reachable.specs.Reachable.{after}
@@ -15,8 +16,7 @@ use Rattle.table_claim.specs.Run.{Sizes, calls_of, fed_one, returned, LentRun}
 use Rattle.table_claim.specs.Hosted
 use Rattle.table_claim.specs.Hosted.{SaysDone, Reported, HostStep, fb-open, fb-insert-defect, fb-insert-blossom, fb-set-grow-state, fb-prepare, fb-max-update-length, fb-grow, fb-advance, fb-clear, fb-representative-vertex, fb-read-table, fb-contacts, HostExchange, HostSteps, no_more, one_more, has_room, made, numbers_in, words_in, lent_words, reported, reported_from, HostRun, SaysOpened, fb-open-sheet, fb-renew-active-list, fb-prepare-all, fb-grow-all, fb-remove-blossom, fb-group-max-update-length, fb-read-node, fb-gap, fb-load-edge-modifier}
 use Rattle.table_claim.proofs.laws.Steps.{Whole, Follows, step_follows, step-returns, follows-whole}
-use Rattle.sheet.specs.declared.SheetOpened.{SheetOpened}
-use Rattle.sheet.specs.declared.SheetOpened.TheVariants.{Opened, Refused as SheetRefused}
+use Rattle.sheet.specs.Outcome.{SheetOpened, Opened, Refused as SheetRefused}
 use Rattle.sheet.specs.Called.{SheetCalled}
 use Rattle.c_api_sheet.specs.Told.{sheet_numbers}
 
@@ -105,7 +105,7 @@ host-made (fb-read-table {words' = words'} p) r =
 host-made (fb-contacts {words' = words'} p) r =
     let s = p.told r in
     record {
-      got = returns_count s.answer.answer s.answer.count words';
+      got = returns_count (count_told s.answer) (count_in s.answer) words';
       step = contacts s.says.0 s.says.1;
       tells = s.tells;
       words = refl;

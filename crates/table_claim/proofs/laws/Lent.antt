@@ -5,7 +5,7 @@ use Rattle.std.proofs.Common.{◌∙◌}
 use Rattle.std.proofs.Math.IntN.{pos}
 use Rattle.graph.specs.Open.{Edge}
 use Rattle.graph.specs.Layout.{state_of}
-use Rattle.answers.specs.declared.Answer.TheVariants.{Done}
+use Rattle.answers.specs.Outcome.{Done}
 use Rattle.dual_module_read.specs.Read.{TableRead}
 use Rattle.distance.specs.Graph.{WellFormed}
 use Rattle.distance.specs.Table.{table_from_distances}

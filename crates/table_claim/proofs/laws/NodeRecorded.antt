@@ -14,8 +14,8 @@ use Rattle.graph.specs.laws.Members.{by-test, clash}
 use Rattle.c_api.specs.Words.{Tells, answer_numbers}
 use Rattle.c_api.specs.laws.Words.{tells_as}
 use Rattle.calls.specs.Refuse.{bad_node}
-use Rattle.dual_module_node.specs.declared.NodeRead.{NodeRead}
-use Rattle.dual_module_node.specs.declared.NodeRead.TheVariants.{Defect, Blossom, Refused}
+use Rattle.dual_module_node.specs.Outcome.{NodeRead}
+use Rattle.dual_module_node.specs.Outcome.{Defect, Blossom, Refused}
 use Rattle.dual_module_node.specs.ReadNode.{node_told, read_node, ReadNodeCalled}
 use Rattle.c_api_node.specs.Told.{read_node_numbers, ReadNodeTold}
 use Rattle.table_theorem.specs.History.{History, entry_at, natural}

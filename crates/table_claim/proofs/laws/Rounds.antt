@@ -8,11 +8,11 @@ use Rattle.graph.specs.Layout.{state_of}
 use Rattle.graph.specs.Form.{Formed}
 use Rattle.graph.specs.laws.Members.{by-test, clash}
 use Rattle.answers.specs.Theorems.{same_answer}
-use Rattle.answers.specs.declared.Answer.{Answer}
-use Rattle.answers.specs.declared.Answer.TheVariants.{Refused}
+use Rattle.answers.specs.Outcome.{Answer}
+use Rattle.answers.specs.Outcome.{Refused}
 use Rattle.answers.specs.Answer.{Reply, says}
-use Rattle.calls.specs.declared.group.GroupMaxUpdateLength.{GroupMaxUpdateLength as Group}
-use Rattle.calls.specs.declared.group.GroupMaxUpdateLength.TheVariants.{Refused as group_refused}
+use Rattle.calls.specs.Group.{GroupMaxUpdateLength as Group}
+use Rattle.calls.specs.Group.{Refused as group_refused}
 use Rattle.calls.specs.Refuse.{unless}
 use Rattle.calls.specs.Round.{refusal_of, round, is_refused, GroupReply}
 use Rattle.round_list.specs.Asked.{listed_from}

@@ -11,8 +11,8 @@ use Rattle.graph.specs.Opening.{edges_from, virtuals_from, fits, OpenCalled}
 use Rattle.open_graph.specs.laws.OpenedBlock.{refused-block}
 use Rattle.memory_tests.specs.laws.Whole.{formed-sized, formed-sound, memory-by-length, list-by-length}
 use Rattle.answers.specs.Theorems.{same_answer}
-use Rattle.answers.specs.declared.Answer.{Answer}
-use Rattle.answers.specs.declared.Answer.TheVariants.{Done}
+use Rattle.answers.specs.Outcome.{Answer}
+use Rattle.answers.specs.Outcome.{Done}
 use Rattle.answers.specs.Answer.{Reply, says}
 use Rattle.calls.specs.Refuse.{unless}
 use Rattle.calls.specs.Calls.{Call, InsertDefect, InsertBlossom, SetGrowState, Prepare, UpdateLength, Grow, ReadTable, Advance, Contacts, RepresentativeVertex, Clear, respond, response, contacts as contacts_of, representative_vertex, RenewActiveList, PrepareAll, GroupLength, Round, RemoveBlossom, LoadEdgeModifier}
@@ -33,16 +33,16 @@ use Rattle.dual_module_modifier.specs.Called.{pairs_refusal}
 use Rattle.table_theorem.proofs.laws.Append.{after-append}
 use Rattle.table_claim.specs.Lent.{LentCall, lent_open, Step, open-refused, insert-defect, insert-blossom, set-grow-state, prepare, max-update-length, grow, read_table, advance, contacts, representative-vertex, clear, Returned, opening, returns, Exchange, Steps, none, next, AnySteps, no_call, one-call, one-opening, lent_sheet, sheet-refused, opening_sheet, one-sheet, renew-active-list, prepare-all, group-length, round, remove-blossom, read-node, returns_node, edge-gap, returns_gap, load-edge-modifier}
 use Rattle.table_claim.specs.Run.{Sizes, scratch_fits, list_fits, calls_of, if_fits, fed_one, fed, or_refused, returned, returned_from, SinceOpening, lent_run_from, Begins, with_open, with-sheet, trial_fits, group_fits, pairs_fit}
-use Rattle.sheet.specs.declared.SheetOpened.TheVariants.{Opened}
+use Rattle.sheet.specs.Outcome.{Opened}
 use Rattle.sheet.specs.Theorems.{refused-leaves-all, sheet-opens}
-use Rattle.calls.specs.declared.group.GroupMaxUpdateLength.{GroupMaxUpdateLength as Group}
+use Rattle.calls.specs.Group.{GroupMaxUpdateLength as Group}
 use Rattle.calls.specs.Round.{prepare_all, group_length}
 use Rattle.dual_module_round.specs.Called.{trial_refusal, group_trial_refusal, GroupOnTrial}
-use Rattle.dual_module_node.specs.declared.NodeRead.{NodeRead}
-use Rattle.dual_module_node.specs.declared.NodeRead.TheVariants.{Refused as node_refused}
+use Rattle.dual_module_node.specs.Outcome.{NodeRead}
+use Rattle.dual_module_node.specs.Outcome.{Refused as node_refused}
 use Rattle.dual_module_node.specs.ReadNode.{read_node, read_unless}
-use Rattle.dual_module_gap.specs.declared.GapAnswer.{GapAnswer}
-use Rattle.dual_module_gap.specs.declared.GapAnswer.TheVariants.{Refused as gap_refused}
+use Rattle.dual_module_gap.specs.Outcome.{GapAnswer}
+use Rattle.dual_module_gap.specs.Outcome.{Refused as gap_refused}
 use Rattle.dual_module_gap.specs.GapRead.{gap_told}
 use Rattle.table_claim.proofs.laws.Rounds.{Ends, trial-ends, round-ends, group-answers, group-kept}
 

@@ -1,24 +1,13 @@
-use Rattle.std.proofs.Common.{sym, ◌∙◌}
-use borrow.Author.Tests.{ne_eqb}
 use Rattle.table_file.specs.File.{verdict_text}
 use Rattle.table_file.proofs.text.Goals as goal
 
-pub returns-in-Yes : goal.returns-in-Yes
+pub returns-in-Ok-true : goal.returns-in-Ok-true
 unfolding verdict_text
-returns-in-Yes c = rw c.in-Yes.is
+returns-in-Ok-true c = let r = c.in-Ok-true in rw (r.is, r.field-0-test)
 
-pub returns-in-No : goal.returns-in-No
+pub returns-in-Ok-false : goal.returns-in-Ok-false
 unfolding verdict_text
-returns-in-No c = rw c.in-No.is
+returns-in-Ok-false c = let r = c.in-Ok-false in rw (r.is, r.field-0-test)
 
-pub returns-in-Refused-eq4 : goal.returns-in-Refused-eq4
-unfolding verdict_text
-returns-in-Refused-eq4 c =
-    let r = c.in-Refused-eq4 in
-    rw (r.is, (sym r.field-0-is ∙ r.field-0-test))
-
-pub returns-in-Refused : goal.returns-in-Refused
-unfolding verdict_text
-returns-in-Refused c =
-    let r = c.in-Refused in
-    rw (r.is, ne_eqb r.field-0 4 (λ e. r.field-0-test.1 (r.field-0-is ∙ e)))
+pub returns-in-Err : goal.returns-in-Err
+returns-in-Err c = rw c.in-Err.is c.refused_text.ensures

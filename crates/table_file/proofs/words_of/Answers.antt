@@ -3,7 +3,6 @@ use mathlib.Core.Path.{refl}
 use native.Mathlib.Nat.{mul-le-mul}
 use Prim.Native.Nat.{◌*◌, ◌≤◌}
 use Rattle.table_file.specs.File.{file_words}
-use borrow.Author.Rules.{rules}
 use Rattle.table_file.proofs.words_of.Goals as goal
 
 pub overflow_mul-result-3 : goal.overflow_mul-result-3

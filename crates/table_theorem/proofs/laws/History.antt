@@ -14,8 +14,8 @@ use Rattle.graph.specs.laws.Members.{by-test, clash}
 use Rattle.pass.specs.Prepare.{prepare_node}
 use Rattle.pass.proofs.laws.Passes.{Passed}
 use Rattle.pass.proofs.laws.Prepare.{prepare-passed}
-use Rattle.answers.specs.declared.Answer.{Answer}
-use Rattle.answers.specs.declared.Answer.TheVariants.{Length, Done, Node, Prepared, Refused, Vertex}
+use Rattle.answers.specs.Outcome.{Answer}
+use Rattle.answers.specs.Outcome.{Length, Done, Node, Prepared, Refused, Vertex}
 use Rattle.answers.specs.declared.MaxUpdateLength.TheVariants.{Unlimited}
 use Rattle.answers.specs.laws.Answer.{free-cases, free_other}
 use Rattle.calls.proofs.laws.Follow.{follow-other}

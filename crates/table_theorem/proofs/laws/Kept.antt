@@ -8,8 +8,8 @@ use Rattle.graph.specs.laws.State.{if-both}
 use Rattle.graph.specs.laws.Members.{by-test, clash, any_none}
 use Rattle.pass.specs.Prepare.{prepare_node}
 use Rattle.pass.proofs.laws.Prepare.{prepare-passed}
-use Rattle.answers.specs.declared.Answer.{Answer}
-use Rattle.answers.specs.declared.Answer.TheVariants.{Done}
+use Rattle.answers.specs.Outcome.{Answer}
+use Rattle.answers.specs.Outcome.{Done}
 use Rattle.answers.specs.Answer.{Reply, says}
 use Rattle.calls.proofs.laws.Follow.{follow-cases}
 use Rattle.calls.specs.Refuse.{node_refusal, store_short, unless}

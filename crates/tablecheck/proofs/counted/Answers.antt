@@ -1,5 +1,4 @@
 use Rattle.std.proofs.Common.{sym, ◌∙◌, arith}
-use borrow.Author.Rules.{rules}
 use Rattle.tablecheck.specs.laws.File.{Fits, sizes-fit}
 use Rattle.tablecheck.proofs.counted.Goals as goal
 

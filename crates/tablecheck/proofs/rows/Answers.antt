@@ -1,4 +1,4 @@
-use Rattle.std.proofs.Common.{◌∙◌, ap, arith}
+use Rattle.std.proofs.Common.{arith}
 use borrow.Author.Rules.{rules}
 use Rattle.tablecheck.specs.laws.Read.{so-begun, so-more, so-all}
 use Rattle.tablecheck.proofs.rows.Goals as goal

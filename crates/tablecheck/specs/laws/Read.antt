@@ -11,7 +11,7 @@ use Rattle.table_words.specs.Handed.{row_of}
 use Rattle.table_refuse.specs.Refuse.{sizes_right, lengths_right}
 use Rattle.table_check.specs.Streamed.{Known, begun, advanced, after_rows, ended}
 use Rattle.table_check.specs.Theorems.{row-by-row}
-use Rattle.table_check.specs.declared.Verdict.{Verdict}
+use Rattle.table_check.specs.Outcome.{Verdict}
 use Rattle.tablecheck.specs.File.{RowsRead}
 
 module _ (v e : ℕ) (edges virtuals defects duals growths : List ℤ) where

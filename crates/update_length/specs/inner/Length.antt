@@ -7,6 +7,7 @@ use Rattle.update_length.specs.declared.join.Scan as ScanType
 use Rattle.update_length.specs.declared.join.Scan.TheVariants.{OpenEnded, Within, Over}
 use Rattle.update_length.specs.declared.stop.Peers as PeersType
 use Rattle.update_length.specs.declared.stop.Peers.TheVariants.{NoPeer, Peer, TwoPeers}
+use Rattle.answers.specs.Outcome.{length_told}
 use Rattle.update_length.specs.Scan.{Look, skip, room, meets, Scan, open-ended, within, over, Peers, no_peer, peer, two_peers}
 
 -- ---- lengths
@@ -29,7 +30,7 @@ length_of x = sub_ℕ x zero_length
 unfoldable pub look_of : LookType.Look → Look
 look_of Skip = skip
 look_of (Room x) = room (length_of x)
-look_of (Meets a) = meets a
+look_of (Meets a) = meets (length_told a)
 
 -- the length in it, or 0
 unfoldable pub room_in : LookType.Look → ℕ
@@ -48,7 +49,7 @@ pub record Shows (r : LookType.Look) (l : Look) : Type 0 where
 unfoldable pub scan_of : ScanType.Scan → Scan
 scan_of OpenEnded = open-ended
 scan_of (Within x) = within (length_of x)
-scan_of (Over a) = over a
+scan_of (Over a) = over (length_told a)
 
 -- the length in it, or 0
 unfoldable pub within_in : ScanType.Scan → ℕ

@@ -5,8 +5,11 @@ use Rattle.std.proofs.Math.Decide.{dec_lt}
 use Rattle.std.proofs.Math.Path.{ap}
 use Rattle.std.proofs.Math.IntN.{sub_ℕ}
 use borrow.Author.Tests.{lt-ltb, le-ltb, eq-eqb, ne_eqb, le-leb, lt-leb}
-use Rattle.answers.specs.declared.Answer.{Answer}
-use Rattle.answers.specs.declared.Answer.TheVariants.{Length}
+use Rattle.std.specs.Prelude.{Result}
+use Rattle.answers.specs.Outcome.{length_told}
+use Rattle.answers.specs.declared.MaxUpdateLength.{MaxUpdateLength}
+use Rattle.refusal.specs.declared.Refusal.{Refusal}
+use Rattle.answers.specs.Outcome.{Length}
 use Rattle.answers.specs.declared.MaxUpdateLength.TheVariants.{NonZeroGrow, Unlimited, Conflicting, VertexShrinkStop, VertexShrinkStopPeer}
 use Rattle.update_length.specs.declared.look.Look as LookType
 use Rattle.update_length.specs.declared.look.Look.TheVariants.{Skip, Room, Meets}
@@ -107,7 +110,7 @@ lesser-kept x y =
 
 -- ---- what a scan knows, after one more side
 
-pub over-stays : {r : ScanType.Scan} (l : LookType.Look) {a : Answer} → r ≡ Over a → Knows (Over a) (with_look (scan_of r) (look_of l))
+pub over-stays : {r : ScanType.Scan} (l : LookType.Look) {a : Result MaxUpdateLength Refusal} → r ≡ Over a → Knows (Over a) (with_look (scan_of r) (look_of l))
 unfolding with_look scan_of within_in
 over-stays l e = rw e (record { what = refl; fits = omega arith })
 
@@ -120,7 +123,7 @@ module _ {r : ScanType.Scan} {l : LookType.Look} where
   unfolding with_look scan_of look_of within_in room_in
   open-room e f h = rw (e, f) (record { what = refl; fits = rw f at h })
 
-  pub open-meets : {a : Answer} → r ≡ OpenEnded → l ≡ Meets a → Knows (Over a) (with_look (scan_of r) (look_of l))
+  pub open-meets : {a : Result MaxUpdateLength Refusal} → r ≡ OpenEnded → l ≡ Meets a → Knows (Over a) (with_look (scan_of r) (look_of l))
   unfolding with_look scan_of look_of within_in
   open-meets e f = rw (e, f) (record { what = refl; fits = omega arith })
 
@@ -134,7 +137,7 @@ module _ {r : ScanType.Scan} {l : LookType.Look} where
       let k : y < length_end = rw e at h in
       rw (e, f, m) (record { what = ap within (lesser-kept y x); fits = omega (arith, k) })
 
-  pub within-meets : {y : ℕ} {a : Answer} → r ≡ Within y → l ≡ Meets a → Knows (Over a) (with_look (scan_of r) (look_of l))
+  pub within-meets : {y : ℕ} {a : Result MaxUpdateLength Refusal} → r ≡ Within y → l ≡ Meets a → Knows (Over a) (with_look (scan_of r) (look_of l))
   unfolding with_look scan_of look_of within_in
   within-meets e f = rw (e, f) (record { what = refl; fits = omega arith })
 
@@ -149,7 +152,7 @@ module _ (empty : Bool) {r : ScanType.Scan} where
   unfolding scan_answer scan_of
   answer-within e f = rw (e, f)
 
-  pub answer-over : {a : Answer} → r ≡ Over a → a ≡ scan_answer empty (scan_of r)
+  pub answer-over : {a : Result MaxUpdateLength Refusal} → r ≡ Over a → length_told a ≡ scan_answer empty (scan_of r)
   unfolding scan_answer scan_of
   answer-over e = rw e
 

@@ -7,8 +7,8 @@ use Rattle.graph.specs.Basic.{fold, all, member}
 use Rattle.graph.specs.State.{State, NodeClass, defect_vertex, blossom, removed, opposite, passable, holder_at, end_at, sides_at, growth_at, grow_state_of, class_of, dual_of, boundary_of, overgrown_of, grown_over, weight_over, growing, shrinking, up, down}
 use Rattle.graph.specs.laws.State.{and_left, and_right, if-both, if-cases, fold-keeps}
 use Rattle.graph.specs.laws.Members.{both, by-test, clash, all-member}
-use Rattle.answers.specs.declared.Answer.{Answer}
-use Rattle.answers.specs.declared.Answer.TheVariants.{Length}
+use Rattle.answers.specs.Outcome.{Answer}
+use Rattle.answers.specs.Outcome.{Length}
 use Rattle.answers.specs.Answer.{free_or, is_free}
 use Rattle.answers.specs.laws.Answer.{free-cases, free_other}
 use Rattle.update_length.specs.Scan.{half, is_zero, lesser, Look, skip, room, meets, gap_of, look_peer, look_free, look_held, look_grow, look_shrink, look, Scan, open-ended, within, over, with_look, scan_step, is_empty, scan_answer, scan_boundary, Peers, no_peer, peer, two_peers, stop_step, stop_with, stop_answer, shrink_limit, scan}

@@ -11,7 +11,7 @@ use Rattle.graph.specs.Word.{to_nat, word_at}
 use Rattle.graph.specs.Layout.{class_from, overgrown_from}
 use Rattle.graph.specs.laws.State.{fold-none, fold_more, fold_done, fold-append}
 use Rattle.graph.specs.laws.Number.{word-entry}
-use Rattle.answers.specs.declared.Answer.{Answer}
+use Rattle.answers.specs.Outcome.{Answer}
 use Rattle.answers.specs.declared.MaxUpdateLength.{MaxUpdateLength}
 use Rattle.answers.specs.declared.MaxUpdateLength.TheVariants.{BlossomNeedExpand}
 use Rattle.update_length.specs.declared.look.Look as LookType

@@ -63,8 +63,8 @@ returns-then-store_short_new c =
     defect-refusal-9 (state_of a.b.now) a.v a.x (listed c.before.before.before.before.before.before.before) (vacant c.before.before.before.before.before) (fits c.before.before)
     (sym c.store_short_new.ensures ∙ c.if-store_short_new.true)
 
-pub returns-else-store_short_new : goal.returns-else-store_short_new
-returns-else-store_short_new c =
+pub returns : goal.returns
+returns c =
     let a = c.args in
     defect-refusal-0 (state_of a.b.now) a.v a.x (listed c.before.before.before.before.before.before.before) (vacant c.before.before.before.before.before) (fits c.before.before)
     (sym c.store_short_new.ensures ∙ c.if-store_short_new.false)

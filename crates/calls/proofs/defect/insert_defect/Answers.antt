@@ -1,20 +1,24 @@
+use Rattle.std.proofs.lemmas.Result.{err_from_is_err_and}
+use Rattle.refusal.specs.Refusal.{number-some}
 use mathlib.Core.Path.{refl}
 use Rattle.calls.proofs.laws.Defect.{defect-refused, defect-inside, defect-small, defect-count-left, defect-class-small, defect-state-small, defect-read, defect-room, defect-joins, defect-done, defect-wiped}
 use Rattle.calls.proofs.defect.insert_defect.Goals as goal
 
-pub returns-then-k-ne0 : goal.returns-then-k-ne0
-returns-then-k-ne0 c =
-    (defect-refused c.requires c.args.v c.args.x _ c.defect_refusal-k.ensures c.if-k-ne0.true, refl)
+pub returns-in_err-defect_refusal : goal.returns-in_err-defect_refusal
+returns-in_err-defect_refusal c =
+    let p = err_from_is_err_and c.from_residual.result c.from_residual.ensures.1 in
+    rw (p.1, p.2)
+    ((defect-refused c.requires c.args.v c.args.x _ c.in_err-defect_refusal.ensures (number-some _), refl))
 
 pub hold_defect-l-requires : goal.hold_defect-l-requires
-hold_defect-l-requires c = let e = c.defect_refusal-k.ensures in
-    let z = c.if-k-ne0.false in
+hold_defect-l-requires c = let e = c.in_ok-defect_refusal.ensures in
+    let z = refl in
     let en = c.node_count-n.ensures.0 in
     (c.requires.formed, defect-inside c.requires c.args.v c.args.x _ e z, rw en (defect-small c.requires c.args.v c.args.x _ e z), c.requires.scratch)
 
 pub push_node-requires : goal.push_node-requires
-push_node-requires c = let e = c.defect_refusal-k.ensures in
-    let z = c.if-k-ne0.false in
+push_node-requires c = let e = c.in_ok-defect_refusal.ensures in
+    let z = refl in
     let en = c.node_count-n.ensures.0 in
     let r = c.hold_defect-l in
     let f = r.ensures in (
@@ -27,8 +31,8 @@ push_node-requires c = let e = c.defect_refusal-k.ensures in
     )
 
 pub join-requires : goal.join-requires
-join-requires c = let e = c.defect_refusal-k.ensures in
-    let z = c.if-k-ne0.false in
+join-requires c = let e = c.in_ok-defect_refusal.ensures in
+    let z = refl in
     let en = c.node_count-n.ensures.0 in
     let r = c.hold_defect-l in
     let f = r.ensures in
@@ -37,9 +41,9 @@ join-requires c = let e = c.defect_refusal-k.ensures in
 pub returns : goal.returns
 returns c =
     let e =
-    c.defect_refusal-k.ensures in
+    c.in_ok-defect_refusal.ensures in
     let z =
-    c.if-k-ne0.false in
+    refl in
     let en =
     c.node_count-n.ensures.0 in
     let r = c.hold_defect-l in

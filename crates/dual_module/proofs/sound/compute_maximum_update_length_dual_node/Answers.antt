@@ -1,3 +1,7 @@
+use Rattle.std.proofs.Common.{ap}
+use Rattle.answers.specs.Outcome.{told}
+use Rattle.std.proofs.Common.{refl}
+use Rattle.refusal.specs.Refusal.{number-some}
 use mathlib.Core.Path.{◌∙◌}
 use Rattle.std.specs.Prelude.{true}
 use Rattle.graph.specs.Layout.{state_of}
@@ -9,20 +13,20 @@ use Rattle.calls.proofs.laws.Keeps.{length-refused-passes, length-plain-passes}
 use borrow.Author.Rules.{rules}
 use Rattle.dual_module.proofs.sound.compute_maximum_update_length_dual_node.Goals as goal
 
-pub node_refusal-j-requires : goal.node_refusal-j-requires
-node_refusal-j-requires c =
+pub node_refusal-requires : goal.node_refusal-requires
+node_refusal-requires c =
     (memory-accepted c.args.b.now c.args.t.now c.requires.0).formed
 
-pub returns-then-j-ne0 : goal.returns-then-j-ne0
-returns-then-j-ne0 c =
-    let e = c.node_refusal-j.ensures in
+pub returns-in-Err : goal.returns-in-Err
+returns-in-Err c =
+    let e = c.in-Err.ensures in
     let f = c.if-first.true in
-    known_same c.args.b.now c.args.t.now c.requires.0 c.as_before.ensures c.requires.1
-    (length-writes (state_of c.args.b.now) c.args.n c.args.d f ∙ test-not e c.if-j-ne0.true)
-    (rw f (length-refused-passes (state_of c.args.b.now) c.args.n c.args.d _ e c.if-j-ne0.true))
+    known_same c.args.b.now c.args.t.now c.requires.0 (ap told c.as_before.ensures.0, c.as_before.ensures.1, c.as_before.ensures.2) c.requires.1
+    (length-writes (state_of c.args.b.now) c.args.n c.args.d f ∙ test-not e (number-some _))
+    (rw f (length-refused-passes (state_of c.args.b.now) c.args.n c.args.d _ e (number-some _)))
     (rw f
     (length-refused (memory-accepted c.args.b.now c.args.t.now c.requires.0).formed c.args.n c.args.d _ true e
-    c.if-j-ne0.true))
+    (number-some _)))
 
 pub length_prepared-requires : goal.length_prepared-requires
 length_prepared-requires c =
@@ -32,9 +36,9 @@ pub returns-then-first : goal.returns-then-first
 returns-then-first c =
     let p = c.length_prepared.ensures in
     let f = c.if-first.true in
-    known-done c.args.b.now c.args.t.now c.requires.0 c.after_core.ensures
+    known-done c.args.b.now c.args.t.now c.requires.0 (ap told c.after_core.ensures.0, c.after_core.ensures.1, c.after_core.ensures.2)
     (length-writes (state_of c.args.b.now) c.args.n c.args.d f
-    ∙ test-so c.node_refusal-j.ensures c.if-j-ne0.false)
+    ∙ test-so c.in_default.ensures refl)
     c.clear_unless.ensures p.1 (rw f p.3) (rw f p.0)
 
 pub length_unprepared-requires : goal.length_unprepared-requires
@@ -45,6 +49,6 @@ length_unprepared-requires c =
 pub returns : goal.returns
 returns c =
     let f = c.if-first.false in
-    known_same c.args.b.now c.args.t.now c.requires.0 c.as_before-2.ensures c.requires.1
+    known_same c.args.b.now c.args.t.now c.requires.0 (ap told c.as_before-2.ensures.0, c.as_before-2.ensures.1, c.as_before-2.ensures.2) c.requires.1
     (length-still (state_of c.args.b.now) c.args.n c.args.d f)
     (rw f (length-plain-passes (state_of c.args.b.now) c.args.n c.args.d)) (rw f c.length_unprepared.ensures)

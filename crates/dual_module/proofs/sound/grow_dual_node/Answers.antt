@@ -1,3 +1,6 @@
+use Rattle.answers.specs.Outcome.{told}
+use Rattle.std.proofs.Common.{refl}
+use Rattle.refusal.specs.Refusal.{number-some}
 use Rattle.std.specs.Prelude.{◌≡◌, ◌≢◌, nat_abs}
 use mathlib.Core.Path.{sym, ap, ◌∙◌}
 use mir.Facts.{to_z-of_z}
@@ -17,25 +20,25 @@ pub returns-then-magnitude-eq0 : goal.returns-then-magnitude-eq0
 returns-then-magnitude-eq0 c =
     let q : nat_abs c.args.length ≡ 0 =
     sym (c.magnitude.ensures.0 ∙ ap nat_abs (to_z-of_z c.ranges.length)) ∙ c.if-magnitude-eq0.true in
-    known_same c.args.b.now c.args.t.now c.requires.0 c.as_before.ensures c.requires.1
+    known_same c.args.b.now c.args.t.now c.requires.0 (ap told c.as_before.ensures.0, c.as_before.ensures.1, c.as_before.ensures.2) c.requires.1
     (grow-still (state_of c.args.b.now) c.args.n c.args.length q)
     (grow-none-passes (state_of c.args.b.now) c.args.n c.args.length q)
     (rw (to_z-of_z c.ranges.length, along-up c.args.length) at c.grow_none.ensures)
 
-pub node_refusal-j-requires : goal.node_refusal-j-requires
-node_refusal-j-requires c =
+pub node_refusal-requires : goal.node_refusal-requires
+node_refusal-requires c =
     (memory-accepted c.args.b.now c.args.t.now c.requires.0).formed
 
-pub returns-then-j-ne0 : goal.returns-then-j-ne0
-returns-then-j-ne0 c =
-    let e = c.node_refusal-j.ensures in
+pub returns-in-Err : goal.returns-in-Err
+returns-in-Err c =
+    let e = c.in-Err.ensures in
     let q : nat_abs c.args.length ≢ 0 =
     λ q. c.if-magnitude-eq0.false
     (c.magnitude.ensures.0 ∙ ap nat_abs (to_z-of_z c.ranges.length) ∙ q) in
-    known_same c.args.b.now c.args.t.now c.requires.0 c.as_before-then-j-ne0.ensures c.requires.1
-    (grow-writes (state_of c.args.b.now) c.args.n c.args.length q ∙ test-not e c.if-j-ne0.true)
-    (grow-refused-passes (state_of c.args.b.now) c.args.n _ e c.if-j-ne0.true c.args.length)
-    (grow-refused (memory-accepted c.args.b.now c.args.t.now c.requires.0).formed c.args.n _ e c.if-j-ne0.true
+    known_same c.args.b.now c.args.t.now c.requires.0 (ap told c.as_before-in-Err.ensures.0, c.as_before-in-Err.ensures.1, c.as_before-in-Err.ensures.2) c.requires.1
+    (grow-writes (state_of c.args.b.now) c.args.n c.args.length q ∙ test-not e (number-some _))
+    (grow-refused-passes (state_of c.args.b.now) c.args.n _ e (number-some _) c.args.length)
+    (grow-refused (memory-accepted c.args.b.now c.args.t.now c.requires.0).formed c.args.n _ e (number-some _)
     c.args.length q)
 
 pub grow_dual_node-requires : goal.grow_dual_node-requires
@@ -48,8 +51,8 @@ returns c =
     let q : nat_abs c.args.length ≢ 0 =
     λ q. c.if-magnitude-eq0.false
     (c.magnitude.ensures.0 ∙ ap nat_abs (to_z-of_z c.ranges.length) ∙ q) in
-    known-done c.args.b.now c.args.t.now c.requires.0 c.after_core.ensures
+    known-done c.args.b.now c.args.t.now c.requires.0 (ap told c.after_core.ensures.0, c.after_core.ensures.1, c.after_core.ensures.2)
     (grow-writes (state_of c.args.b.now) c.args.n c.args.length q
-    ∙ test-so c.node_refusal-j.ensures c.if-j-ne0.false)
+    ∙ test-so c.in_default.ensures refl)
     c.clear_unless.ensures p.1 (rw (to_z-of_z c.ranges.length) at p.2)
     (rw (to_z-of_z c.ranges.length) at p.0)

@@ -1,3 +1,7 @@
+use Rattle.std.proofs.Common.{ap}
+use Rattle.answers.specs.Outcome.{told}
+use Rattle.std.proofs.Common.{refl}
+use Rattle.refusal.specs.Refusal.{number-some}
 use Rattle.graph.specs.Layout.{state_of}
 use Rattle.memory_tests.specs.laws.Memory.{memory-accepted}
 use Rattle.dual_module.specs.Called.{prepare_writes}
@@ -8,18 +12,18 @@ use Rattle.calls.proofs.laws.Keeps.{prepare-refused-passes}
 use borrow.Author.Rules.{rules}
 use Rattle.dual_module.proofs.sound.prepare_dual_node_growth.Goals as goal
 
-pub node_refusal-j-requires : goal.node_refusal-j-requires
-node_refusal-j-requires c =
+pub node_refusal-requires : goal.node_refusal-requires
+node_refusal-requires c =
     (memory-accepted c.args.b.now c.args.t.now c.requires.0).formed
 
-pub returns-then-j-ne0 : goal.returns-then-j-ne0
+pub returns-in-Err : goal.returns-in-Err
 unfolding prepare_writes
-returns-then-j-ne0 c =
-    let e = c.node_refusal-j.ensures in
-    known_same c.args.b.now c.args.t.now c.requires.0 c.as_before.ensures c.requires.1
-    (test-not e c.if-j-ne0.true)
-    (prepare-refused-passes (state_of c.args.b.now) c.args.n c.args.d _ e c.if-j-ne0.true)
-    (prepare-refused (memory-accepted c.args.b.now c.args.t.now c.requires.0).formed c.args.n c.args.d _ e c.if-j-ne0.true)
+returns-in-Err c =
+    let e = c.in-Err.ensures in
+    known_same c.args.b.now c.args.t.now c.requires.0 (ap told c.as_before.ensures.0, c.as_before.ensures.1, c.as_before.ensures.2) c.requires.1
+    (test-not e (number-some _))
+    (prepare-refused-passes (state_of c.args.b.now) c.args.n c.args.d _ e (number-some _))
+    (prepare-refused (memory-accepted c.args.b.now c.args.t.now c.requires.0).formed c.args.n c.args.d _ e (number-some _))
 
 pub prepare_dual_node_growth-requires : goal.prepare_dual_node_growth-requires
 prepare_dual_node_growth-requires c =
@@ -29,5 +33,5 @@ pub returns : goal.returns
 unfolding prepare_writes
 returns c =
     let p = c.prepare_dual_node_growth.ensures in
-    known-done c.args.b.now c.args.t.now c.requires.0 c.after_core.ensures (test-so c.node_refusal-j.ensures c.if-j-ne0.false)
+    known-done c.args.b.now c.args.t.now c.requires.0 (ap told c.after_core.ensures.0, c.after_core.ensures.1, c.after_core.ensures.2) (test-so c.in_default.ensures refl)
     c.clear_unless.ensures p.1 p.2 p.0

@@ -1,3 +1,5 @@
+use Rattle.std.proofs.lemmas.Result.{err_from_is_err_and}
+use Rattle.refusal.specs.Refusal.{number-some}
 use mathlib.Core.Path.{refl}
 use Rattle.memory_tests.specs.laws.Memory.{memory-accepted}
 use Rattle.dual_module.specs.Called.{state_writes}
@@ -6,16 +8,18 @@ use Rattle.calls.proofs.laws.Replies.{set-refused}
 use borrow.Author.Rules.{rules}
 use Rattle.dual_module.proofs.sound.set_grow_state.Goals as goal
 
-pub node_refusal-j-requires : goal.node_refusal-j-requires
-node_refusal-j-requires c =
+pub node_refusal-requires : goal.node_refusal-requires
+node_refusal-requires c =
     (memory-accepted c.args.b.now c.args.t.now c.requires).formed
 
-pub returns-then-j-ne0 : goal.returns-then-j-ne0
-returns-then-j-ne0 c =
-    let e = c.node_refusal-j.ensures in
+pub returns-in_err-node_refusal : goal.returns-in_err-node_refusal
+returns-in_err-node_refusal c =
+    let p = err_from_is_err_and c.from_residual.result c.from_residual.ensures.1 in
+    rw (p.1, p.2)
+    (let e = c.in_err-node_refusal.ensures in
     call_same refl c.requires c.args.b.now
     (set-refused c.args.b.now c.args.n c.args.x _ e
-    (memory-accepted c.args.b.now c.args.t.now c.requires).formed c.if-j-ne0.true)
+    (memory-accepted c.args.b.now c.args.t.now c.requires).formed (number-some _)))
 
 pub set_grow_state-requires : goal.set_grow_state-requires
 set_grow_state-requires c =
@@ -26,4 +30,4 @@ pub returns : goal.returns
 unfolding state_writes
 returns c =
     call-done refl c.requires c.args.b.now
-    (test-so c.node_refusal-j.ensures c.if-j-ne0.false) c.set_grow_state.ensures
+    (test-so c.in_ok-node_refusal.ensures refl) c.set_grow_state.ensures

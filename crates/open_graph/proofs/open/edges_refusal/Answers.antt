@@ -2,10 +2,10 @@ use mathlib.Core.Path.{sym, ◌∙◌}
 use Rattle.open_graph.specs.inner.Refusals.{refusal_of_edges}
 use Rattle.open_graph.proofs.open.edges_refusal.Goals as goal
 
-pub returns-then-edges_ok : goal.returns-then-edges_ok
+pub returns-then-not-edges_ok : goal.returns-then-not-edges_ok
 unfolding refusal_of_edges
-returns-then-edges_ok c = rw (sym c.edges_ok.ensures ∙ c.if-edges_ok.true)
+returns-then-not-edges_ok c = rw (sym c.edges_ok.ensures ∙ c.if-not-edges_ok.true)
 
-pub returns-else-edges_ok : goal.returns-else-edges_ok
+pub returns : goal.returns
 unfolding refusal_of_edges
-returns-else-edges_ok c = rw (sym c.edges_ok.ensures ∙ c.if-edges_ok.false)
+returns c = rw (sym c.edges_ok.ensures ∙ c.if-not-edges_ok.false)

@@ -8,8 +8,8 @@ use Rattle.graph.specs.laws.Members.{by-test}
 use Rattle.graph.specs.Open.{Edge, blank_state, opened, with_originals, cleared, open_refusal}
 use Rattle.graph.specs.laws.Opened.{get_d-zeros}
 use Rattle.pass.proofs.laws.Passes.{Passed}
-use Rattle.answers.specs.declared.Answer.{Answer}
-use Rattle.answers.specs.declared.Answer.TheVariants.{Done}
+use Rattle.answers.specs.Outcome.{Answer}
+use Rattle.answers.specs.Outcome.{Done}
 use Rattle.answers.specs.Answer.{Reply, says}
 use Rattle.calls.proofs.laws.Follow.{follow-cases}
 use Rattle.calls.specs.Refuse.{node_refusal, store_short, unless}

@@ -7,7 +7,7 @@ use Rattle.graph.specs.Basic.{any, member}
 use Rattle.graph.specs.State.{State, removed, node_count, class_of, shrinking, up}
 use Rattle.graph.specs.Sound.{is_removed}
 use Rattle.graph.specs.laws.Members.{by-test, clash, or_right, none-member}
-use Rattle.answers.specs.declared.Answer.TheVariants.{Refused}
+use Rattle.answers.specs.Outcome.{Refused}
 use Rattle.answers.specs.Answer.{Reply, says}
 use Rattle.calls.specs.Refuse.{bad_node, store_short, node_refusal, unless}
 use Rattle.calls.specs.Insert.{insert_blossom, blossom_refusal}

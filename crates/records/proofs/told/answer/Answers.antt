@@ -1,41 +1,19 @@
-use native.Mathlib.Omega.{arith}
-use mathlib.Core.Path.{sym, ap}
+use mathlib.Core.Path.{sym, ap, ◌∙◌}
+use mathlib.Core.List.{◌∷◌, [], ◌++◌}
+use Rattle.answers.specs.Outcome.{told}
 use Rattle.records.specs.Text.{ascii, spaced}
 use Rattle.records.specs.Lines.{line, words_of}
 use Rattle.records.specs.laws.Write.{told-as}
 use borrow.Author.Rules.{rules}
 use Rattle.records.proofs.told.answer.Goals as goal
 
-pub tell-requires : goal.tell-requires
-unfolding spaced
-tell-requires c = (search rules, omega arith)
+pub returns-in-Ok : goal.returns-in-Ok
+returns-in-Ok c =
+    told-as c.accepted.ensures (ap (λ a. line c.args.k (words_of (told a))) (sym c.in-Ok.is))
 
-pub returns-in-Length : goal.returns-in-Length
-unfolding words_of
-returns-in-Length c =
-    told-as c.length.ensures (ap (λ a. line c.args.k (words_of a)) (sym c.in-Length.is))
-
-pub returns-in-Done : goal.returns-in-Done
+pub returns-in-Err : goal.returns-in-Err
 unfolding words_of ascii spaced
-returns-in-Done c =
-    told-as c.tell.ensures (ap (λ a. line c.args.k (words_of a)) (sym c.in-Done.is))
-
-pub returns-in-Node : goal.returns-in-Node
-unfolding words_of ascii spaced
-returns-in-Node c =
-    told-as c.tell_one.ensures (ap (λ a. line c.args.k (words_of a)) (sym c.in-Node.is))
-
-pub returns-in-Prepared : goal.returns-in-Prepared
-unfolding words_of ascii spaced
-returns-in-Prepared c =
-    told-as c.tell_one-in-Prepared.ensures (ap (λ a. line c.args.k (words_of a)) (sym c.in-Prepared.is))
-
-pub returns-in-Vertex : goal.returns-in-Vertex
-unfolding words_of ascii spaced
-returns-in-Vertex c =
-    told-as c.tell_one-in-Vertex.ensures (ap (λ a. line c.args.k (words_of a)) (sym c.in-Vertex.is))
-
-pub returns-in-Refused : goal.returns-in-Refused
-unfolding words_of ascii spaced
-returns-in-Refused c =
-    told-as c.tell_one-in-Refused.ensures (ap (λ a. line c.args.k (words_of a)) (sym c.in-Refused.is))
+returns-in-Err c =
+    told-as c.tell_one.ensures
+    (ap (λ n. line c.args.k (ascii "refused" ++ spaced (n ∷ []))) c.number.ensures
+    ∙ ap (λ a. line c.args.k (words_of (told a))) (sym c.in-Err.is))

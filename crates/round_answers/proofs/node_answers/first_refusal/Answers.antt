@@ -1,4 +1,8 @@
 use Rattle.round_answers.specs.laws.Answers.{refusal-here, refusal-more, refusal-none}
+use Rattle.std.proofs.lemmas.Result.{err_from_is_err_and}
+use Rattle.refusal.specs.Refusal.{number-some}
+use Rattle.answers.specs.declared.Answer.TheVariants.{Length}
+use Rattle.round_trial.specs.laws.Step.{accepted-number, refused-number}
 use Rattle.calls.specs.Round.{refusal_of}
 use mathlib.Core.Path.{ap, ◌∙◌, refl}
 use Rattle.graph.specs.Layout.{state_of}
@@ -8,20 +12,22 @@ use Rattle.round_answers.proofs.node_answers.first_refusal.Goals as goal
 pub loop-i-init : goal.loop-i-init
 loop-i-init c = refl
 
-pub returns-then-r-ne0 : goal.returns-then-r-ne0
-returns-then-r-ne0 c =
-    refusal-here (state_of c.args.b.now)
+pub returns-in_err-answer_at : goal.returns-in_err-answer_at
+returns-in_err-answer_at c =
+    let p = err_from_is_err_and c.from_residual.result c.from_residual.ensures.1 in
+    rw (p.1, p.2)
+    (refusal-here (state_of c.args.b.now)
     (state_of c.args.b.now).active
     c.loop-i.i c.loop-i.invariant (omega arith) _
-    (c.refusal_of-r.ensures ∙ ap refusal_of c.answer_at.ensures) c.if-r-ne0.true
+    (refused-number _ ∙ ap refusal_of c.in_err-answer_at.ensures) (number-some _))
 
 pub loop-i-preserved : goal.loop-i-preserved
 loop-i-preserved c =
     refusal-more (state_of c.args.b.now)
     (state_of c.args.b.now).active
     c.loop-i.i c.loop-i.invariant (omega arith)
-    c.refusal_of-r.result (c.refusal_of-r.ensures ∙ ap refusal_of c.answer_at.ensures)
-    c.if-r-ne0.false
+    0 (accepted-number (Length _) ∙ ap refusal_of c.in_ok-answer_at.ensures)
+    refl
 
 pub returns : goal.returns
 returns c =

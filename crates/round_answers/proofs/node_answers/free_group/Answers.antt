@@ -1,5 +1,5 @@
 use Rattle.round_answers.specs.laws.Answers.{group-more, group-all}
-use Rattle.calls.specs.declared.group.GroupMaxUpdateLength.TheVariants.{Unlimited as group_unlimited}
+use Rattle.calls.specs.Group.{found_as, Unlimited as group_unlimited}
 use Rattle.graph.specs.Layout.{state_of}
 use mathlib.Core.Bool.{false}
 use mathlib.Core.Path.{refl}
@@ -14,10 +14,10 @@ loop-i-preserved c =
     rw (c.join_free-g.ensures, c.answer_at.ensures)
     (group-more (state_of c.args.b.now)
     (state_of c.args.b.now).active c.loop-i.i
-    c.loop-i.g (group_unlimited false) c.loop-i.invariant (omega arith))
+    (found_as c.loop-i.g) (group_unlimited false) c.loop-i.invariant (omega arith))
 
 pub returns : goal.returns
 returns c =
     group-all (state_of c.args.b.now)
-    (state_of c.args.b.now).active c.loop-i.i c.loop-i.g
+    (state_of c.args.b.now).active c.loop-i.i (found_as c.loop-i.g)
     (group_unlimited false) c.loop-i.invariant (omega arith)

@@ -1,5 +1,5 @@
 use mathlib.Core.Path.{sym, ap}
-use Rattle.answers.specs.declared.Answer.TheVariants.{Length}
+use Rattle.answers.specs.Outcome.{Length}
 use Rattle.answers.specs.Answer.{is_free}
 use Rattle.round_answers.proofs.node_answers.is_free_length.Goals as goal
 

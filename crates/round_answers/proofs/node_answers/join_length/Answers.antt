@@ -1,3 +1,4 @@
+use Rattle.calls.specs.Group.{found_as}
 use mir.Syntax.{w64}
 use borrow.Author.Rules.{sfits_of}
 use Rattle.calls.specs.Round.{join_length}
@@ -15,20 +16,16 @@ returns-in-NonZeroGrow c =
           (sfits_of (rw c.in-NonZeroGrow.is at c.well_formed.0).1.1.1.1.0.1),
       to_z-of_z c.ranges.k,
     )
-    (ap (λ g. join_length g c.args.k c.args.f)
+    (ap (λ g. join_length (found_as g) c.args.k c.args.f)
     (sym c.in-NonZeroGrow.is))
 
 pub returns-in-Unlimited : goal.returns-in-Unlimited
 unfolding join_length
 returns-in-Unlimited c =
     rw (to_z-of_z c.ranges.k)
-    (ap (λ g. join_length g c.args.k c.args.f)
+    (ap (λ g. join_length (found_as g) c.args.k c.args.f)
     (sym c.in-Unlimited.is))
 
 pub returns-in-Conflicts : goal.returns-in-Conflicts
 unfolding join_length
-returns-in-Conflicts c = ap (λ g. join_length g c.args.k c.args.f) (sym c.in-Conflicts.is)
-
-pub returns-in-Refused : goal.returns-in-Refused
-unfolding join_length
-returns-in-Refused c = ap (λ g. join_length g c.args.k c.args.f) (sym c.in-Refused.is)
+returns-in-Conflicts c = ap (λ g. join_length (found_as g) c.args.k c.args.f) (sym c.in-Conflicts.is)

@@ -1,3 +1,4 @@
+use Rattle.calls.specs.Group.{found_as}
 use mir.Syntax.{w64}
 use borrow.Author.Rules.{sfits_of}
 use mir.Facts.{to_z-of_z}
@@ -9,16 +10,12 @@ pub returns-in-NonZeroGrow : goal.returns-in-NonZeroGrow
 unfolding join_unlimited
 returns-in-NonZeroGrow c =
     rw (to_z-of_z {w = w64} (sfits_of (rw c.in-NonZeroGrow.is at c.well_formed.0).1.1.1.1.0.1))
-    (ap (λ g. join_unlimited g c.args.f) (sym c.in-NonZeroGrow.is))
+    (ap (λ g. join_unlimited (found_as g) c.args.f) (sym c.in-NonZeroGrow.is))
 
 pub returns-in-Unlimited : goal.returns-in-Unlimited
 unfolding join_unlimited
-returns-in-Unlimited c = ap (λ g. join_unlimited g c.args.f) (sym c.in-Unlimited.is)
+returns-in-Unlimited c = ap (λ g. join_unlimited (found_as g) c.args.f) (sym c.in-Unlimited.is)
 
 pub returns-in-Conflicts : goal.returns-in-Conflicts
 unfolding join_unlimited
-returns-in-Conflicts c = ap (λ g. join_unlimited g c.args.f) (sym c.in-Conflicts.is)
-
-pub returns-in-Refused : goal.returns-in-Refused
-unfolding join_unlimited
-returns-in-Refused c = ap (λ g. join_unlimited g c.args.f) (sym c.in-Refused.is)
+returns-in-Conflicts c = ap (λ g. join_unlimited (found_as g) c.args.f) (sym c.in-Conflicts.is)

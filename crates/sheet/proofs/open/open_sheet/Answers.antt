@@ -1,32 +1,34 @@
-use mathlib.Core.Path.{◌≡◌, sym, ◌∙◌}
+use mathlib.Core.Path.{sym, ◌∙◌}
 use native.Mathlib.Omega.{arith}
-use Rattle.graph.specs.Opening.{fits}
-use Rattle.sheet.specs.Called.{sheet_refusal}
-use Rattle.sheet.specs.laws.Called.{sheet-accepted, refused-done, opened-done}
-use Rattle.sheet.proofs.open.open_sheet.Goals.{Else-k-ne0}
+use Rattle.std.proofs.lemmas.Result.{err_from_is_err_and}
+use Rattle.refusal.specs.Refusal.{number-some}
+use Rattle.sheet.specs.laws.Called.{sheet-accepted, refused-done, opened-done, weighed-accepted}
 use Rattle.sheet.proofs.open.open_sheet.Goals as goal
 
--- where the opening goes on, nothing refuses it
-
-none : (c : Else-k-ne0) → let a = c.args in
-    sheet_refusal a.v a.e a.n a.l a.edges.now a.sheet.now a.virtuals.now
-    (fits a.b.now a.t.now a.v a.e a.n a.l) ≡ 0
-none c = sym c.refusal-k.ensures ∙ c.if-k-ne0.false
-
-pub returns-then-k-ne0 : goal.returns-then-k-ne0
-returns-then-k-ne0 c =
+pub returns-in_err-refusal : goal.returns-in_err-refusal
+returns-in_err-refusal c =
     let a = c.args in
-    refused-done a.b.now a.t.now a.v a.e a.n a.l a.edges.now a.sheet.now a.virtuals.now _
-    c.refusal-k.ensures c.if-k-ne0.true
+    let p = err_from_is_err_and c.from_residual.result c.from_residual.ensures.1 in
+    rw (p.1, p.2)
+    (refused-done a.b.now a.t.now a.v a.e a.n a.l a.edges.now a.sheet.now a.virtuals.now _ c.in_err-refusal.ensures (number-some _))
 
 pub weigh-requires : goal.weigh-requires
-weigh-requires c = let p = sheet-accepted _ _ _ _ _ _ _ _ (none c.before) in (p.values-ok, omega arith)
+weigh-requires c = let p = sheet-accepted _ _ _ _ _ _ _ _ (sym c.in_ok-refusal.ensures) in (p.values-ok, omega arith)
+
+-- open refuses no edges that got their weights
+pub returns-in_err-open : goal.returns-in_err-open
+returns-in_err-open c =
+    let a = c.args in
+    absurd
+    (number-some _
+    (c.in_err-open.ensures.0
+    ∙ weighed-accepted a.b.now a.t.now a.v a.e a.n a.l a.edges.now a.sheet.now a.virtuals.now _ (sym c.in_ok-refusal.ensures) c.weigh.ensures))
 
 pub vanished-requires : goal.vanished-requires
-vanished-requires c = (sheet-accepted _ _ _ _ _ _ _ _ (none c.before.before.before.before.before.before)).values-ok
+vanished-requires c = (sheet-accepted _ _ _ _ _ _ _ _ (sym c.in_ok-refusal.ensures)).values-ok
 
 pub returns : goal.returns
 returns c =
     let a = c.args in
     opened-done a.b.now a.t.now a.v a.e a.n a.l a.edges.now a.sheet.now a.virtuals.now _ _ _ _
-    (none c.before.before.before.before.before.before.before) c.weigh.ensures c.«open».ensures c.vanished.ensures
+    (sym c.in_ok-refusal.ensures) c.weigh.ensures c.in_ok-open.ensures c.vanished.ensures

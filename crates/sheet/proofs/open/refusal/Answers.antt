@@ -69,12 +69,12 @@ returns-then-not-edges-e c =
     rw (← c.ends_ok.ensures) c.if-not-edges-e.true in
     rw (sized c.before.before.before.before.before.before, fitting c.before.before.before.before, vertices c.before.before, z)
 
-pub returns-then-sheet_ok : goal.returns-then-sheet_ok
+pub returns : goal.returns
 unfolding sheet_refusal
-returns-then-sheet_ok c =
-    rw (sized c.before.before.before.before.before.before.before.before, fitting c.before.before.before.before.before.before, vertices c.before.before.before.before, ended c.before.before, sym c.sheet_ok.ensures ∙ c.if-sheet_ok.true)
+returns c =
+    rw (sized c.before.before.before.before.before.before.before.before, fitting c.before.before.before.before.before.before, vertices c.before.before.before.before, ended c.before.before, sym c.sheet_ok.ensures ∙ c.if-not-sheet_ok.false)
 
-pub returns-else-sheet_ok : goal.returns-else-sheet_ok
+pub returns-then-not-sheet_ok : goal.returns-then-not-sheet_ok
 unfolding sheet_refusal
-returns-else-sheet_ok c =
-    rw (sized c.before.before.before.before.before.before.before.before, fitting c.before.before.before.before.before.before, vertices c.before.before.before.before, ended c.before.before, sym c.sheet_ok.ensures ∙ c.if-sheet_ok.false)
+returns-then-not-sheet_ok c =
+    rw (sized c.before.before.before.before.before.before.before.before, fitting c.before.before.before.before.before.before, vertices c.before.before.before.before, ended c.before.before, sym c.sheet_ok.ensures ∙ c.if-not-sheet_ok.true)

@@ -1,21 +1,24 @@
-use mathlib.Core.Path.{◌≡◌, sym, ◌∙◌}
+use mathlib.Core.Path.{sym}
+use Rattle.std.proofs.lemmas.Result.{err_from_is_err_and}
 use Rattle.table_check.specs.Verdict.{verdict_by, table_verdict}
-use Rattle.table_refuse.specs.Refuse.{table_refusal}
 use borrow.Author.Tests.{ne_eqb}
+use Rattle.refusal.specs.Refusal.{number, number-some}
 use Rattle.table_check.specs.laws.Accepted.{accepted-of, defects-few}
 use Rattle.table_check.specs.laws.Right.{tested-right}
 use Rattle.table_check.proofs.check.check_table.Goals as goal
 
-pub returns-then-k-ne0 : goal.returns-then-k-ne0
+pub returns-in_err-refusal : goal.returns-in_err-refusal
 unfolding table_verdict verdict_by
-returns-then-k-ne0 c = rw (← c.refusal-k.ensures, ne_eqb _ 0 c.if-k-ne0.true)
+returns-in_err-refusal c =
+    let p = err_from_is_err_and c.from_residual.result c.from_residual.ensures.1 in
+    rw (p.1, p.2, ← c.in_err-refusal.ensures, ne_eqb (number c.in_err-refusal.field-0.0) 0 (number-some _))
 
 pub tested-requires : goal.tested-requires
 tested-requires c =
     let a = c.args in
     let z =
     accepted-of a.v a.e a.edges.now a.virtuals.now a.defects.now a.duals.now a.growths.now a.distances.now
-    (sym c.refusal-k.ensures ∙ c.if-k-ne0.false) in (
+    (sym c.in_ok-refusal.ensures) in (
       z.v-max,
       z.e-max,
       defects-few a.v a.e a.edges.now a.virtuals.now a.defects.now a.duals.now a.growths.now
@@ -23,32 +26,16 @@ tested-requires c =
       z.distance-count,
     )
 
-pub returns-then-tested : goal.returns-then-tested
+pub returns : goal.returns
 unfolding table_verdict verdict_by
-returns-then-tested c =
+returns c =
     let a = c.args in
     let z =
     accepted-of a.v a.e a.edges.now a.virtuals.now a.defects.now a.duals.now a.growths.now a.distances.now
-    (sym c.refusal-k.ensures ∙ c.if-k-ne0.false) in
+    (sym c.in_ok-refusal.ensures) in
     rw (
-      sym c.refusal-k.ensures ∙ c.if-k-ne0.false,
+      ← c.in_ok-refusal.ensures,
       ← tested-right a.v a.e a.edges.now a.virtuals.now a.defects.now a.duals.now a.growths.now
           a.distances.now z,
       ← c.tested.ensures,
-      c.if-tested.true,
-    )
-
-pub returns-else-tested : goal.returns-else-tested
-unfolding table_verdict verdict_by
-returns-else-tested c =
-    let a = c.args in
-    let z =
-    accepted-of a.v a.e a.edges.now a.virtuals.now a.defects.now a.duals.now a.growths.now a.distances.now
-    (sym c.refusal-k.ensures ∙ c.if-k-ne0.false) in
-    rw (
-      sym c.refusal-k.ensures ∙ c.if-k-ne0.false,
-      ← tested-right a.v a.e a.edges.now a.virtuals.now a.defects.now a.duals.now a.growths.now
-          a.distances.now z,
-      ← c.tested.ensures,
-      c.if-tested.false,
     )

@@ -1,14 +1,11 @@
+use Rattle.std.proofs.lemmas.Bool.{not-true, not-false}
 use Rattle.table_check.specs.Streamed.{ended}
 use Rattle.table_check.proofs.stream.end.Goals as goal
 
-pub returns-then-k-free : goal.returns-then-k-free
+pub returns-then-not-k : goal.returns-then-not-k
 unfolding ended
-returns-then-k-free c = rw (c.if-k.true, ← c.free.ensures, c.if-k-free.true)
+returns-then-not-k c = rw (not-true c.args.k.in_range c.if-not-k.true)
 
-pub returns-else-k-free : goal.returns-else-k-free
+pub returns : goal.returns
 unfolding ended
-returns-else-k-free c = rw (c.if-k.true, ← c.free.ensures, c.if-k-free.false)
-
-pub returns-else-k : goal.returns-else-k
-unfolding ended
-returns-else-k c = rw c.if-k.false
+returns c = rw (not-false c.args.k.in_range c.if-not-k.false, ← c.free.ensures)

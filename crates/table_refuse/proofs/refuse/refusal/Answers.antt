@@ -2,7 +2,7 @@ use mathlib.Core.Path.{◌≡◌, sym, ◌∙◌}
 use Prim.Native.Nat.{ℕ, ◌≤◌}
 use mathlib.Core.Bool.{true}
 use Rattle.std.specs.Prelude.{List, ℤ}
-use Rattle.table_refuse.specs.Refuse.{sizes_right, lengths_right, table_refusal}
+use Rattle.table_refuse.specs.Refuse.{sizes_right, table_refusal}
 use Rattle.graph.specs.laws.Size.{sizes-in}
 use Rattle.open_graph.specs.laws.Open.{first-passed}
 use Rattle.table_refuse.proofs.refuse.refusal.Goals as goal

@@ -1,7 +1,7 @@
 use native.Mathlib.Omega.{arith}
 use mathlib.Core.Path.{sym, ◌∙◌, ap}
 use borrow.Author.Tests.{eq-eqb, ne_eqb}
-use Rattle.answers.specs.declared.Answer.TheVariants.{Length}
+use Rattle.answers.specs.Outcome.{Length}
 use Rattle.update_length.specs.Scan.{scan}
 use Rattle.update_length.specs.inner.Length.{scan_of, within_in}
 use Rattle.update_length.specs.laws.Length.{length_above}

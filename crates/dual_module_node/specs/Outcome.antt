@@ -1,0 +1,21 @@
+-- What is told of a node in the definitions: what it stands for with its numbers, or the number of the refusal.
+use Rattle.std.specs.Prelude.{ℕ, Result, Ok, Err}
+use Rattle.dual_module_node.specs.declared.NodeRead.{NodeRead as Read}
+use Rattle.dual_module_node.specs.declared.NodeRead.TheVariants as Reads
+use Rattle.refusal.specs.declared.Refusal.{Refusal}
+use Rattle.refusal.specs.Refusal.{number}
+
+pub data NodeRead : Type 0 where
+  Defect : ℕ → ℕ → ℕ → ℕ → NodeRead
+  Blossom : ℕ → ℕ → ℕ → ℕ → NodeRead
+  Refused : ℕ → NodeRead
+
+-- that of a node
+abbrev pub node_as : Read → NodeRead
+node_as (Reads.Defect v x p y) = Defect v x p y
+node_as (Reads.Blossom m x p y) = Blossom m x p y
+
+-- that of what the call hands back
+abbrev pub node_answer : Result Read Refusal → NodeRead
+node_answer (Ok r) = node_as r
+node_answer (Err e) = Refused (number e)
