@@ -36,7 +36,8 @@ pub struct Standing {
 // Memory is tested, where it is not known to be sound or refused.
 fn test(b: &[i64], t: &[i64], s: Standing) -> Standing
     requires { Between b.now t.now (standing_refusal s.refusal) s.known s.zero × (s.tests ≤ s.made) × (s.made < word_limit) }
-    ensures { Tested b.now t.now s.tests (standing_refusal s.refusal) s.known result.tests (standing_refusal result.refusal) result.known × (result.made ≡ s.made) × (result.zero ≡ s.zero) }
+    ensures { Tested b.now t.now s.tests (standing_refusal s.refusal) s.known result.tests (standing_refusal result.refusal) result.known
+        × (result.made ≡ s.made) × (result.zero ≡ s.zero) }
 {
     if s.known | s.refusal.is_some() {
         return s;

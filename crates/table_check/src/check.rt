@@ -24,7 +24,8 @@ pub fn positive(e: usize, edges: &[i64]) -> bool
 
 // Whether every row is right, and no side has a growth that no defect covers.
 fn rows_right(table: &Table, distances: &[i64]) -> bool
-    requires { (table.now.v ≤ 1024) × (table.now.e ≤ 4096) × (length table.now.defects.now ≤ 1024) × (length distances.now ≡ length table.now.defects.now * table.now.v) }
+    requires { (table.now.v ≤ 1024) × (table.now.e ≤ 4096) × (length table.now.defects.now ≤ 1024)
+        × (length distances.now ≡ length table.now.defects.now * table.now.v) }
     ensures { result ≡ rows_right table.now.v table.now.e table.now.edges.now table.now.virtuals.now table.now.defects.now table.now.duals.now
         table.now.growths.now (λ i. distance_in (row_of table.now.v distances.now i)) }
 {
@@ -41,7 +42,8 @@ fn rows_right(table: &Table, distances: &[i64]) -> bool
 
 // Whether all is right, where nothing refuses the call.
 fn tested(table: &Table, distances: &[i64]) -> bool
-    requires { (table.now.v ≤ 1024) × (table.now.e ≤ 4096) × (length table.now.defects.now ≤ 1024) × (length distances.now ≡ length table.now.defects.now * table.now.v) }
+    requires { (table.now.v ≤ 1024) × (table.now.e ≤ 4096) × (length table.now.defects.now ≤ 1024)
+        × (length distances.now ≡ length table.now.defects.now * table.now.v) }
     ensures { result ≡ tested table.now.v table.now.e table.now.edges.now table.now.virtuals.now table.now.defects.now table.now.duals.now
         table.now.growths.now (λ i. distance_in (row_of table.now.v distances.now i)) }
 {

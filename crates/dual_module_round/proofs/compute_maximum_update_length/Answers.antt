@@ -6,7 +6,6 @@ use Rattle.graph.specs.Layout.{state_of}
 use lib.ListN.{length}
 use Prim.Native.Nat.{◌*◌}
 use mathlib.Core.Path.{sym, ap, ◌∙◌}
-use borrow.Author.Rules.{rules}
 use Rattle.dual_module_round.proofs.compute_maximum_update_length.Goals as goal
 
 pub returns-in_err-group_refusal : goal.returns-in_err-group_refusal

@@ -1,7 +1,6 @@
 use Rattle.graph.specs.laws.Size.{sized_of}
 use mathlib.Core.Path.{refl, sym, ◌∙◌}
 use native.Mathlib.Omega.{arith}
-use borrow.Author.Rules.{rules}
 use Rattle.dual_module_round.proofs.entries_fit.Goals as goal
 
 pub word-n-requires : goal.word-n-requires

@@ -1,6 +1,5 @@
 use Rattle.dual_module_round.specs.laws.Called.{group-tested, group-unlike}
 use mathlib.Core.Path.{sym, ◌∙◌}
-use borrow.Author.Rules.{rules}
 use Rattle.dual_module_round.proofs.group_refusal.Goals as goal
 
 pub returns-then-entries_fit : goal.returns-then-entries_fit

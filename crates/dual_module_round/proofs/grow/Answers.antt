@@ -5,7 +5,6 @@ use Rattle.dual_module_round.specs.laws.Called.{trial-refused, trial-as, round-l
 use mir.Facts.{to_z-of_z}
 use mathlib.Core.Path.{sym, ◌∙◌}
 use native.Mathlib.Omega.{arith}
-use borrow.Author.Rules.{rules}
 use Rattle.dual_module_round.proofs.grow.Goals as goal
 
 pub returns-in_err-round_refusal : goal.returns-in_err-round_refusal

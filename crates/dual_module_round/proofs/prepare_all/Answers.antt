@@ -3,7 +3,6 @@ use Rattle.std.proofs.lemmas.Result.{err_from_is_err_and}
 use Rattle.refusal.specs.Refusal.{number-some}
 use Rattle.dual_module_round.specs.laws.Called.{trial-refused, trial-as, prepare-reply}
 use mathlib.Core.Path.{sym, ◌∙◌}
-use borrow.Author.Rules.{rules}
 use Rattle.dual_module_round.proofs.prepare_all.Goals as goal
 
 pub returns-in_err-trial_refusal : goal.returns-in_err-trial_refusal

@@ -4,7 +4,6 @@ use Rattle.dual_module_round.specs.laws.Called.{alone-accepted, renew-replies}
 use Rattle.dual_module.proofs.laws.Called.{lent-refused, call-done}
 use Rattle.graph.specs.laws.Shape.{sound-active}
 use mathlib.Core.Path.{refl, sym, ◌∙◌}
-use borrow.Author.Rules.{rules}
 use Rattle.dual_module_round.proofs.renew_active_list.Goals as goal
 
 pub returns-in_err-refusal_alone : goal.returns-in_err-refusal_alone

@@ -3,7 +3,6 @@ use Rattle.std.proofs.lemmas.Result.{err_from_is_err_and}
 use Rattle.refusal.specs.Refusal.{number-some}
 use Rattle.dual_module_round.specs.laws.Called.{round-first, round-passed, below-yes, below-no}
 use mir.Facts.{to_z-of_z}
-use borrow.Author.Rules.{rules}
 use Rattle.dual_module_round.proofs.round_refusal.Goals as goal
 
 pub returns-in_err-trial_refusal : goal.returns-in_err-trial_refusal

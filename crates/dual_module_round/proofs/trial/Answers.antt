@@ -1,7 +1,6 @@
 use Rattle.dual_module_round.specs.laws.Called.{refuses, trial-lent, second-usable, on-trial}
 use lib.ListN.{length}
 use mathlib.Core.Path.{ap, ◌∙◌}
-use borrow.Author.Rules.{rules}
 use Rattle.dual_module_round.proofs.trial.Goals as goal
 
 pub begin-requires : goal.begin-requires

@@ -1,6 +1,5 @@
 use Rattle.dual_module_round.specs.laws.Called.{trial-tested, trial-unlike}
 use mathlib.Core.Path.{◌∙◌}
-use borrow.Author.Rules.{rules}
 use Rattle.dual_module_round.proofs.trial_refusal.Goals as goal
 
 pub returns-then-s-b : goal.returns-then-s-b

@@ -1,13 +1,12 @@
 -- A trial on a second block: what is copied, what is answered, and what refuses it before it starts.
-use Rattle.std.specs.Prelude.{ℕ, zero, suc, ◌+◌, ◌*◌, ◌≤◌, ◌<◌, ◌≢◌, Bool, ◌&&◌, not, List, [], ◌++◌, ℤ, pos, negsuc, nat_abs, get_or, set, take, drop, if◌then◌else◌}
-use Rattle.std.proofs.Common.{arith, add-one, sym, ◌∙◌, append-nil, drop_of_length-le, take_all}
+use Rattle.std.specs.Prelude.{ℕ, zero, suc, ◌*◌, ◌<◌, ◌≢◌, Bool, ◌&&◌, not, List, [], ℤ, pos, negsuc, nat_abs, if◌then◌else◌}
+use Rattle.std.proofs.Common.{arith, sym, ◌∙◌}
 use Rattle.std.proofs.Math.Path.{◌≡◌, refl, ap}
 use Rattle.std.proofs.Math.Bool.{true, false}
 use Rattle.std.specs.Int.Signed.{lt_z}
 use Rattle.std.proofs.Math.Dec.{eqb}
 use Rattle.std.proofs.Math.ListN.{length}
 use Rattle.std.proofs.lemmas.List.{length-replicate}
-use Rattle.std.proofs.Math.Seq.{paste-suc}
 use borrow.Author.Tests.{eq-eqb, ne_eqb, eqb-true, eqb-false, ltb-true}
 use Rattle.graph.specs.State.{State}
 use Rattle.graph.specs.Sound.{sound}
@@ -43,24 +42,6 @@ use Rattle.round_trial.specs.laws.InTurn.{turned_none, turned-some}
 use Rattle.round_list.specs.laws.Listing.{listed-none}
 use Rattle.dual_module.proofs.laws.Called.{lendable-usable}
 use Rattle.dual_module_round.specs.Called.{trial_refusal, group_trial_refusal, below_one, round_refusal, OnTrial, trial_reply, trial_answer, GroupOnTrial}
-
--- ---- copies
-
--- the first i words of s before the rest of d
-abbrev pub Copied : List ℤ → List ℤ → ℕ → List ℤ → Type 0
-Copied s d₀ i d = d ≡ take i s ++ drop i d₀
-
-pub copied_more : (s d₀ : List ℤ) (i : ℕ) → i < length s → length d₀ ≡ length s
-    → set (take i s ++ drop i d₀) i (get_or s i (pos 0)) ≡ take (i + 1) s ++ drop (i + 1) d₀
-copied_more s d₀ i h e =
-    let z : 0 + i ≡ i = omega arith in
-    let y : 0 + suc i ≡ suc i = omega arith in
-    rw add-one (rw (z, y) at (paste-suc d₀ 0 s i (pos 0) (omega arith) h))
-
-pub copied_all : (s d₀ : List ℤ) (i : ℕ) → length s ≤ i → length d₀ ≡ length s → take i s ++ drop i d₀ ≡ s
-copied_all s d₀ i h e =
-    let k : length d₀ ≤ i = omega (arith, e) in
-    rw (take_all i s h, drop_of_length-le d₀ k) (append-nil s)
 
 -- ---- what is handed back
 
