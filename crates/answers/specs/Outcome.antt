@@ -22,10 +22,14 @@ accepted_as (Accepts.Node n) = Node n
 accepted_as (Accepts.Prepared k) = Prepared k
 accepted_as (Accepts.Vertex v) = Vertex v
 
--- that of what a call hands back
+-- that of what a call hands back, where f gives the number of what refuses it
+abbrev pub told_by : {R : Type 0} → (R → ℕ) → Result Accepted R → Answer
+told_by f (Ok a) = accepted_as a
+told_by f (Err e) = Refused (f e)
+
+-- with the refusals
 abbrev pub told : Result Accepted Refusal → Answer
-told (Ok a) = accepted_as a
-told (Err e) = Refused (number e)
+told a = told_by number a
 
 -- that of what the scan of a boundary hands back
 abbrev pub length_told : Result MaxUpdateLength Refusal → Answer

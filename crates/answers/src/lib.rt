@@ -6,12 +6,11 @@ ghost use Rattle.std.specs.Prelude.{◌≡◌, not, ◌≤◌, length};
 ghost use Rattle.std.specs.Int.Signed.{non_neg};
 ghost use Rattle.answers.specs.Answer.{flag};
 ghost use Rattle.answers.specs.declared.MaxUpdateLength.TheVariants.{NonZeroGrow};
-ghost use Rattle.answers.specs.Outcome.{Refused, accepted_as, told};
-ghost use Rattle.refusal.specs.Refusal.{number};
+ghost use Rattle.answers.specs.Outcome.{Refused, accepted_as, told_by};
 ghost use Rattle.answers.specs.Numbers.{length_numbers, answer_numbers, Tells};
 
 use graph::words;
-use refusal::Refusal;
+use refusal::Numbered;
 
 // How far a node may grow, or what stands in its way: the Rust's MaxUpdateLength. Nodes and vertices are plain numbers.
 #[derive(Clone, Copy)]
@@ -41,7 +40,7 @@ pub fn front(list: &mut [usize], numbers: &[usize]) -> usize
     ensures { Tells numbers.now list.old list.new result }
 {
     let count = numbers.len();
-    list[..count].copy_from_slice(numbers);
+    words::copy_each(&mut list[..count], numbers);
     count
 }
 
@@ -98,17 +97,17 @@ fn tell_accepted(list: &mut [usize], a: Answer) -> usize
 }
 
 // The numbers of a refusal.
-pub fn tell_refusal(list: &mut [usize], refusal: Refusal) -> usize
+pub fn tell_refusal<R: Numbered>(list: &mut [usize], refusal: R) -> usize
     requires { 5 ≤ length list.old }
-    ensures { Tells (answer_numbers (Refused (number refusal))) list.old list.new result }
+    ensures { Tells (answer_numbers (Refused (R.number_of refusal))) list.old list.new result }
 {
-    front(list, &[11, refusal.number()])
+    front(list, &[11, refusal.to_number()])
 }
 
 // The numbers of what a call hands back.
-pub fn tell(list: &mut [usize], a: Result<Answer, Refusal>) -> usize
+pub fn tell<R: Numbered>(list: &mut [usize], a: Result<Answer, R>) -> usize
     requires { 5 ≤ length list.old }
-    ensures { Tells (answer_numbers (told a)) list.old list.new result }
+    ensures { Tells (answer_numbers (told_by R.number_of a)) list.old list.new result }
 {
     match a {
         Ok(answer) => tell_accepted(list, answer),

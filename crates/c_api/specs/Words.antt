@@ -1,5 +1,5 @@
 -- What an exported call tells a host: an answer as numbers at the front of a list that it lends.
-use Rattle.std.specs.Prelude.{ℕ, ◌≤◌, ◌<◌, ◌≡◌, List, [], ◌∷◌, ◌++◌, ℤ, eqb, leb, length, drop, if◌then◌else◌, Result}
+use Rattle.std.specs.Prelude.{ℕ, ◌≤◌, ◌<◌, ◌≡◌, List, [], ◌∷◌, ◌++◌, ℤ, eqb, leb, length, drop, if◌then◌else◌, Result, Ok, Err}
 use Rattle.answers.specs.Outcome.{Answer}
 use Rattle.answers.specs.Outcome.{Done, Refused}
 use Rattle.answers.specs.Answer.{is_done}
@@ -15,6 +15,11 @@ open_answer k = if eqb k 0 then Done else Refused k
 -- told in the same numbers
 abbrev pub open_numbers : ℕ → List ℕ
 open_numbers k = answer_numbers (open_answer k)
+
+-- the number of what refuses an opening, as f gives it: 0 where it is done
+abbrev pub open_number_by : {R : Type 0} → (R → ℕ) → Result Unit R → ℕ
+open_number_by f (Ok a) = 0
+open_number_by f (Err e) = f e
 
 -- a reading of the full edges: one that is done, case 7, tells how many they are
 unfoldable pub count_numbers : Answer → ℕ → List ℕ

@@ -6,6 +6,9 @@
 
 ghost use Rattle.c_api.specs.Told.{OpenTold, DefectTold, BlossomTold, StateTold, PrepareTold, LengthTold, GrowTold, AdvanceTold, ClearTold, VertexTold, TableTold, ContactsTold};
 
+use answers::Answer;
+use refusal::Refusal;
+
 pub mod answer; // an answer as numbers
 
 // A graph of v vertices and e edges is opened in the block, with places for n nodes and a store of l words; the scratch is only measured.
@@ -226,6 +229,8 @@ pub extern "C" fn fb_contacts(
     if answer.len() < 5 {
         return answer::refuse_short(answer);
     }
-    let c = dual_module_read::contacts(block, scratch, list);
-    answer::tell_counted(answer, c)
+    match dual_module_read::contacts(block, scratch, list) {
+        Ok(count) => answer::tell_counted(answer, Ok::<Answer, Refusal>(Answer::Done), count),
+        Err(refusal) => answer::tell_counted(answer, Err(refusal), 0),
+    }
 }

@@ -5,11 +5,11 @@
 
 ghost use Rattle.std.specs.Prelude.{◌≤◌, length};
 ghost use Rattle.answers.specs.Numbers.{Tells};
-ghost use Rattle.dual_module_gap.specs.Outcome.{gap_answer};
+ghost use Rattle.dual_module_gap.specs.Outcome.{gap_by};
 ghost use Rattle.c_api_gap.specs.Told.{found_numbers, gap_numbers, GapTold};
 
 use gap::Gap;
-use refusal::Refusal;
+use refusal::Numbered;
 
 // The numbers of a gap are written over the front of the list; how many they are.
 fn tell_found(list: &mut [usize], g: Gap) -> usize
@@ -24,9 +24,9 @@ fn tell_found(list: &mut [usize], g: Gap) -> usize
 }
 
 // The same of an answer.
-pub fn tell_gap(list: &mut [usize], a: Result<Gap, Refusal>) -> usize
+pub fn tell_gap<R: Numbered>(list: &mut [usize], a: Result<Gap, R>) -> usize
     requires { 5 ≤ length list.old }
-    ensures { Tells (gap_numbers (gap_answer a)) list.old list.new result }
+    ensures { Tells (gap_numbers (gap_by R.number_of a)) list.old list.new result }
 {
     match a {
         Ok(g) => tell_found(list, g),

@@ -5,11 +5,11 @@
 
 ghost use Rattle.std.specs.Prelude.{◌≤◌, length};
 ghost use Rattle.answers.specs.Numbers.{Tells};
-ghost use Rattle.dual_module_node.specs.Outcome.{node_as, node_answer};
+ghost use Rattle.dual_module_node.specs.Outcome.{node_as, node_by};
 ghost use Rattle.c_api_node.specs.Told.{read_node_numbers, ReadNodeTold};
 
 use dual_module_node::NodeRead;
-use refusal::Refusal;
+use refusal::Numbered;
 
 // The numbers of a node.
 fn tell_read(list: &mut [usize], r: NodeRead) -> usize
@@ -23,9 +23,9 @@ fn tell_read(list: &mut [usize], r: NodeRead) -> usize
 }
 
 // The same of an answer; how many they are.
-pub fn tell_node(list: &mut [usize], a: Result<NodeRead, Refusal>) -> usize
+pub fn tell_node<R: Numbered>(list: &mut [usize], a: Result<NodeRead, R>) -> usize
     requires { 5 ≤ length list.old }
-    ensures { Tells (read_node_numbers (node_answer a)) list.old list.new result }
+    ensures { Tells (read_node_numbers (node_by R.number_of a)) list.old list.new result }
 {
     match a {
         Ok(r) => tell_read(list, r),

@@ -36,7 +36,7 @@ fn tell_group(list: &mut [usize], g: Result<GroupMaxUpdateLength, Refusal>) -> u
 {
     match g {
         Ok(found) => tell_found(list, found),
-        Err(refusal) => answers::tell_refusal(list, refusal),
+        Err(refusal) => answers::front(list, &[11, refusal.number()]),
     }
 }
 

@@ -19,8 +19,8 @@ use update_length::scan;
 
 // An answer, and whether a sound block was certainly kept sound.
 #[derive(Clone, Copy)]
-pub struct Tested {
-    pub answer: Result<Answer, Refusal>,
+pub struct Tested<R = Refusal> {
+    pub answer: Result<Answer, R>,
     pub kept: bool,
 }
 

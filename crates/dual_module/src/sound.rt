@@ -20,8 +20,8 @@ use refusal::Refusal;
 // A call on memory that has passed the tests: its answer, whether the block is certainly sound after it, and whether the scratch is known
 // to be all zero.
 #[derive(Clone, Copy)]
-pub struct Known {
-    pub answer: Result<Answer, Refusal>,
+pub struct Known<R = Refusal> {
+    pub answer: Result<Answer, R>,
     pub kept: bool,
     pub zero: bool,
 }
@@ -38,7 +38,7 @@ pub fn clear_unless(t: &mut [i64], zero: bool)
 }
 
 // The call wrote nothing: as much is known as before it.
-pub fn as_before(answer: Result<Answer, Refusal>, ask: bool, zero: bool) -> Known
+pub fn as_before<R>(answer: Result<Answer, R>, ask: bool, zero: bool) -> Known<R>
     ensures { (result.answer ≡ answer) × (result.kept ≡ ask) × (result.zero ≡ zero) }
 {
     Known {
@@ -49,7 +49,7 @@ pub fn as_before(answer: Result<Answer, Refusal>, ask: bool, zero: bool) -> Know
 }
 
 // The core has run, and left the scratch all zero.
-pub fn after_core(told: Tested) -> Known
+pub fn after_core<R>(told: Tested<R>) -> Known<R>
     ensures { (result.answer ≡ told.answer) × (result.kept ≡ told.kept) × (result.zero ≡ true) }
 {
     let answer = told.answer;

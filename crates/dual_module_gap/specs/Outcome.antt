@@ -8,7 +8,11 @@ pub data GapAnswer : Type 0 where
   Found : Gap → GapAnswer
   Refused : ℕ → GapAnswer
 
--- that of what the call hands back
+-- that of what a call hands back, where f gives the number of what refuses it
+abbrev pub gap_by : {R : Type 0} → (R → ℕ) → Result Gap R → GapAnswer
+gap_by f (Ok g) = Found g
+gap_by f (Err e) = Refused (f e)
+
+-- with the refusals
 abbrev pub gap_answer : Result Gap Refusal → GapAnswer
-gap_answer (Ok g) = Found g
-gap_answer (Err e) = Refused (number e)
+gap_answer a = gap_by number a

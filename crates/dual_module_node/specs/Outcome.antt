@@ -15,7 +15,11 @@ abbrev pub node_as : Read → NodeRead
 node_as (Reads.Defect v x p y) = Defect v x p y
 node_as (Reads.Blossom m x p y) = Blossom m x p y
 
--- that of what the call hands back
+-- that of what a call hands back, where f gives the number of what refuses it
+abbrev pub node_by : {R : Type 0} → (R → ℕ) → Result Read R → NodeRead
+node_by f (Ok r) = node_as r
+node_by f (Err e) = Refused (f e)
+
+-- with the refusals
 abbrev pub node_answer : Result Read Refusal → NodeRead
-node_answer (Ok r) = node_as r
-node_answer (Err e) = Refused (number e)
+node_answer a = node_by number a

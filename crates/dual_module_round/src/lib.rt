@@ -25,7 +25,7 @@ fn copy(d: &mut [i64], s: &[i64])
     requires { length d.old ≡ length s.now }
     ensures { d.new ≡ s.now }
 {
-    d.copy_from_slice(s);
+    graph::words::copy_each(d, s);
 }
 
 // The second block becomes the block, and the scratch all zero.

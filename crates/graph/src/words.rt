@@ -39,6 +39,16 @@ pub fn put(b: &mut [i64], i: usize, x: usize)
     b[i] = to_word(x);
 }
 
+// Each of `from` is copied to its place in `to`. An archive for C then asks for no memmove, as copy_from_slice does.
+pub fn copy_each<T: Copy>(to: &mut [T], from: &[T])
+    requires { length to.old ≡ length from.now }
+    ensures { to.new ≡ from.now }
+{
+    for i in 0..from.len() {
+        to[i] = from[i];
+    }
+}
+
 // Whether a signed number is not negative.
 pub fn non_negative(x: i64) -> bool
     ensures { result ≡ non_neg x }

@@ -1,14 +1,13 @@
 // A run between two records: its start, and its end with a refusal.
 
 ghost use Rattle.std.specs.Prelude.{◌≡◌, ◌+◌, ◌<◌, ◌≤◌, length};
-ghost use Rattle.refusal.specs.Refusal.{number};
 ghost use Rattle.records.specs.Run.{ends};
 ghost use Rattle.records.specs.Write.{LinesPut};
 
 use records::lines::Out;
 use records::setup::Setup;
 use records::told;
-use refusal::Refusal;
+use refusal::{Numbered, Refusal};
 
 #[derive(Clone, Copy)]
 pub struct Run {
@@ -45,10 +44,10 @@ pub fn fresh() -> Run
 }
 
 // The run ends with this refusal.
-pub fn stop(lines: &mut [u8], r: Run, o: Out, refusal: Refusal) -> After
+pub fn stop<R: Numbered>(lines: &mut [u8], r: Run, o: Out, refusal: R) -> After
     requires { o.at ≤ length lines.old }
     ensures { LinesPut lines.old o.at o.full lines.new result.out.at result.out.full
-        (ends r.record (number refusal)).lines
+        (ends r.record (R.number_of refusal)).lines
         × (result.run.stage ≡ 3) × (result.run.record ≡ r.record) }
 {
     let out = told::answer(lines, o, r.record, Err(refusal));

@@ -19,7 +19,7 @@ pub fn word(t: &mut [u8], n: usize, w: &[u8]) -> usize
     ensures { Written t.old n t.new result w.now }
 {
     let m = n + w.len();
-    t[n..m].copy_from_slice(w);
+    graph::words::copy_each(&mut t[n..m], w);
     m
 }
 

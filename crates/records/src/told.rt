@@ -2,14 +2,14 @@
 
 ghost use Rattle.std.specs.Prelude.{[], ◌∷◌, ◌≤◌, length};
 ghost use Rattle.answers.specs.declared.MaxUpdateLength.TheVariants.{NonZeroGrow};
-ghost use Rattle.answers.specs.Outcome.{accepted_as, told};
+ghost use Rattle.answers.specs.Outcome.{accepted_as, told_by};
 ghost use Rattle.records.specs.Lines.{line, words_of_length, words_of};
 ghost use Rattle.records.specs.Write.{LinesPut};
 
 use crate::lines::Out;
 use crate::{lines, signed_text, text};
 use answers::{Answer, MaxUpdateLength};
-use refusal::Refusal;
+use refusal::Numbered;
 
 // The line of an answer that a node may grow by x.
 fn free(lines: &mut [u8], o: Out, k: usize, x: i64, e: bool) -> Out
@@ -67,12 +67,13 @@ fn accepted(lines: &mut [u8], o: Out, k: usize, a: Answer) -> Out
 }
 
 // The line of an answer to record k goes behind the others.
-pub fn answer(lines: &mut [u8], o: Out, k: usize, a: Result<Answer, Refusal>) -> Out
+pub fn answer<R: Numbered>(lines: &mut [u8], o: Out, k: usize, a: Result<Answer, R>) -> Out
     requires { o.at ≤ length lines.old }
-    ensures { LinesPut lines.old o.at o.full lines.new result.at result.full (line k (words_of (told a)) ∷ []) }
+    ensures { LinesPut lines.old o.at o.full lines.new result.at result.full
+        (line k (words_of (told_by R.number_of a)) ∷ []) }
 {
     match a {
         Ok(answer) => accepted(lines, o, k, answer),
-        Err(refusal) => lines::tell_one(lines, o, k, b"refused", refusal.number()),
+        Err(refusal) => lines::tell_one(lines, o, k, b"refused", refusal.to_number()),
     }
 }

@@ -2,7 +2,7 @@
 
 // Why a call is turned down.
 
-ghost use Rattle.std.specs.Prelude.{◌≡◌};
+ghost use Rattle.std.specs.Prelude.{ℕ, ◌≡◌};
 ghost use Rattle.refusal.specs.Refusal.{number};
 
 // docs/SPECIFICATION.md 8 says where each is given.
@@ -51,5 +51,30 @@ impl Refusal {
             Refusal::WeightsStand => 16,
             Refusal::NoValue => 17,
         }
+    }
+}
+
+// What stands for a refusal where an answer is told: a refusal, or the number of one as it is.
+pub trait Numbered {
+    ghost number_of: { Self → ℕ };
+
+    // Its number.
+    fn to_number(self) -> usize
+        ensures { result ≡ number_of self };
+}
+
+impl Numbered for Refusal {
+    ghost number_of = { number };
+
+    fn to_number(self) -> usize {
+        self.number()
+    }
+}
+
+impl Numbered for usize {
+    ghost number_of = { λ n. n };
+
+    fn to_number(self) -> usize {
+        self
     }
 }

@@ -19,12 +19,15 @@ use graph::{lists, rows, words};
 // ---- stretches of the store
 // Words are moved as they stand.
 
-// The n words at `from` are copied to `to`.
+// The n words at `from` are copied to `to`; what is there already costs nothing.
 fn move_words(b: &mut [i64], from: usize, to: usize, n: usize)
     requires { Laid b.old × (from + n ≤ (state_of b.old).store_limit) × (to + n ≤ (state_of b.old).store_limit) }
     ensures { Copied b.old b.new from to n }
 {
     if n == 0 {
+        return;
+    }
+    if from == to {
         return;
     }
     let p = rows::store_place(b, from);
@@ -41,7 +44,7 @@ fn fill(b: &mut [i64], t: &[i64], q: usize, at: usize, n: usize)
         return;
     }
     let a = rows::store_place(b, at);
-    b[a..a + n].copy_from_slice(&t[q..q + n]);
+    words::copy_each(&mut b[a..a + n], &t[q..q + n]);
 }
 
 // ---- starts

@@ -242,10 +242,14 @@ fn tell(rt: &impl Print, k: usize, verdict: Verdict) -> io::Result<()> {
 // All tables. A proved loop has to end, and nothing says that input does: this one stops at a number of tables that no input has.
 fn tables<R: Read>(rt: &impl Print, input: &mut WordReader<R>) -> io::Result<()> {
     for k in 1..9223372036854775807 {
-        match next(input)? {
-            Step::Table(verdict) => tell(rt, k, verdict)?,
-            Step::Cut => return tell(rt, k, Err(Refusal::WrongLength)),
+        let (verdict, more) = match next(input)? {
+            Step::Table(verdict) => (verdict, true),
+            Step::Cut => (Err(Refusal::WrongLength), false),
             Step::End => return Ok(()),
+        };
+        tell(rt, k, verdict)?;
+        if !more {
+            break;
         }
     }
     Ok(())

@@ -16,12 +16,12 @@ use graph::dual_node::UP;
 use graph::{edge, node, side, vertex};
 use refusal::Refusal;
 
-// What one side says.
+// What one side says; what it meets is a length or a refusal where nothing else is said.
 #[derive(Clone, Copy)]
-pub enum Look {
+pub enum Look<A = Result<MaxUpdateLength, Refusal>> {
     Skip,
     Room(usize), // a length that is left
-    Meets(Result<MaxUpdateLength, Refusal>),
+    Meets(A),
 }
 
 // A stored node as its number.

@@ -6,4 +6,4 @@ use Rattle.answers.proofs.tell_refusal.Goals as goal
 
 pub returns : goal.returns
 unfolding answer_numbers
-returns c = tells_as c.front.ensures (ap (λ (k : ℕ). 11 ∷ k ∷ []) c.number.ensures)
+returns g c = tells_as c.front.ensures (ap (λ (k : ℕ). 11 ∷ k ∷ []) c.to_number.ensures)

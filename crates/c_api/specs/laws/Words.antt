@@ -1,8 +1,15 @@
 -- What an exported call promises, where its list is too short and where it is not.
-use Rattle.std.specs.Prelude.{ℕ, ◌≤◌, ◌<◌, ◌≡◌, List, length}
+use Rattle.std.specs.Prelude.{ℕ, ◌≤◌, ◌<◌, ◌≡◌, refl, List, length, Result, Ok, Err}
 use Rattle.std.proofs.Common.{not-le_of_lt}
 pub use Rattle.answers.specs.laws.Numbers.{tells_as, answer-short}
-use Rattle.c_api.specs.Words.{Tells, short_list, short_count, Told}
+use Rattle.refusal.specs.declared.Refusal.{Refusal}
+use Rattle.refusal.specs.Refusal.{number, refusal_number}
+use Rattle.c_api.specs.Words.{Tells, open_number_by, short_list, short_count, Told}
+
+-- that of a refusal
+pub open-number : (opened : Result Unit Refusal) → open_number_by number opened ≡ refusal_number opened
+open-number (Ok a) = refl
+open-number (Err e) = refl
 
 -- ---- an exported call
 

@@ -5,11 +5,7 @@ use Rattle.std.proofs.Math.Decide.{dec_lt}
 use Rattle.std.proofs.Math.Path.{ap}
 use Rattle.std.proofs.Math.IntN.{sub_ℕ}
 use borrow.Author.Tests.{lt-ltb, le-ltb, eq-eqb, ne_eqb, le-leb, lt-leb}
-use Rattle.std.specs.Prelude.{Result}
-use Rattle.answers.specs.Outcome.{length_told}
-use Rattle.answers.specs.declared.MaxUpdateLength.{MaxUpdateLength}
-use Rattle.refusal.specs.declared.Refusal.{Refusal}
-use Rattle.answers.specs.Outcome.{Length}
+use Rattle.answers.specs.Outcome.{Answer, Length}
 use Rattle.answers.specs.declared.MaxUpdateLength.TheVariants.{NonZeroGrow, Unlimited, Conflicting, VertexShrinkStop, VertexShrinkStopPeer}
 use Rattle.update_length.specs.declared.look.Look as LookType
 use Rattle.update_length.specs.declared.look.Look.TheVariants.{Skip, Room, Meets}
@@ -18,7 +14,7 @@ use Rattle.update_length.specs.declared.join.Scan.TheVariants.{OpenEnded, Within
 use Rattle.update_length.specs.declared.stop.Peers as PeersType
 use Rattle.update_length.specs.declared.stop.Peers.TheVariants.{NoPeer, Peer, TwoPeers}
 use Rattle.update_length.specs.Scan.{half, is_zero, lesser, within, with_look, scan_answer, meet, stop_with}
-use Rattle.update_length.specs.inner.Length.{zero_length, length_end, length_of, look_of, room_in, scan_of, within_in, Knows, peers_of}
+use Rattle.update_length.specs.inner.Length.{zero_length, length_end, length_of, look_by, room_in, scan_by, within_in, KnowsBy, peers_of}
 
 -- ---- the length that a number stands for, on either side of zero
 
@@ -110,53 +106,55 @@ lesser-kept x y =
 
 -- ---- what a scan knows, after one more side
 
-pub over-stays : {r : ScanType.Scan} (l : LookType.Look) {a : Result MaxUpdateLength Refusal} → r ≡ Over a → Knows (Over a) (with_look (scan_of r) (look_of l))
-unfolding with_look scan_of within_in
-over-stays l e = rw e (record { what = refl; fits = omega arith })
+pub over-stays : {A : Type 0} (f : A → Answer) {r : ScanType.Scan A} (l : LookType.Look A) {a : A} → r ≡ Over a
+    → KnowsBy f (Over a) (with_look (scan_by f r) (look_by f l))
+unfolding with_look scan_by within_in
+over-stays f l e = rw e (record { what = refl; fits = omega arith })
 
-module _ {r : ScanType.Scan} {l : LookType.Look} where
-  pub open-skip : r ≡ OpenEnded → l ≡ Skip → Knows OpenEnded (with_look (scan_of r) (look_of l))
-  unfolding with_look scan_of look_of within_in
-  open-skip e f = rw (e, f) (record { what = refl; fits = omega arith })
+module _ {A : Type 0} (f : A → Answer) {r : ScanType.Scan A} {l : LookType.Look A} where
+  pub open-skip : r ≡ OpenEnded → l ≡ Skip → KnowsBy f OpenEnded (with_look (scan_by f r) (look_by f l))
+  unfolding with_look scan_by look_by within_in
+  open-skip e d = rw (e, d) (record { what = refl; fits = omega arith })
 
-  pub open-room : {x : ℕ} → r ≡ OpenEnded → l ≡ Room x → room_in l < length_end → Knows (Within x) (with_look (scan_of r) (look_of l))
-  unfolding with_look scan_of look_of within_in room_in
-  open-room e f h = rw (e, f) (record { what = refl; fits = rw f at h })
+  pub open-room : {x : ℕ} → r ≡ OpenEnded → l ≡ Room x → room_in l < length_end → KnowsBy f (Within x) (with_look (scan_by f r) (look_by f l))
+  unfolding with_look scan_by look_by within_in room_in
+  open-room e d h = rw (e, d) (record { what = refl; fits = rw d at h })
 
-  pub open-meets : {a : Result MaxUpdateLength Refusal} → r ≡ OpenEnded → l ≡ Meets a → Knows (Over a) (with_look (scan_of r) (look_of l))
-  unfolding with_look scan_of look_of within_in
-  open-meets e f = rw (e, f) (record { what = refl; fits = omega arith })
+  pub open-meets : {a : A} → r ≡ OpenEnded → l ≡ Meets a → KnowsBy f (Over a) (with_look (scan_by f r) (look_by f l))
+  unfolding with_look scan_by look_by within_in
+  open-meets e d = rw (e, d) (record { what = refl; fits = omega arith })
 
-  pub within-skip : {y : ℕ} → r ≡ Within y → l ≡ Skip → within_in r < length_end → Knows (Within y) (with_look (scan_of r) (look_of l))
-  unfolding with_look scan_of look_of within_in
-  within-skip e f h = rw (e, f) (record { what = refl; fits = rw e at h })
+  pub within-skip : {y : ℕ} → r ≡ Within y → l ≡ Skip → within_in r < length_end → KnowsBy f (Within y) (with_look (scan_by f r) (look_by f l))
+  unfolding with_look scan_by look_by within_in
+  within-skip e d h = rw (e, d) (record { what = refl; fits = rw e at h })
 
-  pub within-room : {x y z : ℕ} → r ≡ Within y → l ≡ Room x → within_in r < length_end → z ≡ min y x → Knows (Within z) (with_look (scan_of r) (look_of l))
-  unfolding with_look scan_of look_of within_in
-  within-room {x} {y} {z} e f h m =
+  pub within-room : {x y z : ℕ} → r ≡ Within y → l ≡ Room x → within_in r < length_end → z ≡ min y x → KnowsBy f (Within z) (with_look (scan_by f r) (look_by f l))
+  unfolding with_look scan_by look_by within_in
+  within-room {x} {y} {z} e d h m =
       let k : y < length_end = rw e at h in
-      rw (e, f, m) (record { what = ap within (lesser-kept y x); fits = omega (arith, k) })
+      rw (e, d, m) (record { what = ap within (lesser-kept y x); fits = omega (arith, k) })
 
-  pub within-meets : {y : ℕ} {a : Result MaxUpdateLength Refusal} → r ≡ Within y → l ≡ Meets a → Knows (Over a) (with_look (scan_of r) (look_of l))
-  unfolding with_look scan_of look_of within_in
-  within-meets e f = rw (e, f) (record { what = refl; fits = omega arith })
+  pub within-meets : {y : ℕ} {a : A} → r ≡ Within y → l ≡ Meets a → KnowsBy f (Over a) (with_look (scan_by f r) (look_by f l))
+  unfolding with_look scan_by look_by within_in
+  within-meets e d = rw (e, d) (record { what = refl; fits = omega arith })
 
 -- ---- the answer by what is known
 
-module _ (empty : Bool) {r : ScanType.Scan} where
-  pub answer-open : r ≡ OpenEnded → Length (Unlimited empty) ≡ scan_answer empty (scan_of r)
-  unfolding scan_answer scan_of
-  answer-open e = rw e
+module _ {A : Type 0} (f : A → Answer) (empty : Bool) {r : ScanType.Scan A} where
+  pub answer-open : {x : Answer} → r ≡ OpenEnded → x ≡ Length (Unlimited empty) → x ≡ scan_answer empty (scan_by f r)
+  unfolding scan_answer scan_by
+  answer-open e d = rw (e, d)
 
-  pub answer-within : {x : ℕ} {z : ℤ} → r ≡ Within x → z ≡ length_of x → Length (NonZeroGrow z empty) ≡ scan_answer empty (scan_of r)
-  unfolding scan_answer scan_of
-  answer-within e f = rw (e, f)
+  pub answer-within : {x : Answer} {y : ℕ} {z : ℤ} → r ≡ Within y → z ≡ length_of y → x ≡ Length (NonZeroGrow z empty)
+      → x ≡ scan_answer empty (scan_by f r)
+  unfolding scan_answer scan_by
+  answer-within e k d = rw (e, d, k)
 
-  pub answer-over : {a : Result MaxUpdateLength Refusal} → r ≡ Over a → length_told a ≡ scan_answer empty (scan_of r)
-  unfolding scan_answer scan_of
+  pub answer-over : {a : A} → r ≡ Over a → f a ≡ scan_answer empty (scan_by f r)
+  unfolding scan_answer scan_by
   answer-over e = rw e
 
-pub within-is : {r : ScanType.Scan} {x : ℕ} → r ≡ Within x → within_in r < length_end → x < length_end
+pub within-is : {A : Type 0} {r : ScanType.Scan A} {x : ℕ} → r ≡ Within x → within_in r < length_end → x < length_end
 unfolding within_in
 within-is e h = rw e at h
 

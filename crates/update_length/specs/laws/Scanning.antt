@@ -1,5 +1,6 @@
 -- The loops of the length answer, and its limits.
 use Rattle.std.specs.Prelude.{ℕ, suc, ◌+◌, ◌-◌, ◌≤◌, ◌<◌, min, ◌≡◌, ◌≢◌, Bool, List, [], ◌∷◌, map, ℤ, pos, eqb, length, get_or, take, drop, if◌then◌else◌}
+use Rattle.std.specs.Prelude.{Result}
 use Rattle.std.proofs.Common.{arith, ap, ◌∙◌, true≢false, take-append-drop}
 use Rattle.std.proofs.Math.Path.{refl, sym}
 use Rattle.std.proofs.Math.Bool.{true, false}
@@ -14,6 +15,7 @@ use Rattle.graph.specs.laws.Number.{word-entry}
 use Rattle.answers.specs.Outcome.{Answer}
 use Rattle.answers.specs.declared.MaxUpdateLength.{MaxUpdateLength}
 use Rattle.answers.specs.declared.MaxUpdateLength.TheVariants.{BlossomNeedExpand}
+use Rattle.refusal.specs.declared.Refusal.{Refusal}
 use Rattle.update_length.specs.declared.look.Look as LookType
 use Rattle.update_length.specs.declared.join.Scan as ScanType
 use Rattle.update_length.specs.declared.stop.Peers.TheVariants.{NoPeer}
@@ -40,11 +42,12 @@ over-rest c n d (within x) l h = absurd (true≢false (sym h))
 
 -- ---- the scan: what is known after the first i sides
 
-module _ (c : State) (n d : ℕ) (start : ScanType.Scan) (l : List ℤ) where
+module _ (c : State) (n d : ℕ) (start : ScanType.Scan (Result MaxUpdateLength Refusal)) (l : List ℤ) where
   pub scan-none : within_in start < length_end → Knows start (fold (scan_step c n d) (scan_of start) (take 0 (map to_nat l)))
   scan-none h = record { what = sym (fold-none (scan_step c n d) (scan_of start) (map to_nat l)); fits = h }
 
-  pub scan-more : (i s : ℕ) {r q : ScanType.Scan} {x : LookType.Look} → i < length l → s ≡ word_at l i
+  pub scan-more : (i s : ℕ) {r q : ScanType.Scan (Result MaxUpdateLength Refusal)}
+      {x : LookType.Look (Result MaxUpdateLength Refusal)} → i < length l → s ≡ word_at l i
       → Knows r (fold (scan_step c n d) (scan_of start) (take i (map to_nat l))) → Shows x (look c n d s)
       → Knows q (with_look (scan_of r) (look_of x))
       → Knows q (fold (scan_step c n d) (scan_of start) (take (i + 1) (map to_nat l)))
@@ -53,13 +56,13 @@ module _ (c : State) (n d : ℕ) (start : ScanType.Scan) (l : List ℤ) where
       let m = fold_more (scan_step c n d) (scan_of start) (map to_nat l) i 0 (rw (length-map l to_nat) h) in
       record { what = z.what ∙ rw (k.what, y.what, e ∙ word-entry l i) (sym m); fits = z.fits }
 
-  pub scan-all : (i : ℕ) {r : ScanType.Scan} → length l ≤ i
+  pub scan-all : (i : ℕ) {r : ScanType.Scan (Result MaxUpdateLength Refusal)} → length l ≤ i
       → Knows r (fold (scan_step c n d) (scan_of start) (take i (map to_nat l)))
       → Knows r (fold (scan_step c n d) (scan_of start) (map to_nat l))
   scan-all i h k = record { what = k.what ∙ fold_done (scan_step c n d) (scan_of start) (map to_nat l) i (rw (length-map l to_nat) h); fits = k.fits }
 
   -- what is left changes nothing where the scan has met its answer
-  pub scan-met : (i : ℕ) {r : ScanType.Scan} → is_over (scan_of r) ≡ true
+  pub scan-met : (i : ℕ) {r : ScanType.Scan (Result MaxUpdateLength Refusal)} → is_over (scan_of r) ≡ true
       → Knows r (fold (scan_step c n d) (scan_of start) (take i (map to_nat l)))
       → Knows r (fold (scan_step c n d) (scan_of start) (map to_nat l))
   scan-met i {r} h k =
@@ -70,7 +73,7 @@ module _ (c : State) (n d : ℕ) (start : ScanType.Scan) (l : List ℤ) where
       record { what = sym (e ∙ over-rest c n d (scan_of r) (drop i m) h); fits = k.fits }
 
   -- the answer of a whole boundary
-  pub scan-answer : {r : ScanType.Scan} {a : Answer} → map to_nat l ≡ boundary_of c n
+  pub scan-answer : {r : ScanType.Scan (Result MaxUpdateLength Refusal)} {a : Answer} → map to_nat l ≡ boundary_of c n
       → Knows r (fold (scan_step c n d) (scan_of start) (map to_nat l)) → a ≡ scan_answer (eqb (length l) 0) (scan_of r)
       → a ≡ scan_boundary c n d (scan_of start)
   unfolding scan_boundary

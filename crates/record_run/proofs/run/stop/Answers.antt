@@ -5,4 +5,4 @@ use borrow.Author.Rules.{rules}
 use Rattle.record_run.proofs.run.stop.Goals as goal
 
 pub returns : goal.returns
-returns c = (told-lines c.answer-out.ensures (ends-line _ _), refl, refl)
+returns g c = (told-lines c.answer-out.ensures (ends-line _ _), refl, refl)

@@ -16,4 +16,4 @@ pub returns : goal.returns
 returns c =
     let a = c.args in
     let z : a.n + length a.w.now - a.n ≡ length a.w.now = omega arith in
-    record { bytes = rw (z, c.copy_from_slice.ensures.after) (part a.t.now a.w.now a.n c.requires); place = refl }
+    record { bytes = rw (z, c.copy_each.ensures) (part a.t.now a.w.now a.n c.requires); place = refl }

@@ -8,15 +8,15 @@ use Rattle.graph.specs.laws.List.{store_length}
 use Rattle.store.specs.laws.Stretch.{stretch-fits, wrote-part}
 use Rattle.store.proofs.replace.fill.Goals as goal
 
-pub slice_bounds-copy_from_slice-end : goal.slice_bounds-copy_from_slice-end
-slice_bounds-copy_from_slice-end c =
+pub slice_bounds-copy_each-end : goal.slice_bounds-copy_each-end
+slice_bounds-copy_each-end c =
     stretch-fits c.args.b.now store_row c.args.at _ _ c.requires.0 c.store_place-a.ensures
     (omega (arith, store_length c.args.b.now c.requires.0))
 
 pub returns : goal.returns
 unfolding word_at
 returns c =
-    rw c.copy_from_slice.ensures.after
+    rw c.copy_each.ensures
     (wrote-part c.args.b.now store_row c.args.at c.args.n _ c.requires.0 c.store_place-a.ensures
     (omega (arith, store_length c.args.b.now c.requires.0)) _ _ (λ p. word_at c.args.t.now (c.args.q + (p - c.args.at)))
     (omega arith) (grind (arith, places)) (λ p x. ap to_nat (grind (arith, places))))

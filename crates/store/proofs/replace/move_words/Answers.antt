@@ -5,8 +5,12 @@ use Rattle.std.proofs.Common.{ap}
 use Rattle.graph.specs.Rows.{store_row}
 use Rattle.graph.specs.inner.Lists.{store_of}
 use Rattle.graph.specs.laws.List.{store-max, store_length}
+use Rattle.store.specs.laws.Move.{moved_none}
 use Rattle.store.specs.laws.Stretch.{stretch-fits, wrote-copied}
 use Rattle.store.proofs.replace.move_words.Goals as goal
+
+pub returns-then-from-to : goal.returns-then-from-to
+returns-then-from-to c = moved_none c.args.b.now c.args.from c.args.to c.args.n c.requires.0 (omega arith)
 
 pub overflow_add-p : goal.overflow_add-p
 overflow_add-p c = omega (arith, store-max c.args.b.now c.requires.0)

@@ -6,15 +6,15 @@ use Rattle.update_length.specs.laws.Length.{answer-open, answer-within, answer-o
 use Rattle.update_length.proofs.join.scan_answer.Goals as goal
 
 pub signed-requires : goal.signed-requires
-signed-requires c = within-is c.in-Within.is c.requires
+signed-requires g c = within-is c.in-Within.is c.requires
 
 pub returns-in-OpenEnded : goal.returns-in-OpenEnded
-returns-in-OpenEnded c = answer-open c.args.empty c.in-OpenEnded.is
+returns-in-OpenEnded g c = answer-open g.A.Found.as_answer c.args.empty c.in-OpenEnded.is c.of_length.ensures
 
 pub returns-in-Within : goal.returns-in-Within
-returns-in-Within c =
-    answer-within c.args.empty c.in-Within.is
-    (to_z-of_z {w = w64} (sfits_of c.signed.type_inv) ∙ c.signed.ensures)
+returns-in-Within g c =
+    answer-within g.A.Found.as_answer c.args.empty c.in-Within.is
+    (to_z-of_z {w = w64} (sfits_of c.signed.type_inv) ∙ c.signed.ensures) c.of_length-in-Within.ensures
 
 pub returns-in-Over : goal.returns-in-Over
-returns-in-Over c = answer-over c.args.empty c.in-Over.is
+returns-in-Over g c = answer-over g.A.Found.as_answer c.args.empty c.in-Over.is

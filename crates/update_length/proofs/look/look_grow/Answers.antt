@@ -4,7 +4,7 @@ use borrow.Author.Tests.{eq-eqb, ne_eqb}
 use Rattle.graph.specs.State.{holder_at, opposite}
 use Rattle.graph.specs.Layout.{state_of}
 use Rattle.update_length.specs.Scan.{look_grow}
-use Rattle.update_length.specs.inner.Length.{look_of, room_in}
+use Rattle.update_length.specs.inner.Length.{look_by, room_in}
 use Rattle.update_length.proofs.look.look_grow.Goals as goal
 
 pub look_held-requires : goal.look_held-requires
@@ -18,7 +18,7 @@ look_held-requires c =
     )
 
 pub returns-then-h-n : goal.returns-then-h-n
-unfolding look_grow look_of room_in
+unfolding look_grow look_by room_in
 returns-then-h-n c =
     let q : c.holder-h.result ≡ holder_at (state_of c.args.b.now) (opposite c.args.s) = cc in
     rw (← q, eq-eqb _ _ c.if-h-n.true) (record { what = refl; fits = omega arith })

@@ -2,11 +2,11 @@ use native.Mathlib.Omega.{arith}
 use mathlib.Core.Path.{sym, ◌∙◌, refl}
 use borrow.Author.Tests.{eq-eqb, ne_eqb}
 use Rattle.update_length.specs.Scan.{look_held}
-use Rattle.update_length.specs.inner.Length.{look_of, room_in}
+use Rattle.update_length.specs.inner.Length.{look_by, room_in}
 use Rattle.update_length.proofs.look.look_held.Goals as goal
 
 pub returns-then-x-eq-SHRINK : goal.returns-then-x-eq-SHRINK
-unfolding look_held look_of room_in
+unfolding look_held look_by room_in
 returns-then-x-eq-SHRINK c =
     rw (eq-eqb _ _ (sym c.grow_state-x.ensures.0 ∙ c.if-x-eq-SHRINK.true)) (record { what = refl; fits = omega arith })
 

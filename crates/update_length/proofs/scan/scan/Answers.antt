@@ -3,7 +3,7 @@ use mathlib.Core.Path.{sym, ◌∙◌, ap}
 use borrow.Author.Tests.{eq-eqb, ne_eqb}
 use Rattle.answers.specs.Outcome.{Length}
 use Rattle.update_length.specs.Scan.{scan}
-use Rattle.update_length.specs.inner.Length.{scan_of, within_in}
+use Rattle.update_length.specs.inner.Length.{scan_by, within_in}
 use Rattle.update_length.specs.laws.Length.{length_above}
 use Rattle.update_length.proofs.scan.scan.Goals as goal
 
@@ -12,7 +12,7 @@ unfolding within_in
 scan_boundary-requires c = let p = c.requires in (p.0, p.1, p.2, p.3, omega arith)
 
 pub returns-then-d-eq-UP : goal.returns-then-d-eq-UP
-unfolding scan scan_of
+unfolding scan scan_by
 returns-then-d-eq-UP c = rw (eq-eqb _ _ c.if-d-eq-UP.true) c.scan_boundary.ensures
 
 pub returns-then-dual-eq0 : goal.returns-then-dual-eq0
@@ -29,7 +29,7 @@ unfolding within_in
 scan_boundary-requires-2 c = let p = c.requires in (p.0, p.1, p.2, p.3, omega (arith, c.shrink_limit-y.ensures.1))
 
 pub returns : goal.returns
-unfolding scan scan_of
+unfolding scan scan_by
 returns c =
     let l = c.shrink_limit-y in
     let y = c.dual in

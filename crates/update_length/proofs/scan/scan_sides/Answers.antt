@@ -4,6 +4,7 @@ use native.Mathlib.Omega.{arith}
 use Prim.Native.Nat.{◌+◌}
 use mathlib.Core.Path.{ap, sym, ◌≡◌, ◌∙◌}
 use Rattle.graph.specs.Word.{to_nat, word_at}
+use Rattle.answers.specs.Outcome.{length_told}
 use Rattle.graph.specs.Layout.{state_of}
 use Rattle.graph.specs.laws.Number.{word_below}
 use Rattle.update_length.specs.laws.Scanning.{scan-none, scan-more, scan-met}
@@ -29,10 +30,10 @@ returns-then-is_over c =
     let a = c.args in
     let q = c.loop-word in
     scan-met (state_of a.b.now) a.n a.d a.start a.boundary.now (q.word-index + 1)
-    (sym c.is_over.ensures ∙ c.if-is_over.true)
+    (sym (c.is_over.ensures length_told) ∙ c.if-is_over.true)
     (scan-more (state_of a.b.now) a.n a.d a.start a.boundary.now q.word-index _
     (omega arith) (c.to_nat-s.ensures.0 ∙ unfold word_at in ap to_nat (search rules)) q.invariant
-    c.look_side-l.ensures c.join-r.ensures)
+    c.look_side-l.ensures (c.join-r.ensures length_told))
 
 pub loop-word-preserved : goal.loop-word-preserved
 loop-word-preserved c =
@@ -40,5 +41,5 @@ loop-word-preserved c =
     let q = c.loop-word in (
     scan-more (state_of a.b.now) a.n a.d a.start a.boundary.now q.word-index _
     (omega arith) (c.to_nat-s.ensures.0 ∙ unfold word_at in ap to_nat (search rules)) q.invariant
-    c.look_side-l.ensures c.join-r.ensures
+    c.look_side-l.ensures (c.join-r.ensures length_told)
     )
